@@ -9,6 +9,7 @@ use Rattle.df_theory.specs.Tails.{In}
 use Rattle.df_theory.specs.Units.{Header, HeaderPlace, HeaderUnit, Message}
 use Rattle.df_theory.specs.View.{View}
 use Rattle.df_units.specs.Bytes.{unit_at}
+use Rattle.df_model.specs.Views.{KeepsCheckpoint, KeepsView}
 use Rattle.df_recovery.specs.Surveys.{IsOpened}
 use Rattle.df_recovery.specs.Below.{DataFile, State, shape}
 use Rattle.df_damage.specs.Disks.{IsAtRest, MayBeHurt}
@@ -24,7 +25,7 @@ FoundWasHad = (file : DataFile) (view : View) (t : Told) (s : State) → MayBeHu
 pub record OpensAsLeft (file : DataFile) (view : View) (t : Told) : Type 0 where
   pub found : IsFound (shape file) (unit_at file.layout file.cluster t.shown) view
   pub opens : IsNotRefused file t.shown
-  pub finds : (s : State) → (is : IsOpened file.layout t.shown s) → (s.file ≡ file) × (is.view ≡ view)
+  pub finds : (s : State) → (is : IsOpened file.layout t.shown s) → (s.file ≡ file) × KeepsView view is.view
 
 -- a file at rest of which at most two superblock copies are hurt, and nothing else, is opened as it was left
 abbrev pub TwoCopiesAreEnough : Type 0
@@ -37,7 +38,7 @@ HeadersMayBeHurt = (file : DataFile) (view : View) (t : Told) → MayBeHurt file
 -- at rest, with at most two copies and any other sectors hurt, a state that is found has the file's checkpoint
 abbrev pub CheckpointStays : Type 0
 CheckpointStays =
-    (file : DataFile) (view : View) (t : Told) (s : State) → MayBeHurt file view t → IsAtRest file t.log → HasTwoCopies t → (is : IsOpened file.layout t.shown s) → is.view.checkpoint ≡ view.checkpoint
+    (file : DataFile) (view : View) (t : Told) (s : State) → MayBeHurt file view t → IsAtRest file t.log → HasTwoCopies t → (is : IsOpened file.layout t.shown s) → KeepsCheckpoint view is.view
 
 -- the tail has the prepare of each header of the ring whose op is above the checkpoint
 abbrev pub HasEachHeader : DataFile → Told → View → Type 0
@@ -48,7 +49,7 @@ HasEachHeader file t found =
 abbrev pub HeadersTell : Type 0
 HeadersTell =
     (file : DataFile) (view : View) (t : Told) (s : State) → MayBeHurt file view t → IsUnhurtZone file.layout t WalHeaders → (is : IsOpened file.layout t.shown s)
-    → HasEachHeader file t is.view × (IsUnhurtZone file.layout t Superblock → is.view.checkpoint ≡ view.checkpoint)
+    → HasEachHeader file t is.view × (IsUnhurtZone file.layout t Superblock → KeepsCheckpoint view is.view)
 
 -- where the log leaves nothing to mend, too, as behind each finished session, a state that is found has every prepare of the tail
 abbrev pub WholeTailIsFound : Type 0

@@ -7,7 +7,7 @@ use Rattle.df_theory.specs.Tails.{In}
 use Rattle.df_theory.specs.Units.{Message, Parts}
 use Rattle.df_theory.proofs.Laws.{tracks, stored_at}
 use Rattle.df_model.specs.After.{after_running, after_step_of, outcome, with_prepare, with_reply}
-use Rattle.df_model.specs.Commands.{Advance, Append, Command, Given, Reply, ToAdvance, ToAppend, ToReply, after, as_answer}
+use Rattle.df_model.specs.Commands.{Advance, Append, Command, Given, Reply, ToAdvance, ToAppend, ToReply, after, as_answer, supplied_sum}
 use Rattle.df_model.specs.Making.{place_of_reply, prepare_of, reply_of}
 use Rattle.df_model.specs.Memory.{memory_of}
 use Rattle.df_model.specs.Refusals.{append_refusals, first_refusal, reply_refusals}
@@ -69,7 +69,7 @@ module _ (sh : Shape) (spell : Parts → List ℕ) (w : Work) where
   advance_there sum (Some r) = step_there sum (Some r) r.left r
 
   pub just_there : (given : Given) (command : Command) → IsWork sh spell w → let done = after sh spell w given command in IsThere (kept done.0) command done.1
-  just_there given (Append client request body) work = append_there given.checksum client request body (first_refusal (append_refusals (memory_of sh spell w) client request body))
-  just_there given (Reply op body) work = reply_there given.checksum op body (first_refusal (reply_refusals (memory_of sh spell w) op body)) refl work
-  just_there given Advance work = advance_there given.checksum w.running
+  just_there given (Append client request body) work = append_there (supplied_sum given) client request body (first_refusal (append_refusals (memory_of sh spell w) client request body))
+  just_there given (Reply op body) work = reply_there (supplied_sum given) op body (first_refusal (reply_refusals (memory_of sh spell w) op body)) refl work
+  just_there given Advance work = advance_there (supplied_sum given) w.running
   just_there given command work = tt

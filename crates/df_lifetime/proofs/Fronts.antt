@@ -25,6 +25,7 @@ use Rattle.df_replica.proofs.Laws.{added_is_told}
 use Rattle.df_session.specs.Below.{AgreeShown, codec}
 use Rattle.df_model.specs.Commands.{Command}
 use Rattle.df_script_model.specs.Script.{answer_text, printed}
+use Rattle.df_session.specs.Found.{FoundFile}
 use Rattle.df_session.specs.Links.{events_made}
 use Rattle.df_top.specs.Acknowledging.{script_calls}
 use Rattle.df_top.specs.Lines.{Turned, all_text, command_of, printed as prints, said_in}
@@ -107,11 +108,14 @@ front_on xs ys zs (a, one) (b, two) = (a ++ b, two ∙ ap (λ (l : List ℕ). l 
 -- ---- a session
 
 module _ (layout : Layout) (t : Told) (old new : Outside) (status : Status) (s : Scripted layout t old new status) where
-  abbrev serves : ServesScript layout t old new status
+  abbrev opening : FoundFile layout t
+  opening = s.opening
+
+  abbrev serves : ServesScript layout t opening old new status
   serves = s.serves
 
   abbrev file : DataFile
-  file = serves.replica.file
+  file = opening.replica.file
 
   abbrev turns : List Turned
   turns = serves.session.turns
@@ -128,9 +132,9 @@ module _ (layout : Layout) (t : Told) (old new : Outside) (status : Status) (s :
   -- the disk tells what it shows up to the end
   untold : new.told ≡ None → ⊥
   untold none =
-      let mended = serves.mending.told ∙ added_is_told serves.mending.events (did Sync t) in
-      let told = serves.adds ∙ ap (after_all (events_made (script_calls serves.session))) mended ∙ added_is_told (events_made (script_calls serves.session)) (told_after serves.mending.events (did Sync t)) in
-      let no : None ≡ Some (told_after (events_made (script_calls serves.session)) (told_after serves.mending.events (did Sync t))) = sym none ∙ told in
+      let mended = opening.mending.told ∙ added_is_told opening.mending.events (did Sync t) in
+      let told = serves.adds ∙ ap (after_all (events_made (script_calls serves.session))) mended ∙ added_is_told (events_made (script_calls serves.session)) (told_after opening.mending.events (did Sync t)) in
+      let no : None ≡ Some (told_after (events_made (script_calls serves.session)) (told_after opening.mending.events (did Sync t))) = sym none ∙ told in
       cc
 
   -- the lines that were executed print a front of the text
@@ -152,7 +156,7 @@ module _ (layout : Layout) (t : Told) (old new : Outside) (status : Status) (s :
     Writes = AppendsPart old.written new.written (whole_text s)
 
     abbrev Ends : Option Failing → Bool → Status → Type 0
-    Ends failing cut how = EndsWith 0 (start serves.mended old serves.replica).outside new turns (act_of failing) cut how
+    Ends failing cut how = EndsWith 0 (start opening.mended old opening.replica).outside new turns (act_of failing) cut how
 
     all_written : (cut : Bool) → IsFront (prints 0 turns cut) (whole_text s) → Appends old.written new.written (prints 0 turns cut) → Writes
     all_written cut front wrote = part_is_front old.written new.written (prints 0 turns cut) (whole_text s) (all_is_part old.written new.written (prints 0 turns cut) wrote) front
@@ -192,7 +196,7 @@ module _ (layout : Layout) (t : Told) (old new : Outside) (status : Status) (s :
   all_is_front =
       let ended = serves.session.text s.text s.left in
       written ended.0 ended.1 serves.session.failing serves.session.cut ended.2 ended.3.refused
-      (subst (λ (o : Outside). EndsWith 0 (start serves.mended old serves.replica).outside o turns (act_of serves.session.failing) serves.session.cut status) serves.last_is serves.session.written)
+      (subst (λ (o : Outside). EndsWith 0 (start opening.mended old opening.replica).outside o turns (act_of serves.session.failing) serves.session.cut status) serves.last_is serves.session.written)
 
 pub front_is_written : FrontIsWritten
 front_is_written layout t old new status s = all_is_front layout t old new status s

@@ -1,14 +1,9 @@
 -- The log of a life begins where the making did, whatever happened since: so a life that began with the empty disk may be hurt.
-use Rattle.std.proofs.Common.{◌≡◌, ℕ, List, [], ◌++◌, refl, ◌∙◌, sym, ap}
-use Rattle.df_base.specs.Image.{Image, IsImage, blank}
-use Rattle.df_base.specs.Log.{Sync, add, now}
+use Rattle.std.proofs.Common.{◌≡◌, List, ◌∙◌, sym, ap}
 use Rattle.df_disk.specs.Told.{Told}
-use Rattle.df_theory.specs.Device.{NoChanceOf}
-use Rattle.df_theory.specs.View.{View}
-use Rattle.df_replica.specs.Below.{DataFile, MayBeHurt}
-use Rattle.df_replica.specs.Serving.{format}
+use Rattle.df_replica.specs.Below.{DataFile}
 use Rattle.df_lifetime.specs.Hurt.{LifeMayBeHurt, began_with}
-use Rattle.df_lifetime.specs.Life.{Chapter, Life, MayBeOpened, MayHave}
+use Rattle.df_lifetime.specs.Life.{Chapter, Life, MayBeOpened}
 use Rattle.df_lifetime.specs.Life.Life.{Begun, Ended, Formatted, Made, Ran, Stopped}
 use Rattle.df_lifetime.proofs.Lives.{every_life_goes_on, every_life_is_in_order, formatted_same, word_comes}
 use Rattle.df_lifetime.proofs.Orders.{made_grew}

@@ -25,6 +25,8 @@ use Rattle.df_replica.specs.HeldBlocks.{AreInputs}
 use Rattle.df_replica.specs.Serving.{Firm, Grade, StandsFor, Whole, format}
 use Rattle.df_replica.specs.Session.{Act, HasView, HoldsFor, IsMidway, answers_of, work_after}
 use Rattle.df_replica.proofs.Laws.{added_is_told, begun_may_open, same_goes_on, safe_is_not_refused, stopped_may_open}
+use Rattle.df_session.specs.Found.{FoundFile}
+use Rattle.df_session.specs.Laws.{CallsKeep}
 use Rattle.df_session.specs.Links.{CallsMade, events_made, list_of}
 use Rattle.df_session.specs.Acknowledging.{IsUntil, KeepsAnswered}
 use Rattle.df_top.specs.Acknowledging.{run_calls, script_calls}
@@ -167,24 +169,24 @@ module _ (file : DataFile) (g : Grade) (view : View) (t base : Told) (same : bas
 
 -- ---- the laws
 
+-- calls on what was found, by what they keep
+calls_keep_on : (g : Grade) (file : DataFile) (view : View) (t base : Told) (found : FoundFile file.layout t) (c : CallsMade) → CallsKeep t found.replica found.mended found.mending c → c.old ≡ found.mended → c.new ≡ after_all (events_made c) c.old → base.shown ≡ t.shown
+    → MayOpen file view base → StandsFor g (unit_at file.layout file.cluster t.shown) view → KeepsOn file g (start_of file t.shown view) base found.mending.events c
+calls_keep_on g file view t base found c calls from adds same may stands =
+    let one : found.replica.file ≡ file = one_file file file.layout t.shown view found.replica refl (found_shown file g view t base same may) found.is_opened in
+    keeps_on file g view t base same may found.mending.events c (subst (λ (f : DataFile). KeepsOver f t c.acts c.answers c.failed found.mending.events (events_made c)) one calls.keeps g view base same may stands)
+    (subst (λ (f : DataFile). AnsweredOver f t found.mending.events c) one calls.acknowledged g view base same may stands) (from ∙ found.mending.told) adds
+
 pub scripts_keep_on : ScriptsKeepOn
-scripts_keep_on g file view t base old new status serves same may stands =
-    let c : CallsMade = script_calls serves.session in
-    let one : serves.replica.file ≡ file = one_file file file.layout t.shown view serves.replica refl (found_shown file g view t base same may) serves.is_opened in
-    keeps_on file g view t base same may serves.mending.events c (subst (λ (f : DataFile). KeepsOver f t c.acts c.answers c.failed serves.mending.events (events_made c)) one serves.calls.keeps g view base same may stands)
-    (subst (λ (f : DataFile). AnsweredOver f t serves.mending.events c) one serves.calls.acknowledged g view base same may stands) serves.mending.told (ap (λ (o : Outside). o.told) serves.last_is ∙ serves.adds)
+scripts_keep_on g file view t base old new status found serves same may stands = calls_keep_on g file view t base found (script_calls serves.session) serves.calls refl (ap (λ (o : Outside). o.told) serves.last_is ∙ serves.adds) same may stands
 
 pub runs_keep_on : RunsKeepOn
-runs_keep_on g file view t base old new status seed count works same may stands =
-    let c : CallsMade = run_calls works.worked in
-    let one : works.replica.file ≡ file = one_file file file.layout t.shown view works.replica refl (found_shown file g view t base same may) works.is_opened in
-    keeps_on file g view t base same may works.mending.events c (subst (λ (f : DataFile). KeepsOver f t c.acts c.answers c.failed works.mending.events (events_made c)) one works.calls.keeps g view base same may stands)
-    (subst (λ (f : DataFile). AnsweredOver f t works.mending.events c) one works.calls.acknowledged g view base same may stands) works.mending.told works.calls.adds
+runs_keep_on g file view t base old new status seed count found works same may stands = calls_keep_on g file view t base found (run_calls works.worked) works.calls refl works.calls.adds same may stands
 
 pub hurt_scripts_keep : HurtScriptsKeep
-hurt_scripts_keep g file view t old new status serves had same stands =
-    scripts_keep_on g file had.found t (begun t) old new status serves refl (begun_may_open file had.found t (had.begins same)) stands
+hurt_scripts_keep g file view t old new status found serves had same stands =
+    scripts_keep_on g file had.found t (begun t) old new status found serves refl (begun_may_open file had.found t (had.begins same)) stands
 
 pub hurt_runs_keep : HurtRunsKeep
-hurt_runs_keep g file view t old new status seed count works had same stands =
-    runs_keep_on g file had.found t (begun t) old new status seed count works refl (begun_may_open file had.found t (had.begins same)) stands
+hurt_runs_keep g file view t old new status seed count found works had same stands =
+    runs_keep_on g file had.found t (begun t) old new status seed count found works refl (begun_may_open file had.found t (had.begins same)) stands

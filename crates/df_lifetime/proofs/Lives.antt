@@ -30,20 +30,21 @@ use Rattle.df_replica.specs.Opened.{Mends, MendsPartly, StopsOpening}
 use Rattle.df_replica.specs.Serving.{Grade, IsGoodFor, StandsFor, Whole, format}
 use Rattle.df_replica.specs.Session.{Act, HasView, IsMidway, work_after}
 use Rattle.df_replica.proofs.Laws.{added_is_told, good_left, good_safe, safe_is_not_refused}
+use Rattle.df_session.specs.Found.{FoundFile, no_calls}
+use Rattle.df_session.specs.Laws.{CallsKeep}
 use Rattle.df_session.specs.Links.{CallsMade, events_made, list_of}
 use Rattle.df_session.specs.Acknowledging.{IsUntil, KeepsAnswered}
 use Rattle.df_top.specs.Acknowledging.{run_calls, script_calls}
 use Rattle.df_top.specs.Formats.{Formats}
 use Rattle.df_session.specs.Keeping.{KeepsFile, LeavesAll, over}
-use Rattle.df_top.specs.Opening.{RefusesFile}
+use Rattle.df_top.specs.Opening.{RefusesFile, StopsBefore}
 use Rattle.df_top.specs.Outside.{Outside}
-use Rattle.df_top.specs.Run.{Does, ServesScript}
-use Rattle.df_top.specs.Working.{WorksThrough}
+use Rattle.df_top.specs.Run.{ComesTo, Does, Works}
 use Rattle.df_top.specs.declared.mode.Mode.{Mode}
 use Rattle.df_top.specs.declared.mode.Mode.TheVariants.{Format, Run, Recover, Inspect, Scrub, Workload}
 use Rattle.df_top.specs.declared.status.Status.{Status}
 use Rattle.df_top.specs.declared.status.Status.TheVariants.{Done, Found, Words, Script, Refused, DiskFault, ReadFault, WriteFault, Memory}
-use Rattle.df_lifetime.specs.Life.{Chapter, EveryLifeGoesOn, EveryLifeIsInOrder, FormatWord, HaveAnswers, IsInOrder, MayHave, Outcome, ToAMoment, ToItsEnd, Word, calls_in, calls_made, calls_of, chapter_of, chapters_of, outcome_of, sessions_in, start_of}
+use Rattle.df_lifetime.specs.Life.{Chapter, EveryLifeGoesOn, EveryLifeIsInOrder, FormatWord, HaveAnswers, IsInOrder, MayHave, Outcome, ToAMoment, ToItsEnd, Word, calls_in, calls_made, calls_of, calls_to, chapter_of, chapters_of, outcome_of, sessions_in, start_of, word_calls}
 use Rattle.df_lifetime.specs.Life.Life.{Begun, Ended, Formatted, Made, Ran, Stopped}
 use Rattle.df_lifetime.proofs.Bases.{AnsweredOver, KeepsOver, told_over}
 use Rattle.df_lifetime.proofs.Acts.{HasFront, ends_inputs, first_answers, front_and_rest, has_front, work_on}
@@ -295,33 +296,36 @@ module _ (file : DataFile) (chapters : List Chapter) (t : Told) (is : IsInOrder 
         let inputs : AreInputs (c.acts ++ list_of c.failed) = ends_inputs c.from c.to c.old c.new c.acts c.answers c.failed c.calls in
         served_comes c n whole inputs (answered_as replica c mending.events (sym (told_over mending.events [] t c.old c.old mending.told refl)) one acknowledged) (sym adds ∙ to)
 
-    script_comes : (serves : ServesScript layout t old new status) → Comes file chapters (Some (script_calls serves.session)) t n
-    script_comes serves = calls_come serves.replica (script_calls serves.session) serves.mending serves.is_opened serves.adds serves.calls.keeps serves.calls.acknowledged
+    -- no call was made on what was found
+    idles : (found : FoundFile layout t) → new.told ≡ found.mended → CallsKeep t found.replica found.mended found.mending (no_calls found) → Comes file chapters None t n
+    idles found told calls =
+        idle_comes n
+        (keeps_as found.replica [] [] None found.mending.events [] n (sym (told_over found.mending.events [] t found.mended found.mended found.mending.told refl) ∙ sym told ∙ to) (one_opened layout found.replica found.is_opened) calls.keeps)
 
-    works_comes : (seed count : ℕ) (works : WorksThrough seed count layout t old new status) → Comes file chapters (Some (run_calls works.worked)) t n
-    works_comes seed count works = calls_come works.replica (run_calls works.worked) works.mending works.is_opened works.calls.adds works.calls.keeps works.calls.acknowledged
+    works_come : (mode : Mode) (found : FoundFile layout t) (works : Works mode layout t found old new status) → Comes file chapters (word_calls mode layout t found old new status works) t n
+    works_come (Format shape cluster) found works = absurd works
+    works_come Run found serves = calls_come found.replica (script_calls serves.session) found.mending found.is_opened serves.adds serves.calls.keeps serves.calls.acknowledged
+    works_come Recover found recovers = idles found recovers.told recovers.calls
+    works_come Inspect found inspects = sync_comes n (one_told new.told (did Sync t) n inspects.barrier to)
+    works_come Scrub found scrubs = idles found (scrubs.told ∙ sym scrubs.is_mended) scrubs.calls
+    works_come (Workload seed count) found works = calls_come found.replica (run_calls works.worked) found.mending found.is_opened works.calls.adds works.calls.keeps works.calls.acknowledged
+
+    -- the disk failed before that
+    before_comes : (mode : Mode) → StopsBefore mode layout t new.told → Comes file chapters None t n
+    before_comes (Format shape cluster) stops = stops_comes layout new.told n to stops
+    before_comes Run stops = stops_comes layout new.told n to stops
+    before_comes Recover stops = stops_comes layout new.told n to stops
+    before_comes Inspect stops = part_comes new.told n to stops
+    before_comes Scrub stops = stops_comes layout new.told n to stops
+    before_comes (Workload seed count) stops = stops_comes layout new.told n to stops
+
+    comes_so : (mode : Mode) (comes : ComesTo mode layout t old new status) → Comes file chapters (calls_to mode layout t old new status comes) t n
+    comes_so mode (inl refuses) = refused_comes layout old new status n to refuses
+    comes_so mode (inr (inl fails)) = before_comes mode fails.disk
+    comes_so mode (inr (inr works)) = works_come mode works.0 works.1
 
     does_comes : (mode : Mode) (does : Does mode layout t old new status) → Comes file chapters (calls_of mode layout t old new status does) t n
-    does_comes (Format shape cluster) does = absurd does
-    does_comes Run (inl refuses) = refused_comes layout old new status n to refuses
-    does_comes Run (inr (inl fails)) = stops_comes layout new.told n to fails.disk
-    does_comes Run (inr (inr serves)) = script_comes serves
-    does_comes Recover (inl refuses) = refused_comes layout old new status n to refuses
-    does_comes Recover (inr (inl fails)) = stops_comes layout new.told n to fails.disk
-    does_comes Recover (inr (inr recovers)) =
-        idle_comes n
-        (keeps_as recovers.replica [] [] None recovers.mending.events [] n (sym (told_over recovers.mending.events [] t new.told new.told recovers.mending.told refl) ∙ to) (one_opened layout recovers.replica recovers.is_opened) recovers.keeps)
-    does_comes Inspect (inl refuses) = refused_comes layout old new status n to refuses
-    does_comes Inspect (inr (inl fails)) = part_comes new.told n to fails.disk
-    does_comes Inspect (inr (inr inspects)) = sync_comes n (one_told new.told (did Sync t) n inspects.barrier to)
-    does_comes Scrub (inl refuses) = refused_comes layout old new status n to refuses
-    does_comes Scrub (inr (inl fails)) = stops_comes layout new.told n to fails.disk
-    does_comes Scrub (inr (inr scrubs)) =
-        idle_comes n
-        (keeps_as scrubs.replica [] [] None scrubs.mending.events [] n (sym (told_over scrubs.mending.events [] t new.told new.told scrubs.mending.told refl) ∙ to) (one_opened layout scrubs.replica scrubs.is_opened) scrubs.keeps)
-    does_comes (Workload seed count) (inl refuses) = refused_comes layout old new status n to refuses
-    does_comes (Workload seed count) (inr (inl fails)) = stops_comes layout new.told n to fails.disk
-    does_comes (Workload seed count) (inr (inr works)) = works_comes seed count works
+    does_comes mode does = comes_so mode does.1
 
   outcome_comes : (mode : Mode) (old new : Outside) (status : Status) (n : Told) → old.told ≡ Some t → new.told ≡ Some n → (outcome : Outcome mode t old new status)
       → Comes file chapters (calls_in mode t old new status outcome) t n

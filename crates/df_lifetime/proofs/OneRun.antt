@@ -13,7 +13,7 @@ use Rattle.df_theory.specs.View.{View}
 use Rattle.df_units.specs.Bytes.{unit_at}
 use Rattle.df_model.specs.After.{after_running, after_step_of, outcome, to_check, with_prepare, with_reply}
 use Rattle.df_model.specs.Changing.{appended_in, begun_in, checked_in, course_on, memory_after, replied_in, step_in, unless_refused}
-use Rattle.df_model.specs.Commands.{Advance, Answer, Append, Begin, Command, Given, ReadBlock, ReadPrepare, ReadReply, Recent, Release, Reply, Scrub, ToAdvance, ToAppend, ToReply, WriteBlock, after}
+use Rattle.df_model.specs.Commands.{Advance, Answer, Append, Begin, Command, Given, ReadBlock, ReadPrepare, ReadReply, Recent, Release, Reply, Scrub, ToAdvance, ToAppend, ToReply, WriteBlock, after, supplied_sum, supplied_verdict}
 use Rattle.df_model.specs.Making.{needed_of, place_of_reply, prepare_of, reply_of}
 use Rattle.df_model.specs.Memory.{Course, Memory, course, course_of, memory_of}
 use Rattle.df_model.specs.Refusals.{append_refusals, begin_refusals, first_refusal, reply_refusals}
@@ -37,6 +37,7 @@ use Rattle.df_workload.specs.Following.{Follows}
 use Rattle.df_workload.specs.Hearing.{heard}
 use Rattle.df_workload.specs.Rounds.{start}
 use Rattle.df_workload.specs.declared.state.State.{State as Run}
+use Rattle.df_session.specs.Found.{FoundFile}
 use Rattle.df_session.specs.Links.{AreCalls, EndsCalls, command_in}
 use Rattle.df_top.specs.Outside.{Outside}
 use Rattle.df_top.specs.Working.{WorksThrough}
@@ -44,7 +45,7 @@ use Rattle.df_top.specs.Works.{Writes, asked_by, workload_of}
 use Rattle.df_top.specs.declared.status.Status.{Status}
 use Rattle.df_top.specs.declared.status.Status.TheVariants.{Done, Script, Words, Refused, Memory as NoMemory, DiskFault, ReadFault, WriteFault, Found}
 use Rattle.df_top.proofs.Laws.{agree_self, found_here}
-use Rattle.df_lifetime.specs.Printed.{HasEnded, PrintsOne, Twice, WorkloadHasOneText}
+use Rattle.df_lifetime.specs.Printed.{HasEnded, OnFile, PrintsOne, Twice, WorkloadHasOneText}
 use Rattle.df_lifetime.proofs.Alike.{agree_there, file_alike, memory_alike, units_alike, view_alike}
 
 -- ---- one way
@@ -114,11 +115,11 @@ module _ (sh : Shape) (spell : Parts → List ℕ) (w : Work) (given : Given) wh
   abbrev m : Memory
   m = memory_of sh spell w
 
-  left_counts : (r : Running) (l : List ℕ) → numbers_in (course_on m given.checksum (course spell r) l) ≡ after_answer (ToAdvance (after_running sh spell w given.checksum r l).1) (numbers_in m)
+  left_counts : (r : Running) (l : List ℕ) → numbers_in (course_on m (supplied_sum given) (course spell r) l) ≡ after_answer (ToAdvance (after_running sh spell w (supplied_sum given) r l).1) (numbers_in m)
   left_counts r [] = refl
   left_counts r (a ∷ more) = refl
 
-  step_counts : (o : Option Running) → numbers_in (step_in m given.checksum (course_of spell o)) ≡ after_answer (ToAdvance (after_step_of sh spell w given.checksum o).1) (numbers_in m)
+  step_counts : (o : Option Running) → numbers_in (step_in m (supplied_sum given) (course_of spell o)) ≡ after_answer (ToAdvance (after_step_of sh spell w (supplied_sum given) o).1) (numbers_in m)
   step_counts None = refl
   step_counts (Some r) = left_counts r r.left
 
@@ -129,9 +130,9 @@ module _ (sh : Shape) (spell : Parts → List ℕ) (w : Work) (given : Given) wh
 
   pub counted_one : (c : Command) → numbers_in (memory_after spell m given c) ≡ after_answer (after sh spell w given c).1 (numbers_in m)
   counted_one (Append client request body) =
-      let p = prepare_of m given.checksum client request body in
-      append_counts (first_refusal (append_refusals m client request body)) w (with_prepare w p) m p (p.header.op, given.checksum)
-  counted_one (Reply op body) = reply_counts (first_refusal (reply_refusals m op body)) w (with_reply w (place_of_reply m) (reply_of m given.checksum body)) m given.checksum
+      let p = prepare_of m (supplied_sum given) client request body in
+      append_counts (first_refusal (append_refusals m client request body)) w (with_prepare w p) m p (p.header.op, supplied_sum given)
+  counted_one (Reply op body) = reply_counts (first_refusal (reply_refusals m op body)) w (with_reply w (place_of_reply m) (reply_of m (supplied_sum given) body)) m (supplied_sum given)
   counted_one (WriteBlock kind body) = refl
   counted_one (Release address) = refl
   counted_one (Begin root) = begin_counts (first_refusal (begin_refusals m (needed_of spell m root) root)) m (Some (begun_in spell m root))
@@ -139,7 +140,7 @@ module _ (sh : Shape) (spell : Parts → List ℕ) (w : Work) (given : Given) wh
   counted_one (ReadPrepare op) = refl
   counted_one (ReadReply client) = refl
   counted_one (ReadBlock address) = refl
-  counted_one Scrub = check_counts given.verdict (to_check m)
+  counted_one Scrub = check_counts (supplied_verdict given) (to_check m)
   counted_one Recent = refl
 
 -- behind calls they are what the answers make of them
@@ -173,82 +174,88 @@ run_ended run t told failed old new DiskFault ended wrote = absurd ended
 run_ended run t told failed old new ReadFault ended wrote = absurd ended
 run_ended run t told failed old new WriteFault ended wrote = absurd ended
 
-module _ (seed count : ℕ) (layout : Layout) (t : Told) (old new : Outside) (status : Status) (works : WorksThrough seed count layout t old new status) (whole : IsImage t.shown) (ended : HasEnded status) where
+module _ (seed count : ℕ) (layout : Layout) (t : Told) (old new : Outside) (status : Status) (opening : FoundFile layout t) (works : WorksThrough seed count layout t opening old new status) (whole : IsImage t.shown) (ended : HasEnded status) where
   pub by_end : (works.worked.failed ≡ None) × (status ≡ Done) × Appends old.written new.written (workload_text (workload_of works.run works.last))
   by_end = run_ended works.run works.last new.told works.worked.failed old.written new.written status ended works.written
 
   pub asks_none : asks works.run ≡ None
   asks_none = works.worked.asked ∙ ap asked_by by_end.0
 
-  found : IsFound (shape works.replica.file) (unit_at works.replica.file.layout works.replica.file.cluster t.shown) works.is_opened.view
-  found = found_here layout t.shown works.replica works.is_opened
+  found : IsFound (shape opening.replica.file) (unit_at opening.replica.file.layout opening.replica.file.cluster t.shown) opening.is_opened.view
+  found = found_here layout t.shown opening.replica opening.is_opened
 
-  pub opened_here : IsOpened works.replica.file.layout t.shown works.replica
-  opened_here = subst (λ (l : Layout). IsOpened l t.shown works.replica) (sym works.is_opened.of) works.is_opened
+  pub opened_here : IsOpened opening.replica.file.layout t.shown opening.replica
+  opened_here = subst (λ (l : Layout). IsOpened l t.shown opening.replica) (sym opening.is_opened.of) opening.is_opened
 
-  pub last_numbers : numbers_in (memory works.last) ≡ after_answers works.worked.answers (numbers_in (memory works.replica))
+  pub last_numbers : numbers_in (memory works.last) ≡ after_answers works.worked.answers (numbers_in (memory opening.replica))
   last_numbers =
-      calls_count works.replica works.last works.mended new.told works.worked.acts works.worked.answers
-      (opened (shape works.replica.file) (unit_at works.replica.file.layout works.replica.file.cluster t.shown) works.is_opened.view)
-      (subst (λ (o : Option Act). EndsCalls works.replica works.last works.mended new.told works.worked.acts works.worked.answers o) by_end.0 works.worked.calls)
-      (found_keeps works.replica t.shown works.is_opened.view whole opened_here found)
+      calls_count opening.replica works.last opening.mended new.told works.worked.acts works.worked.answers
+      (opened (shape opening.replica.file) (unit_at opening.replica.file.layout opening.replica.file.cluster t.shown) opening.is_opened.view)
+      (subst (λ (o : Option Act). EndsCalls opening.replica works.last opening.mended new.told works.worked.acts works.worked.answers o) by_end.0 works.worked.calls)
+      (found_keeps opening.replica t.shown opening.is_opened.view whole opened_here found)
 
   -- its answers over what is shown
-  pub answers_over : (shown : Shown) → AgreeShown works.replica.file.layout (shown_of works.replica.file t.shown) shown
-      → works.worked.answers ≡ result (shape works.replica.file) (codec works.replica.file) shown (opened (shape works.replica.file) (unit_at works.replica.file.layout works.replica.file.cluster t.shown) works.is_opened.view) (map command_in works.worked.acts)
-  answers_over shown agree = works.calls.result works.is_opened.view shown found agree
+  pub answers_over : (shown : Shown) → AgreeShown opening.replica.file.layout (shown_of opening.replica.file t.shown) shown
+      → works.worked.answers ≡ result (shape opening.replica.file) (codec opening.replica.file) shown (opened (shape opening.replica.file) (unit_at opening.replica.file.layout opening.replica.file.cluster t.shown) opening.is_opened.view) (map command_in works.worked.acts)
+  answers_over shown agree = works.calls.result opening.is_opened.view shown found agree
 
 -- ---- two of them
 
-module _ (seed count : ℕ) (layout : Layout) (runs : Twice layout (WorksThrough seed count layout)) (whole : IsImage runs.one.told.shown) (entire : IsImage runs.other.told.shown) where
+module _ (seed count : ℕ) (layout : Layout) (runs : Twice layout (OnFile layout (WorksThrough seed count layout))) (whole : IsImage runs.one.told.shown) (entire : IsImage runs.other.told.shown) where
   abbrev a : Image
   a = runs.one.told.shown
 
   abbrev b : Image
   b = runs.other.told.shown
 
-  abbrev one : WorksThrough seed count layout runs.one.told runs.one.old runs.one.new runs.one.status
-  one = runs.one.does
+  abbrev here : FoundFile layout runs.one.told
+  here = runs.one.does.0
 
-  abbrev other : WorksThrough seed count layout runs.other.told runs.other.old runs.other.new runs.other.status
-  other = runs.other.does
+  abbrev there : FoundFile layout runs.other.told
+  there = runs.other.does.0
+
+  abbrev one : WorksThrough seed count layout runs.one.told here runs.one.old runs.one.new runs.one.status
+  one = runs.one.does.1
+
+  abbrev other : WorksThrough seed count layout runs.other.told there runs.other.old runs.other.new runs.other.status
+  other = runs.other.does.1
 
   abbrev s : Replica
-  s = one.replica
+  s = here.replica
 
   abbrev u : Replica
-  u = other.replica
+  u = there.replica
 
   -- what commands answer over the second image
   abbrev over : DataFile → (Place → Option AnyUnit) → View → List Command → List Answer
   over f image v cs = result (shape f) (codec f) (shown_of f b) (opened (shape f) image v) cs
 
-  over_alike : (cs : List Command) → over s.file (unit_at s.file.layout s.file.cluster a) one.is_opened.view cs ≡ over u.file (unit_at u.file.layout u.file.cluster b) other.is_opened.view cs
+  over_alike : (cs : List Command) → over s.file (unit_at s.file.layout s.file.cluster a) here.is_opened.view cs ≡ over u.file (unit_at u.file.layout u.file.cluster b) there.is_opened.view cs
   over_alike cs =
-      let there : unit_at s.file.layout s.file.cluster a ≡ unit_at s.file.layout s.file.cluster b =
-      subst (λ (l : Layout). unit_at l s.file.cluster a ≡ unit_at l s.file.cluster b) (sym one.is_opened.of) (units_alike layout a b runs.same s.file.cluster) in
-      ap (λ (image : Place → Option AnyUnit). over s.file image one.is_opened.view cs) there
-      ∙ ap (λ (v : View). over s.file (unit_at s.file.layout s.file.cluster b) v cs) (view_alike layout a b runs.same s u one.is_opened other.is_opened)
-      ∙ ap (λ (f : DataFile). over f (unit_at f.layout f.cluster b) other.is_opened.view cs) (file_alike layout a b runs.same s u one.is_opened other.is_opened)
+      let alike_there : unit_at s.file.layout s.file.cluster a ≡ unit_at s.file.layout s.file.cluster b =
+      subst (λ (l : Layout). unit_at l s.file.cluster a ≡ unit_at l s.file.cluster b) (sym here.is_opened.of) (units_alike layout a b runs.same s.file.cluster) in
+      ap (λ (image : Place → Option AnyUnit). over s.file image here.is_opened.view cs) alike_there
+      ∙ ap (λ (v : View). over s.file (unit_at s.file.layout s.file.cluster b) v cs) (view_alike layout a b runs.same s u here.is_opened there.is_opened)
+      ∙ ap (λ (f : DataFile). over f (unit_at f.layout f.cluster b) there.is_opened.view cs) (file_alike layout a b runs.same s u here.is_opened there.is_opened)
 
   alike : (one.run ≡ other.run) × (one.worked.answers ≡ other.worked.answers)
   alike =
-      let w : Work = opened (shape u.file) (unit_at u.file.layout u.file.cluster b) other.is_opened.view in
+      let w : Work = opened (shape u.file) (unit_at u.file.layout u.file.cluster b) there.is_opened.view in
       let first =
-      answers_over seed count layout runs.one.told runs.one.old runs.one.new runs.one.status one whole runs.ended.0 (shown_of s.file b) (agree_there layout a b runs.same s.file one.is_opened.of)
+      answers_over seed count layout runs.one.told runs.one.old runs.one.new runs.one.status here one whole runs.ended.0 (shown_of s.file b) (agree_there layout a b runs.same s.file here.is_opened.of)
       ∙ over_alike (map command_in one.worked.acts) in
       let second =
-      answers_over seed count layout runs.other.told runs.other.old runs.other.new runs.other.status other entire runs.ended.1 (shown_of u.file b) (agree_self u.file.layout (shown_of u.file b)) in
+      answers_over seed count layout runs.other.told runs.other.old runs.other.new runs.other.status there other entire runs.ended.1 (shown_of u.file b) (agree_self u.file.layout (shown_of u.file b)) in
       same_run (shape u.file) (codec u.file) (shown_of u.file b) w (start seed count layout.clients) one.run other.run (map command_in one.worked.acts) (map command_in other.worked.acts) one.worked.answers other.worked.answers one.worked.follows
-      other.worked.follows (asks_none seed count layout runs.one.told runs.one.old runs.one.new runs.one.status one whole runs.ended.0) (asks_none seed count layout runs.other.told runs.other.old runs.other.new runs.other.status other entire runs.ended.1)
+      other.worked.follows (asks_none seed count layout runs.one.told runs.one.old runs.one.new runs.one.status here one whole runs.ended.0) (asks_none seed count layout runs.other.told runs.other.old runs.other.new runs.other.status there other entire runs.ended.1)
       first second
 
   numbers_alike : numbers_in (memory one.last) ≡ numbers_in (memory other.last)
   numbers_alike =
-      last_numbers seed count layout runs.one.told runs.one.old runs.one.new runs.one.status one whole runs.ended.0
-      ∙ ap (λ (m : Memory). after_answers one.worked.answers (numbers_in m)) (memory_alike layout a b runs.same s u one.is_opened other.is_opened)
+      last_numbers seed count layout runs.one.told runs.one.old runs.one.new runs.one.status here one whole runs.ended.0
+      ∙ ap (λ (m : Memory). after_answers one.worked.answers (numbers_in m)) (memory_alike layout a b runs.same s u here.is_opened there.is_opened)
       ∙ ap (λ (xs : List Answer). after_answers xs (numbers_in (memory u))) alike.1
-      ∙ sym (last_numbers seed count layout runs.other.told runs.other.old runs.other.new runs.other.status other entire runs.ended.1)
+      ∙ sym (last_numbers seed count layout runs.other.told runs.other.old runs.other.new runs.other.status there other entire runs.ended.1)
 
   workload_alike : workload_of one.run one.last ≡ workload_of other.run other.last
   workload_alike = λ i. record {
@@ -266,8 +273,8 @@ module _ (seed count : ℕ) (layout : Layout) (runs : Twice layout (WorksThrough
 
   prints_one : PrintsOne runs.one runs.other
   prints_one =
-      let first = by_end seed count layout runs.one.told runs.one.old runs.one.new runs.one.status one whole runs.ended.0 in
-      let second = by_end seed count layout runs.other.told runs.other.old runs.other.new runs.other.status other entire runs.ended.1 in
+      let first = by_end seed count layout runs.one.told runs.one.old runs.one.new runs.one.status here one whole runs.ended.0 in
+      let second = by_end seed count layout runs.other.told runs.other.old runs.other.new runs.other.status there other entire runs.ended.1 in
       record {
         status = first.1 ∙ sym second.1;
         text = workload_text (workload_of other.run other.last);

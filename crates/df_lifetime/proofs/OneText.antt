@@ -7,13 +7,14 @@ use Rattle.df_inspect.specs.Reports.{summary_text}
 use Rattle.df_layout.specs.declared.layout.Layout.{Layout}
 use Rattle.df_replica.specs.Below.{IsOpened, State as Replica}
 use Rattle.df_replica.specs.Replica.{summary_of}
+use Rattle.df_session.specs.Found.{FoundFile}
 use Rattle.df_top.specs.OneText.{ShowSame}
 use Rattle.df_top.specs.Outside.{Outside, PrintsLine}
 use Rattle.df_top.specs.Reporting.{Recovers}
 use Rattle.df_top.specs.declared.status.Status.{Status}
 use Rattle.df_top.specs.declared.status.Status.TheVariants.{Done}
 use Rattle.df_top.proofs.Laws.{summary_same}
-use Rattle.df_lifetime.specs.Printed.{Carried, HasEnded, PrintsOne, RecoverHasOneText}
+use Rattle.df_lifetime.specs.Printed.{Carried, HasEnded, OnFile, PrintsOne, RecoverHasOneText}
 use Rattle.df_lifetime.proofs.Alike.{fields_alike, file_alike, memory_alike}
 
 -- ---- a text that is printed
@@ -38,7 +39,7 @@ summary_alike layout a b same s u one other = summary_same s u (file_alike layou
 
 pub recover_has_one_text : RecoverHasOneText
 recover_has_one_text layout runs =
-    let one : Recovers layout runs.one.told runs.one.old runs.one.new runs.one.status = runs.one.does in
-    let other : Recovers layout runs.other.told runs.other.old runs.other.new runs.other.status = runs.other.does in
-    same_prints (summary_text (summary_of one.replica)) (summary_text (summary_of other.replica)) Done Done (Recovers layout) runs.one runs.other
-    (ap summary_text (summary_alike layout runs.one.told.shown runs.other.told.shown runs.same one.replica other.replica one.is_opened other.is_opened)) refl runs.ended.0 runs.ended.1 one.prints other.prints
+    let first : FoundFile layout runs.one.told = runs.one.does.0 in
+    let second : FoundFile layout runs.other.told = runs.other.does.0 in
+    same_prints (summary_text (summary_of first.replica)) (summary_text (summary_of second.replica)) Done Done (OnFile layout (Recovers layout)) runs.one runs.other
+    (ap summary_text (summary_alike layout runs.one.told.shown runs.other.told.shown runs.same first.replica second.replica first.is_opened second.is_opened)) refl runs.ended.0 runs.ended.1 runs.one.does.1.prints runs.other.does.1.prints

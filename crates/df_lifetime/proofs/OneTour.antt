@@ -17,11 +17,12 @@ use Rattle.df_replica.specs.Leaving.{SparesReads}
 use Rattle.df_replica.specs.Reading.{shown_of}
 use Rattle.df_session.specs.Below.{AgreeShown}
 use Rattle.df_script_model.specs.Texts.{scrubbed_text}
+use Rattle.df_session.specs.Found.{FoundFile}
 use Rattle.df_top.specs.Outside.{PrintsLine}
 use Rattle.df_top.specs.Scrubs.{PrintsTour, ScrubsFile, failing_blocks, tour_report, tour_status}
 use Rattle.df_top.specs.declared.status.Status.{Status}
 use Rattle.df_top.proofs.Laws.{unit_spared}
-use Rattle.df_lifetime.specs.Printed.{HasEnded, PrintsOne, ScrubHasOneText, Twice}
+use Rattle.df_lifetime.specs.Printed.{HasEnded, OnFile, PrintsOne, ScrubHasOneText, Twice}
 use Rattle.df_lifetime.proofs.Alike.{agree_there, file_alike, memory_alike}
 use Rattle.df_lifetime.proofs.OneText.{same_prints}
 
@@ -54,37 +55,44 @@ tour_ended : (s : Replica) (image : Image) (old new : Option (List ℕ)) (status
 tour_ended s image old new status ended (inl prints) = prints
 tour_ended s image old new status ended (inr stops) = absurd (subst HasEnded stops.fault ended)
 
-module _ (layout : Layout) (runs : Twice layout (ScrubsFile layout)) (agree : AgreeShown layout (shown_of runs.one.does.replica.file runs.one.does.after.shown) (shown_of runs.one.does.replica.file runs.other.does.after.shown)) where
-  abbrev one : ScrubsFile layout runs.one.told runs.one.old runs.one.new runs.one.status
-  one = runs.one.does
+module _ (layout : Layout) (runs : Twice layout (OnFile layout (ScrubsFile layout)))
+    (agree : AgreeShown layout (shown_of runs.one.does.0.replica.file runs.one.does.1.after.shown) (shown_of runs.one.does.0.replica.file runs.other.does.1.after.shown)) where
+  abbrev here_found : FoundFile layout runs.one.told
+  here_found = runs.one.does.0
 
-  abbrev other : ScrubsFile layout runs.other.told runs.other.old runs.other.new runs.other.status
-  other = runs.other.does
+  abbrev there_found : FoundFile layout runs.other.told
+  there_found = runs.other.does.0
+
+  abbrev one : ScrubsFile layout runs.one.told here_found runs.one.old runs.one.new runs.one.status
+  one = runs.one.does.1
+
+  abbrev other : ScrubsFile layout runs.other.told there_found runs.other.old runs.other.new runs.other.status
+  other = runs.other.does.1
 
   abbrev s : Replica
-  s = one.replica
+  s = here_found.replica
 
   abbrev u : Replica
-  u = other.replica
+  u = there_found.replica
 
   known : memory s ≡ memory u
-  known = memory_alike layout runs.one.told.shown runs.other.told.shown runs.same s u one.is_opened other.is_opened
+  known = memory_alike layout runs.one.told.shown runs.other.told.shown runs.same s u here_found.is_opened there_found.is_opened
 
   here : AgreeShown s.file.layout (shown_of s.file one.after.shown) (shown_of s.file other.after.shown)
-  here = subst (λ (l : Layout). AgreeShown l (shown_of s.file one.after.shown) (shown_of s.file other.after.shown)) (sym one.is_opened.of) agree
+  here = subst (λ (l : Layout). AgreeShown l (shown_of s.file one.after.shown) (shown_of s.file other.after.shown)) (sym here_found.is_opened.of) agree
 
   listed : failing_blocks s one.after.shown ≡ failing_blocks u other.after.shown
   listed =
       failing_alike s.file.layout (shown_of s.file one.after.shown) (shown_of s.file other.after.shown) here (reference_in s.blocks) 1 s.file.layout.blocks (omega arith) (omega arith)
       ∙ ap (λ (m : Memory). failing_in (grid_with s.file m.blocks) other.after.shown) known
-      ∙ ap (λ (f : DataFile). failing_in (grid_with f u.blocks) other.after.shown) (file_alike layout runs.one.told.shown runs.other.told.shown runs.same s u one.is_opened other.is_opened)
+      ∙ ap (λ (f : DataFile). failing_in (grid_with f u.blocks) other.after.shown) (file_alike layout runs.one.told.shown runs.other.told.shown runs.same s u here_found.is_opened there_found.is_opened)
 
   report : tour_report s one.after.shown ≡ tour_report u other.after.shown
   report = λ i. failing_texts (listed i) ++ scrubbed_text (TourEnd (length (referenced_of (known i))) (length (listed i)))
 
   tours_print_one : PrintsOne runs.one runs.other
   tours_print_one =
-      same_prints (tour_report s one.after.shown) (tour_report u other.after.shown) (tour_status (length (failing_blocks s one.after.shown))) (tour_status (length (failing_blocks u other.after.shown))) (ScrubsFile layout) runs.one runs.other
+      same_prints (tour_report s one.after.shown) (tour_report u other.after.shown) (tour_status (length (failing_blocks s one.after.shown))) (tour_status (length (failing_blocks u other.after.shown))) (OnFile layout (ScrubsFile layout)) runs.one runs.other
       report (ap (λ (l : List Finding). tour_status (length l)) listed) runs.ended.0 runs.ended.1
       (tour_ended s one.after.shown runs.one.old.written runs.one.new.written runs.one.status runs.ended.0 one.prints)
       (tour_ended u other.after.shown runs.other.old.written runs.other.new.written runs.other.status runs.ended.1 other.prints)
@@ -104,11 +112,13 @@ spared_agree file a b before after one other agree = record {
 
 pub scrub_has_one_text : ScrubHasOneText
 scrub_has_one_text layout runs =
-    let one : ScrubsFile layout runs.one.told runs.one.old runs.one.new runs.one.status = runs.one.does in
-    let other : ScrubsFile layout runs.other.told runs.other.old runs.other.new runs.other.status = runs.other.does in
-    let s : Replica = one.replica in
-    let of : s.file.layout ≡ layout = one.is_opened.of in
-    let file : s.file ≡ other.replica.file = file_alike layout runs.one.told.shown runs.other.told.shown runs.same s other.replica one.is_opened other.is_opened in
-    let there : SparesReads s.file runs.other.told.shown other.after.shown = subst (λ (f : DataFile). SparesReads f runs.other.told.shown other.after.shown) (sym file) other.spares in
-    let agree = spared_agree s.file runs.one.told.shown runs.other.told.shown one.after.shown other.after.shown one.spares there (agree_there layout runs.one.told.shown runs.other.told.shown runs.same s.file of) in
+    let here : FoundFile layout runs.one.told = runs.one.does.0 in
+    let there : FoundFile layout runs.other.told = runs.other.does.0 in
+    let one : ScrubsFile layout runs.one.told here runs.one.old runs.one.new runs.one.status = runs.one.does.1 in
+    let other : ScrubsFile layout runs.other.told there runs.other.old runs.other.new runs.other.status = runs.other.does.1 in
+    let s : Replica = here.replica in
+    let of : s.file.layout ≡ layout = here.is_opened.of in
+    let file : s.file ≡ there.replica.file = file_alike layout runs.one.told.shown runs.other.told.shown runs.same s there.replica here.is_opened there.is_opened in
+    let spared : SparesReads s.file runs.other.told.shown other.after.shown = subst (λ (f : DataFile). SparesReads f runs.other.told.shown other.after.shown) (sym file) other.spares in
+    let agree = spared_agree s.file runs.one.told.shown runs.other.told.shown one.after.shown other.after.shown one.spares spared (agree_there layout runs.one.told.shown runs.other.told.shown runs.same s.file of) in
     tours_print_one layout runs (subst (λ (l : Layout). AgreeShown l (shown_of s.file one.after.shown) (shown_of s.file other.after.shown)) of agree)

@@ -37,6 +37,7 @@ use Rattle.df_workload.specs.declared.state.Point.{Point}
 use Rattle.df_workload.specs.declared.state.Point.TheVariants.{Appending, Replying, Stepping, Writing, Releasing, Beginning, Ending}
 use Rattle.df_workload.specs.declared.state.State.{State as Run}
 use Rattle.df_workload.proofs.Laws.{asks_end}
+use Rattle.df_session.specs.Found.{FoundFile}
 use Rattle.df_session.specs.Links.{command_in}
 use Rattle.df_top.specs.Outside.{Outside}
 use Rattle.df_top.specs.Working.{WorksThrough}
@@ -178,10 +179,10 @@ one_run seed count file image view run other one two =
     (same_run (shape file) (codec file) (shown_of file image) (opened (shape file) (unit_at file.layout file.cluster image) view) (start seed count file.layout.clients) run other one.commands two.commands (by one.commands) (by two.commands)
     one.follows two.follows one.ends two.ends refl refl).0
 
-module _ (seed count : ℕ) (layout : Layout) (t : Told) (old new : Outside) (status : Status) (works : WorksThrough seed count layout t old new status) (view : View) (whole : IsImage t.shown)
-    (found : IsFound (shape works.replica.file) (unit_at works.replica.file.layout works.replica.file.cluster t.shown) view) (ended : HasEnded status) where
+module _ (seed count : ℕ) (layout : Layout) (t : Told) (old new : Outside) (status : Status) (opening : FoundFile layout t) (works : WorksThrough seed count layout t opening old new status) (view : View) (whole : IsImage t.shown)
+    (found : IsFound (shape opening.replica.file) (unit_at opening.replica.file.layout opening.replica.file.cluster t.shown) view) (ended : HasEnded status) where
   abbrev file : DataFile
-  file = works.replica.file
+  file = opening.replica.file
 
   abbrev w : Work
   w = opened (shape file) (unit_at file.layout file.cluster t.shown) view
@@ -190,26 +191,26 @@ module _ (seed count : ℕ) (layout : Layout) (t : Told) (old new : Outside) (st
   answers_are = works.calls.result view (shown_of file t.shown) found (agree_self file.layout (shown_of file t.shown))
 
   follows_on : Follows (start seed count file.layout.clients) (map command_in works.worked.acts) works.worked.answers works.run
-  follows_on = subst (λ (l : Layout). Follows (start seed count l.clients) (map command_in works.worked.acts) works.worked.answers works.run) (sym works.is_opened.of) works.worked.follows
+  follows_on = subst (λ (l : Layout). Follows (start seed count l.clients) (map command_in works.worked.acts) works.worked.answers works.run) (sym opening.is_opened.of) works.worked.follows
 
   is_run : IsRun seed count file t.shown view works.run
   is_run = record {
     commands = map command_in works.worked.acts;
     follows = subst (λ (xs : List Answer). Follows (start seed count file.layout.clients) (map command_in works.worked.acts) xs works.run) answers_are follows_on;
-    ends = asks_none seed count layout t old new status works whole ended;
+    ends = asks_none seed count layout t old new status opening works whole ended;
   }
 
   run_counted : counted works.run ≡ after_answers works.worked.answers (0, 0, 0)
   run_counted = run_counts (shape file) (codec file) (shown_of file t.shown) w (start seed count file.layout.clients) works.run (map command_in works.worked.acts) works.worked.answers follows_on answers_are
 
   -- the numbers of the state that was opened are those of the view
-  first_numbers : numbers_in (memory works.replica) ≡ (head view, view.replies, sequence view)
-  first_numbers = ap numbers_in (found_keeps works.replica t.shown view whole (opened_here seed count layout t old new status works whole ended) found).1
+  first_numbers : numbers_in (memory opening.replica) ≡ (head view, view.replies, sequence view)
+  first_numbers = ap numbers_in (found_keeps opening.replica t.shown view whole (opened_here seed count layout t old new status opening works whole ended) found).1
 
   numbers : numbers_in (memory works.last) ≡ added (head view, view.replies, sequence view) (counted works.run)
   numbers =
       let first : Numbers = (head view, view.replies, sequence view) in
-      last_numbers seed count layout t old new status works whole ended ∙ ap (after_answers works.worked.answers) (first_numbers ∙ none_added first) ∙ all_added works.worked.answers first (0, 0, 0) ∙ ap (added first) (sym run_counted)
+      last_numbers seed count layout t old new status opening works whole ended ∙ ap (after_answers works.worked.answers) (first_numbers ∙ none_added first) ∙ all_added works.worked.answers first (0, 0, 0) ∙ ap (added first) (sym run_counted)
 
   report : workload_of works.run works.last ≡ workload_by view works.run
   report = λ i. record {
@@ -227,8 +228,8 @@ module _ (seed count : ℕ) (layout : Layout) (t : Told) (old new : Outside) (st
 
   prints_result : (run : Run) × IsRun seed count file t.shown view run × (status ≡ Done) × Appends old.written new.written (run_text view run)
   prints_result =
-      let ends = by_end seed count layout t old new status works whole ended in
+      let ends = by_end seed count layout t old new status opening works whole ended in
       (works.run, is_run, ends.1, subst (λ (x : Workload). Appends old.written new.written (workload_text x)) report ends.2)
 
 pub run_text_is_result : RunTextIsResult
-run_text_is_result seed count layout t old new status works view whole found ended = prints_result seed count layout t old new status works view whole found ended
+run_text_is_result seed count layout t old new status opening works view whole found ended = prints_result seed count layout t old new status opening works view whole found ended

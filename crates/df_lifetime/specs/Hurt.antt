@@ -9,11 +9,13 @@ use Rattle.df_theory.specs.Device.{NoChanceOf}
 use Rattle.df_theory.specs.View.{View}
 use Rattle.df_units.specs.Bytes.{unit_at}
 use Rattle.df_model.specs.Commands.{Answer}
+use Rattle.df_model.specs.Views.{KeepsCheckpoint, SomeKeeps}
 use Rattle.df_model.specs.Work.{Work, kept}
 use Rattle.df_replica.specs.Below.{DataFile, FindsHad, MayBeHurt, begun, told_after}
 use Rattle.df_replica.specs.Following.{MayOpen}
 use Rattle.df_replica.specs.Serving.{Grade, StandsFor, format}
 use Rattle.df_replica.specs.Session.{Act, work_after}
+use Rattle.df_session.specs.Found.{FoundFile}
 use Rattle.df_session.specs.Links.{CallsMade, events_made, list_of}
 use Rattle.df_session.specs.Acknowledging.{KeepsAnswered, WereAnswered}
 use Rattle.df_top.specs.Acknowledging.{run_calls, script_calls}
@@ -32,7 +34,7 @@ pub record NextFinds (file : DataFile) (g : Grade) (w : Work) (acts : List Act) 
   pub more : List Act
   pub rest : List Act
   pub some : perhaps ≡ more ++ rest
-  pub may : MayOpen file (kept (work_after file w (acts ++ more))) t
+  pub may : SomeKeeps (kept (work_after file w (acts ++ more))) (λ view. MayOpen file view t)
   pub there : AreThere (kept (work_after file w (acts ++ more))) acts answers
   pub stands : StandsFor g (unit_at file.layout file.cluster t.shown) (kept (work_after file w (acts ++ more)))
 
@@ -58,24 +60,24 @@ pub record KeepsOn (file : DataFile) (g : Grade) (w : Work) (base : Told) (mendi
 -- so does each session, whatever was done to the disk before: by each log that shows what it shows, and by which the file may be opened
 abbrev pub ScriptsKeepOn : Type 0
 ScriptsKeepOn =
-    (g : Grade) (file : DataFile) (view : View) (t base : Told) (old new : Outside) (status : Status) (serves : ServesScript file.layout t old new status) → base.shown ≡ t.shown → MayOpen file view base
-    → StandsFor g (unit_at file.layout file.cluster t.shown) view → KeepsOn file g (start_of file t.shown view) base serves.mending.events (script_calls serves.session)
+    (g : Grade) (file : DataFile) (view : View) (t base : Told) (old new : Outside) (status : Status) (found : FoundFile file.layout t) (serves : ServesScript file.layout t found old new status) → base.shown ≡ t.shown → MayOpen file view base
+    → StandsFor g (unit_at file.layout file.cluster t.shown) view → KeepsOn file g (start_of file t.shown view) base found.mending.events (script_calls serves.session)
 
 abbrev pub RunsKeepOn : Type 0
 RunsKeepOn =
-    (g : Grade) (file : DataFile) (view : View) (t base : Told) (old new : Outside) (status : Status) (seed count : ℕ) (works : WorksThrough seed count file.layout t old new status) → base.shown ≡ t.shown → MayOpen file view base
-    → StandsFor g (unit_at file.layout file.cluster t.shown) view → KeepsOn file g (start_of file t.shown view) base works.mending.events (run_calls works.worked)
+    (g : Grade) (file : DataFile) (view : View) (t base : Told) (old new : Outside) (status : Status) (seed count : ℕ) (found : FoundFile file.layout t) (works : WorksThrough seed count file.layout t found old new status) → base.shown ≡ t.shown → MayOpen file view base
+    → StandsFor g (unit_at file.layout file.cluster t.shown) view → KeepsOn file g (start_of file t.shown view) base found.mending.events (run_calls works.worked)
 
 -- A session on a hurt disk keeps it by the log that is begun anew, where its open finds the file's own checkpoint, as it does at rest while two copies stand.
 abbrev pub HurtScriptsKeep : Type 0
 HurtScriptsKeep =
-    (g : Grade) (file : DataFile) (view : View) (t : Told) (old new : Outside) (status : Status) (serves : ServesScript file.layout t old new status) (had : FindsHad file view t serves.replica) → had.found.checkpoint ≡ view.checkpoint
-    → StandsFor g (unit_at file.layout file.cluster t.shown) had.found → KeepsOn file g (start_of file t.shown had.found) (begun t) serves.mending.events (script_calls serves.session)
+    (g : Grade) (file : DataFile) (view : View) (t : Told) (old new : Outside) (status : Status) (found : FoundFile file.layout t) (serves : ServesScript file.layout t found old new status) (had : FindsHad file view t found.replica) → KeepsCheckpoint view had.found
+    → StandsFor g (unit_at file.layout file.cluster t.shown) had.found → KeepsOn file g (start_of file t.shown had.found) (begun t) found.mending.events (script_calls serves.session)
 
 abbrev pub HurtRunsKeep : Type 0
 HurtRunsKeep =
-    (g : Grade) (file : DataFile) (view : View) (t : Told) (old new : Outside) (status : Status) (seed count : ℕ) (works : WorksThrough seed count file.layout t old new status) (had : FindsHad file view t works.replica) → had.found.checkpoint ≡ view.checkpoint
-    → StandsFor g (unit_at file.layout file.cluster t.shown) had.found → KeepsOn file g (start_of file t.shown had.found) (begun t) works.mending.events (run_calls works.worked)
+    (g : Grade) (file : DataFile) (view : View) (t : Told) (old new : Outside) (status : Status) (seed count : ℕ) (found : FoundFile file.layout t) (works : WorksThrough seed count file.layout t found old new status) (had : FindsHad file view t found.replica) → KeepsCheckpoint view had.found
+    → StandsFor g (unit_at file.layout file.cluster t.shown) had.found → KeepsOn file g (start_of file t.shown had.found) (begun t) found.mending.events (run_calls works.worked)
 
 -- ---- damage at any time of a life
 

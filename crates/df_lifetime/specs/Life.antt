@@ -13,6 +13,7 @@ use Rattle.df_theory.specs.View.{View}
 use Rattle.df_units.specs.Bytes.{unit_at}
 use Rattle.df_units.specs.Making.{first_view}
 use Rattle.df_model.specs.Commands.{Answer}
+use Rattle.df_model.specs.Views.{KeepsView}
 use Rattle.df_model.specs.Work.{Work, kept, opened}
 use Rattle.df_replica.specs.Below.{shape, DataFile}
 use Rattle.df_replica.specs.Following.{MayOpen}
@@ -20,14 +21,15 @@ use Rattle.df_replica.specs.HeldBlocks.{AreInputs}
 use Rattle.df_replica.specs.Making.{MayMakeOn}
 use Rattle.df_replica.specs.Serving.{format}
 use Rattle.df_replica.specs.Session.{Act, answers_of, work_after}
+use Rattle.df_session.specs.Found.{FoundFile}
 use Rattle.df_session.specs.Links.{CallsMade, list_of}
 use Rattle.df_session.specs.Acknowledging.{WereAnswered}
 use Rattle.df_top.specs.Acknowledging.{run_calls, script_calls}
 use Rattle.df_top.specs.Formats.{Formats, MakesFile}
 use Rattle.df_top.specs.Outside.{Outside}
-use Rattle.df_top.specs.Run.{DidNothing, Does, RefusesSuperblock, Runs, ServesIn, ServesOwn}
+use Rattle.df_top.specs.Run.{ComesTo, DidNothing, Does, RefusesSuperblock, Runs, ServesIn, ServesOwn, Works}
 use Rattle.df_top.specs.declared.mode.Mode.{Mode}
-use Rattle.df_top.specs.declared.mode.Mode.TheVariants.{Format, Run, Recover, Inspect, Scrub, Workload}
+use Rattle.df_top.specs.declared.mode.Mode.TheVariants.{Run, Workload}
 use Rattle.df_top.specs.declared.status.Status.{Status}
 use Rattle.df_top.specs.declared.status.Status.TheVariants.{Done, Memory}
 
@@ -59,13 +61,13 @@ pub record GoesBy (file : DataFile) (c : Chapter) (acts : List Act) (v u : View)
   pub inputs : AreInputs (c.answered ++ c.perhaps)
   pub answers_are : c.answers ≡ answers_of file (start_of file c.shown v) c.answered
   pub came : CameThrough c acts
-  pub view : u ≡ kept (work_after file (start_of file c.shown v) acts)
+  pub view : KeepsView (kept (work_after file (start_of file c.shown v) acts)) u
 
 -- nothing was answered, and the view is as it was
 pub record IsUntouched (c : Chapter) (v u : View) : Type 0 where
   pub none : c.answered ≡ []
   pub no_answers : c.answers ≡ []
-  pub same : u ≡ v
+  pub same : KeepsView v u
 
 -- a session leads from one view to the next
 abbrev pub LeadsTo : DataFile → Chapter → (v u : View) → Type 0
@@ -73,7 +75,7 @@ LeadsTo file c v u = IsUntouched c v u ⊎ ((acts : List Act) × GoesBy file c a
 
 -- a view that a file may have come to after these sessions, the newest first, from its first view on
 abbrev pub MayHave : DataFile → List Chapter → View → Type 0
-MayHave file [] u = u ≡ first_view file.layout file.cluster
+MayHave file [] u = KeepsView (first_view file.layout file.cluster) u
 MayHave file (c ∷ chapters) u = (v : View) × MayHave file chapters v × LeadsTo file c v u
 
 -- ---- what happens to a file
@@ -99,18 +101,19 @@ HaveAnswers zero log calls = Unit {0}
 HaveAnswers (suc k) log None = ⊥
 HaveAnswers (suc k) log (Some c) = WereAnswered (suc k) c.old log c
 
--- what a word did is a session where it served a script, or carried out a generated run
+-- what a word did with the file that it found is a session where it served a script, or carried out a generated run
+abbrev pub word_calls : (mode : Mode) → (layout : Layout) → (t : Told) → (found : FoundFile layout t) → (old new : Outside) → (status : Status) → Works mode layout t found old new status → Option CallsMade
+word_calls Run layout t found old new status serves = Some (script_calls serves.session)
+word_calls (Workload seed count) layout t found old new status works = Some (run_calls works.worked)
+word_calls mode layout t found old new status works = None
+
+abbrev pub calls_to : (mode : Mode) → (layout : Layout) → (t : Told) → (old new : Outside) → (status : Status) → ComesTo mode layout t old new status → Option CallsMade
+calls_to mode layout t old new status (inl refuses) = None
+calls_to mode layout t old new status (inr (inl fails)) = None
+calls_to mode layout t old new status (inr (inr works)) = word_calls mode layout t works.0 old new status works.1
+
 abbrev pub calls_of : (mode : Mode) (layout : Layout) (t : Told) (old new : Outside) (status : Status) → Does mode layout t old new status → Option CallsMade
-calls_of (Format shape cluster) layout t old new status does = None
-calls_of Run layout t old new status (inl refuses) = None
-calls_of Run layout t old new status (inr (inl fails)) = None
-calls_of Run layout t old new status (inr (inr serves)) = Some (script_calls serves.session)
-calls_of Recover layout t old new status does = None
-calls_of Inspect layout t old new status does = None
-calls_of Scrub layout t old new status does = None
-calls_of (Workload seed count) layout t old new status (inl refuses) = None
-calls_of (Workload seed count) layout t old new status (inr (inl fails)) = None
-calls_of (Workload seed count) layout t old new status (inr (inr works)) = Some (run_calls works.worked)
+calls_of mode layout t old new status does = calls_to mode layout t old new status does.1
 
 -- a word on a file was carried out: by `run`, in rooms that it took, or by `serve`, in rooms of any layout
 abbrev pub IsCarried : Mode → Outside → Outside → Status → Type 0

@@ -19,10 +19,12 @@ use Rattle.df_model.specs.Work.{opened}
 use Rattle.df_replica.specs.Below.{DataFile, shape}
 use Rattle.df_replica.specs.Reading.{shown_of}
 use Rattle.df_session.specs.Below.{codec}
+use Rattle.df_session.specs.Found.{FoundFile}
 use Rattle.df_workload.specs.Asking.{asks}
 use Rattle.df_workload.specs.Following.{Follows}
 use Rattle.df_workload.specs.Rounds.{start}
 use Rattle.df_workload.specs.declared.state.State.{State as Run}
+use Rattle.df_top.specs.Works.{workload_with}
 use Rattle.df_top.specs.OneText.{ShowSame, text_by}
 use Rattle.df_top.specs.Outside.{Outside}
 use Rattle.df_top.specs.Reporting.{Recovers}
@@ -63,17 +65,21 @@ pub record PrintsOne {Word : Told → Outside → Outside → Status → Type 0}
   pub first : Appends one.old.written one.new.written text
   pub second : Appends other.old.written other.new.written text
 
+-- a word is carried out on the file that was found
+abbrev pub OnFile : (layout : Layout) → ((t : Told) → FoundFile layout t → Outside → Outside → Status → Type 0) → Told → Outside → Outside → Status → Type 0
+OnFile layout Word t old new status = (found : FoundFile layout t) × Word t found old new status
+
 -- so does `recover`
 abbrev pub RecoverHasOneText : Type 0
-RecoverHasOneText = (layout : Layout) (runs : Twice layout (Recovers layout)) → PrintsOne runs.one runs.other
+RecoverHasOneText = (layout : Layout) (runs : Twice layout (OnFile layout (Recovers layout))) → PrintsOne runs.one runs.other
 
 -- so does `scrub`: its tour is made over what the mending left, which is what was shown at first wherever a call reads
 abbrev pub ScrubHasOneText : Type 0
-ScrubHasOneText = (layout : Layout) (runs : Twice layout (ScrubsFile layout)) → PrintsOne runs.one runs.other
+ScrubHasOneText = (layout : Layout) (runs : Twice layout (OnFile layout (ScrubsFile layout))) → PrintsOne runs.one runs.other
 
 -- And so does a generated run of one seed and one number of rounds, over disks that show images.
 abbrev pub WorkloadHasOneText : Type 0
-WorkloadHasOneText = (seed count : ℕ) (layout : Layout) (runs : Twice layout (WorksThrough seed count layout)) → IsImage runs.one.told.shown → IsImage runs.other.told.shown → PrintsOne runs.one runs.other
+WorkloadHasOneText = (seed count : ℕ) (layout : Layout) (runs : Twice layout (OnFile layout (WorksThrough seed count layout))) → IsImage runs.one.told.shown → IsImage runs.other.told.shown → PrintsOne runs.one runs.other
 
 -- ---- what a generated run prints
 
@@ -89,18 +95,7 @@ OneRun = (seed count : ℕ) (file : DataFile) (image : Image) (view : View) (run
 
 -- what it counted, and the numbers of the file: head, replies and sequence went on by what was appended and replied, and by the checkpoints that were finished
 abbrev pub workload_by : View → Run → Workload
-workload_by view run = record {
-  appended = run.counts.appended;
-  replied = run.counts.replied;
-  wrote = run.counts.wrote;
-  released = run.counts.released;
-  checkpoints = run.counts.checkpoints;
-  refused = run.counts.refused;
-  bytes = run.counts.bytes;
-  head = head view + run.counts.appended;
-  replies = view.replies + run.counts.replied;
-  sequence = sequence view + run.counts.checkpoints;
-}
+workload_by view run = workload_with run (head view + run.counts.appended) (view.replies + run.counts.replied) (sequence view + run.counts.checkpoints)
 
 abbrev pub run_text : View → Run → List ℕ
 run_text view run = workload_text (workload_by view run)
@@ -108,17 +103,18 @@ run_text view run = workload_text (workload_by view run)
 -- a run that nothing failed in prints that, over the image that the disk shows at first
 abbrev pub RunTextIsResult : Type 0
 RunTextIsResult =
-    (seed count : ℕ) (layout : Layout) (t : Told) (old new : Outside) (status : Status) (works : WorksThrough seed count layout t old new status) (view : View) → IsImage t.shown
-    → IsFound (shape works.replica.file) (unit_at works.replica.file.layout works.replica.file.cluster t.shown) view → HasEnded status
-    → (run : Run) × IsRun seed count works.replica.file t.shown view run × (status ≡ Done) × Appends old.written new.written (run_text view run)
+    (seed count : ℕ) (layout : Layout) (t : Told) (old new : Outside) (status : Status) (found : FoundFile layout t) (works : WorksThrough seed count layout t found old new status) (view : View) → IsImage t.shown
+    → IsFound (shape found.replica.file) (unit_at found.replica.file.layout found.replica.file.cluster t.shown) view → HasEnded status
+    → (run : Run) × IsRun seed count found.replica.file t.shown view run × (status ≡ Done) × Appends old.written new.written (run_text view run)
 
 -- ---- a session that anything failed in
 
 -- a session of a script over a disk that tells what it shows, with the view that its open found and the lines that its text has
 pub record Scripted (layout : Layout) (t : Told) (old new : Outside) (status : Status) : Type 0 where
-  pub serves : ServesScript layout t old new status
+  pub opening : FoundFile layout t
+  pub serves : ServesScript layout t opening old new status
   pub view : View
-  pub found : IsFound (shape serves.replica.file) (unit_at serves.replica.file.layout serves.replica.file.cluster t.shown) view
+  pub found : IsFound (shape opening.replica.file) (unit_at opening.replica.file.layout opening.replica.file.cluster t.shown) view
   pub text : List ℕ
   pub left : old.left ≡ Some text
   pub says : List Said
@@ -126,7 +122,7 @@ pub record Scripted (layout : Layout) (t : Told) (old new : Outside) (status : S
 
 -- what it prints where nothing fails
 abbrev pub whole_text : {layout : Layout} {t : Told} {old new : Outside} {status : Status} → Scripted layout t old new status → List ℕ
-whole_text {t = t} s = text_by s.script.ends (length s.says) (script_text_of s.serves.replica.file s.view t.shown s.says)
+whole_text {t = t} s = text_by s.script.ends (length s.says) (script_text_of s.opening.replica.file s.view t.shown s.says)
 
 -- however the session ends, what is written is a front of that
 abbrev pub FrontIsWritten : Type 0

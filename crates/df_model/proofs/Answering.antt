@@ -9,7 +9,7 @@ use Rattle.df_model.specs.Memory.{Course, Memory, course_of, free_of, block_room
 use Rattle.df_model.specs.Refusals.{append_refusals, begin_refusals, block_refusals, first_refusal, is_last_request, is_new, is_running, last_op, next_request, release_refusals, reply_refusals, session_of_client, steps_left}
 use Rattle.df_model.specs.Making.{first_of, needed_of, next_address, place_of_reply, prepare_of, reply_of}
 use Rattle.df_model.specs.After.{after_check, after_running, after_step_of, begun, lookup_answer, outcome, prepare_answer, read_answer, to_check, with_live, with_prepare, with_reply, with_running}
-use Rattle.df_model.specs.Commands.{Advance, Answer, Append, Begin, Command, Given, ReadBlock, ReadPrepare, ReadReply, Recent, Release, Reply, Scrub, ToAdvance, ToAppend, ToBegin, ToReadBlock, ToReadPrepare, ToReadReply, ToRecent, ToRelease, ToReply, ToScrub, ToWriteBlock, WriteBlock, after}
+use Rattle.df_model.specs.Commands.{Advance, Answer, Append, Begin, Command, Given, ReadBlock, ReadPrepare, ReadReply, Recent, Release, Reply, Scrub, ToAdvance, ToAppend, ToBegin, ToReadBlock, ToReadPrepare, ToReadReply, ToRecent, ToRelease, ToReply, ToScrub, ToWriteBlock, WriteBlock, after, supplied_block, supplied_message, supplied_sum, supplied_verdict}
 use Rattle.df_model.specs.Answering.{AppendsInOrder, MemoryLaw, OrderLaw, OthersInOrder, ReplyParentLaw}
 use Rattle.df_model.specs.declared.errors.AppendError.{AppendError}
 use Rattle.df_model.specs.declared.errors.AppendError.TheVariants as append
@@ -49,38 +49,38 @@ check_answer m verdict [] = TourEnd m.tour.checked m.tour.failing
 check_answer m verdict (x ∷ more) = Checked x.0 verdict
 
 abbrev pub answer_from : (Parts → List ℕ) → Memory → Given → Command → Answer
-answer_from spell m given (Append client request body) = ToAppend (answer_or (first_refusal (append_refusals m client request body)) (m.head + 1, given.checksum))
-answer_from spell m given (Reply op body) = ToReply (answer_or (first_refusal (reply_refusals m op body)) given.checksum)
-answer_from spell m given (WriteBlock kind body) = ToWriteBlock (answer_or (first_refusal (block_refusals m kind body)) (next_address m, given.checksum))
+answer_from spell m given (Append client request body) = ToAppend (answer_or (first_refusal (append_refusals m client request body)) (m.head + 1, supplied_sum given))
+answer_from spell m given (Reply op body) = ToReply (answer_or (first_refusal (reply_refusals m op body)) (supplied_sum given))
+answer_from spell m given (WriteBlock kind body) = ToWriteBlock (answer_or (first_refusal (block_refusals m kind body)) (next_address m, supplied_sum given))
 answer_from spell m given (Release address) = ToRelease (answer_or {A = Unit {0}} (first_refusal (release_refusals m address)) tt)
 answer_from spell m given (Begin root) = ToBegin (answer_or (first_refusal (begin_refusals m (needed_of spell m root) root)) (needed_of spell m root))
 answer_from spell m given Advance = ToAdvance (step_answer m m.running)
-answer_from spell m given (ReadPrepare op) = ToReadPrepare (prepare_answer m given.message op)
-answer_from spell m given (ReadReply client) = ToReadReply (lookup_answer m given.message client)
-answer_from spell m given (ReadBlock address) = ToReadBlock (read_answer m given.block address)
-answer_from spell m given Scrub = ToScrub (check_answer m given.verdict (to_check m))
+answer_from spell m given (ReadPrepare op) = ToReadPrepare (prepare_answer m (supplied_message given) op)
+answer_from spell m given (ReadReply client) = ToReadReply (lookup_answer m (supplied_message given) client)
+answer_from spell m given (ReadBlock address) = ToReadBlock (read_answer m (supplied_block given) address)
+answer_from spell m given Scrub = ToScrub (check_answer m (supplied_verdict given) (to_check m))
 answer_from spell m given Recent = ToRecent m.findings
 
 module _ (sh : Shape) (spell : Parts → List ℕ) (w : Work) (given : Given) where
   abbrev m : Memory
   m = memory_of sh spell w
 
-  running_is : (r : Running) (l : List ℕ) → (after_running sh spell w given.checksum r l).1 ≡ running_answer m l
+  running_is : (r : Running) (l : List ℕ) → (after_running sh spell w (supplied_sum given) r l).1 ≡ running_answer m l
   running_is r [] = refl
   running_is r (a ∷ more) = refl
 
-  step_is : (o : Option Running) → (after_step_of sh spell w given.checksum o).1 ≡ step_answer m (course_of spell o)
+  step_is : (o : Option Running) → (after_step_of sh spell w (supplied_sum given) o).1 ≡ step_answer m (course_of spell o)
   step_is None = refl
   step_is (Some r) = running_is r r.left
 
-  check_is : (xs : List (ℕ × ℕ)) → (after_check w given.verdict xs).1 ≡ check_answer m given.verdict xs
+  check_is : (xs : List (ℕ × ℕ)) → (after_check w (supplied_verdict given) xs).1 ≡ check_answer m (supplied_verdict given) xs
   check_is [] = refl
   check_is (x ∷ more) = refl
 
   pub answer_is : (c : Command) → (after sh spell w given c).1 ≡ answer_from spell m given c
-  answer_is (Append client request body) = ap ToAppend (outcome_answer (first_refusal (append_refusals m client request body)) w (with_prepare w (prepare_of m given.checksum client request body)) (m.head + 1, given.checksum))
-  answer_is (Reply op body) = ap ToReply (outcome_answer (first_refusal (reply_refusals m op body)) w (with_reply w (place_of_reply m) (reply_of m given.checksum body)) given.checksum)
-  answer_is (WriteBlock kind body) = ap ToWriteBlock (outcome_answer (first_refusal (block_refusals m kind body)) w (with_live w (next_address m) (Some given.checksum)) (next_address m, given.checksum))
+  answer_is (Append client request body) = ap ToAppend (outcome_answer (first_refusal (append_refusals m client request body)) w (with_prepare w (prepare_of m (supplied_sum given) client request body)) (m.head + 1, supplied_sum given))
+  answer_is (Reply op body) = ap ToReply (outcome_answer (first_refusal (reply_refusals m op body)) w (with_reply w (place_of_reply m) (reply_of m (supplied_sum given) body)) (supplied_sum given))
+  answer_is (WriteBlock kind body) = ap ToWriteBlock (outcome_answer (first_refusal (block_refusals m kind body)) w (with_live w (next_address m) (Some (supplied_sum given))) (next_address m, supplied_sum given))
   answer_is (Release address) = ap ToRelease (outcome_answer {A = Unit {0}} (first_refusal (release_refusals m address)) w (with_live w address None) tt)
   answer_is (Begin root) = ap ToBegin (outcome_answer (first_refusal (begin_refusals m (needed_of spell m root) root)) w (with_running w (Some (begun sh spell w root))) (needed_of spell m root))
   answer_is Advance = ap ToAdvance (step_is w.running)

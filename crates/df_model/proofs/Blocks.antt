@@ -1,5 +1,5 @@
 -- Blocks that are written and released.
-use Rattle.std.proofs.Common.{◌≡◌, inl, inr, ℕ, zero, suc, ◌+◌, ◌<◌, ◌≤◌, not, cond, ◌∷◌, ◌==◌, ◌||◌, Bool, true, false, if◌then◌else◌, List, length, Option, Some, None, refl, sym, ◌∙◌, ap, subst, arith, eqb-true}
+use Rattle.std.proofs.Common.{◌≡◌, inl, inr, ℕ, zero, suc, ◌+◌, ◌<◌, ◌≤◌, ◌^◌, not, cond, [], ◌∷◌, ◌==◌, ◌||◌, Bool, true, false, if◌then◌else◌, List, length, Option, Some, None, refl, sym, ◌∙◌, ap, subst, arith, eqb-true}
 use Rattle.df_theory.specs.Units.{AnyUnit, BlockPlace, BlockUnit, Content, CopyPlace, Parts, Place, PreparePlace, Units, or_else, overlay}
 use Rattle.df_theory.specs.Copies.{Agree, IsChosen}
 use Rattle.df_theory.specs.Shows.{Agrees, Needs}
@@ -10,8 +10,7 @@ use Rattle.std.proofs.lemmas.Bool.{cases_eq, or_right, eqb-false}
 use Rattle.df_model.specs.Laws.{BlockAsideLaw, BlockMayLaw}
 use Rattle.df_theory.specs.Shape.{Shape}
 use Rattle.df_model.specs.Work.{Work, is_captured, is_held, is_known, is_of}
-use Rattle.df_model.specs.Codec.{InGrid}
-use Rattle.df_model.specs.Codec.{IsChecksum}
+use Rattle.df_model.specs.Codec.{AreChecksums, InGrid, IsChecksum}
 use Rattle.df_model.specs.Refusals.{block_refusals, first_refusal}
 use Rattle.df_model.specs.After.{with_live}
 use Rattle.df_model.specs.Blocks.{blocks_of, is_held_in}
@@ -49,6 +48,11 @@ pub block_may_law : BlockMayLaw
 block_may_law sh spell w kind body none =
     let free = next_free sh spell w kind body none in
     record { inside = free.inside; free = free.unheld; below = λ x some less. sym (held_is sh w x some (omega (arith, less, free.inside))) ∙ below_first (is_held_in (blocks_of sh w)) 1 sh.layout.blocks x some less }
+
+-- the first of checksums in range is in range
+pub first_small : (sums : List ℕ) → AreChecksums sums → IsChecksum (first_of sums)
+first_small [] all = (let small : 0 < 2 ^ 128 = omega arith in small)
+first_small (c ∷ cs) all = all.0
 
 pub live_keeps : (sh : Shape) (spell : Parts → List ℕ) (w : Work) (a c : ℕ) → IsChecksum c → IsWork sh spell w → IsFree sh w a → IsWork sh spell (with_live w a (Some c))
 live_keeps sh spell w a c fits work free = record {

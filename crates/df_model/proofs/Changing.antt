@@ -10,7 +10,7 @@ use Rattle.df_model.specs.Memory.{course_of, memory_of}
 use Rattle.df_model.specs.Refusals.{append_refusals, begin_refusals, block_refusals, first_refusal, release_refusals, reply_refusals}
 use Rattle.df_model.specs.Making.{needed_of, next_address, place_of_reply, prepare_of, reply_of}
 use Rattle.df_model.specs.After.{after_check, after_running, after_step_of, begun, outcome, to_check, with_live, with_prepare, with_reply, with_running}
-use Rattle.df_model.specs.Commands.{Advance, Append, Begin, Command, Given, ReadBlock, ReadPrepare, ReadReply, Recent, Release, Reply, Scrub, WriteBlock, after}
+use Rattle.df_model.specs.Commands.{Advance, Append, Begin, Command, Given, ReadBlock, ReadPrepare, ReadReply, Recent, Release, Reply, Scrub, WriteBlock, after, supplied_sum, supplied_verdict}
 use Rattle.df_model.specs.Changing.{BlocksLaw, after_step_in, blocks_after, trailer_step, unless_refused}
 use Rattle.df_model.specs.declared.answers.Verdict.{Verdict}
 use Rattle.df_model.specs.declared.answers.Verdict.TheVariants.{Sound, Failing}
@@ -147,8 +147,8 @@ module _ (sh : Shape) (spell : Parts → List ℕ) (w : Work) (given : Given) wh
   abbrev b : Blocks
   b = blocks_of sh w
 
-  written_blocks : (a : ℕ) → (0 < a) × (a ≤ sh.layout.blocks) → blocks_of sh (with_live w a (Some given.checksum)) ≡ record b { live = with_entry a given.checksum b.live }
-  written_blocks a inside = ap (λ (l : List (ℕ × ℕ)). record b { live = l }) (entered w.live a given.checksum 1 sh.layout.blocks (omega (arith, inside.0)) (omega (arith, inside.1)))
+  written_blocks : (a : ℕ) → (0 < a) × (a ≤ sh.layout.blocks) → blocks_of sh (with_live w a (Some (supplied_sum given))) ≡ record b { live = with_entry a (supplied_sum given) b.live }
+  written_blocks a inside = ap (λ (l : List (ℕ × ℕ)). record b { live = l }) (entered w.live a (supplied_sum given) 1 sh.layout.blocks (omega (arith, inside.0)) (omega (arith, inside.1)))
 
   released_blocks : (a : ℕ) → blocks_of sh (with_live w a None) ≡ record b { live = without_entry a b.live }
   released_blocks a = ap (λ (l : List (ℕ × ℕ)). record b { live = l }) (removed w.live a 1 sh.layout.blocks)
@@ -160,11 +160,11 @@ module _ (sh : Shape) (spell : Parts → List ℕ) (w : Work) (given : Given) wh
   abbrev with_run : Option Running → Blocks
   with_run o = record b { captured = captured_of sh.layout o; written = written_of o; left = left_of o }
 
-  running_blocks : (r : Running) (l : List ℕ) → w.running ≡ Some r → blocks_of sh (after_running sh spell w given.checksum r l).0 ≡ trailer_step (with_run (Some r)) given.checksum l
+  running_blocks : (r : Running) (l : List ℕ) → w.running ≡ Some r → blocks_of sh (after_running sh spell w (supplied_sum given) r l).0 ≡ trailer_step (with_run (Some r)) (supplied_sum given) l
   running_blocks r [] at = refl
   running_blocks r (a ∷ more) at = refl
 
-  step_blocks : (o : Option Running) → w.running ≡ o → blocks_of sh (after_step_of sh spell w given.checksum o).0 ≡ after_step_in (with_run o) given.checksum (course_of spell o)
+  step_blocks : (o : Option Running) → w.running ≡ o → blocks_of sh (after_step_of sh spell w (supplied_sum given) o).0 ≡ after_step_in (with_run o) (supplied_sum given) (course_of spell o)
   step_blocks None at = ap with_run at
   step_blocks (Some r) at = running_blocks r r.left at
 
@@ -175,12 +175,12 @@ module _ (sh : Shape) (spell : Parts → List ℕ) (w : Work) (given : Given) wh
 
   blocks_is : (c : Command) → blocks_of sh (after sh spell w given c).0 ≡ blocks_after spell (memory_of sh spell w) given c
   blocks_is (Append client request body) =
-      let p = prepare_of (memory_of sh spell w) given.checksum client request body in
-      outcome_same sh (first_refusal (append_refusals (memory_of sh spell w) client request body)) w (with_prepare w p) (p.header.op, given.checksum) refl
-  blocks_is (Reply op body) = outcome_same sh (first_refusal (reply_refusals (memory_of sh spell w) op body)) w (with_reply w (place_of_reply (memory_of sh spell w)) (reply_of (memory_of sh spell w) given.checksum body)) given.checksum refl
+      let p = prepare_of (memory_of sh spell w) (supplied_sum given) client request body in
+      outcome_same sh (first_refusal (append_refusals (memory_of sh spell w) client request body)) w (with_prepare w p) (p.header.op, supplied_sum given) refl
+  blocks_is (Reply op body) = outcome_same sh (first_refusal (reply_refusals (memory_of sh spell w) op body)) w (with_reply w (place_of_reply (memory_of sh spell w)) (reply_of (memory_of sh spell w) (supplied_sum given) body)) (supplied_sum given) refl
   blocks_is (WriteBlock kind body) =
       let a = next_address (memory_of sh spell w) in
-      outcome_blocks sh (first_refusal (block_refusals (memory_of sh spell w) kind body)) w (with_live w a (Some given.checksum)) (a, given.checksum) _ (λ none. written_blocks a (next_free sh spell w kind body none).inside)
+      outcome_blocks sh (first_refusal (block_refusals (memory_of sh spell w) kind body)) w (with_live w a (Some (supplied_sum given))) (a, supplied_sum given) _ (λ none. written_blocks a (next_free sh spell w kind body none).inside)
   blocks_is (Release address) = outcome_blocks {A = Unit {0}} sh (first_refusal (release_refusals (memory_of sh spell w) address)) w (with_live w address None) tt _ (λ none. released_blocks address)
   blocks_is (Begin root) =
       outcome_blocks sh (first_refusal (begin_refusals (memory_of sh spell w) (needed_of spell (memory_of sh spell w) root) root)) w (with_running w (Some (begun sh spell w root))) (needed_of spell (memory_of sh spell w) root) _ (λ none. begun_blocks root)
@@ -188,7 +188,7 @@ module _ (sh : Shape) (spell : Parts → List ℕ) (w : Work) (given : Given) wh
   blocks_is (ReadPrepare op) = refl
   blocks_is (ReadReply client) = refl
   blocks_is (ReadBlock address) = refl
-  blocks_is Scrub = check_blocks given.verdict (to_check (memory_of sh spell w))
+  blocks_is Scrub = check_blocks (supplied_verdict given) (to_check (memory_of sh spell w))
   blocks_is Recent = refl
 
 pub blocks_law : BlocksLaw

@@ -15,11 +15,11 @@ use Rattle.df_model.specs.Blocks.{addresses}
 use Rattle.df_model.specs.Making.{block_of, needed_of, next_address, place_of_reply, prepare_of, reply_of}
 use Rattle.df_model.specs.Refusals.{append_refusals, begin_refusals, block_refusals, first_refusal, release_refusals, reply_refusals}
 use Rattle.df_model.specs.After.{after_check, after_running, after_step_of, begun, checkpoint_of, next_trailer, outcome, to_check, with_live, with_prepare, with_reply, with_running, with_trailer_block}
-use Rattle.df_model.specs.Commands.{Advance, Append, Begin, ReadBlock, ReadPrepare, ReadReply, Recent, Release, Reply, Scrub, WriteBlock}
+use Rattle.df_model.specs.Commands.{Advance, Append, Begin, ReadBlock, ReadPrepare, ReadReply, Recent, Release, Reply, Scrub, WriteBlock, supplied_sum, supplied_sums, supplied_verdict}
 use Rattle.df_model.specs.Sense.{AtEachOf, IsBacked, IsClear, IsSpare, RiseFrom, ShowsOwnBlock, ShowsWritten}
 use Rattle.df_model.specs.Laws.{CommandLaw, DoesAdvance, DoesAdvanceTo, DoesAppend, DoesBlock, DoesFinish, DoesReply, IsKeptBy, UnlessRefused}
 use Rattle.df_model.proofs.Entries.{entry_in}
-use Rattle.df_model.proofs.Blocks.{kind_some, next_free, release_keeps}
+use Rattle.df_model.proofs.Blocks.{first_small, kind_some, next_free, release_keeps}
 use Rattle.df_model.proofs.Finishes.{finish_keeps, may_finish}
 use Rattle.df_model.proofs.Writing.{Both, SameBlocks, append_on, block_else, block_on, idle, own_same, put_at, reply_on, stay}
 use Rattle.df_model.proofs.Keeps.{begin_keeps, check_keeps, check_live, check_running, check_view, trailer_keeps}
@@ -173,18 +173,18 @@ advance_on sh spell log w sum steps keeps does = go w.running refl does
 
 pub command_law : CommandLaw
 command_law sh spell log w given (Append client request body) steps input keeps does =
-    let p = prepare_of (memory_of sh spell w) given.checksum client request body in
-    outcome_does sh spell log (first_refusal (append_refusals (memory_of sh spell w) client request body)) w (with_prepare w p) (p.header.op, given.checksum) steps (DoesAppend sh (now log) w.view p steps) keeps
-    (λ none done. append_on sh spell log w given.checksum client request body steps input.fields keeps none done) does
+    let p = prepare_of (memory_of sh spell w) (supplied_sum given) client request body in
+    outcome_does sh spell log (first_refusal (append_refusals (memory_of sh spell w) client request body)) w (with_prepare w p) (p.header.op, supplied_sum given) steps (DoesAppend sh (now log) w.view p steps) keeps
+    (λ none done. append_on sh spell log w (supplied_sum given) client request body steps input.fields keeps none done) does
 command_law sh spell log w given (Reply op body) steps input keeps does =
     let place = place_of_reply (memory_of sh spell w) in
-    let r = reply_of (memory_of sh spell w) given.checksum body in
-    outcome_does sh spell log (first_refusal (reply_refusals (memory_of sh spell w) op body)) w (with_reply w place r) given.checksum steps (DoesReply w.view place r steps) keeps
-    (λ none done. reply_on sh spell log w given.checksum op body steps keeps none done) does
+    let r = reply_of (memory_of sh spell w) (supplied_sum given) body in
+    outcome_does sh spell log (first_refusal (reply_refusals (memory_of sh spell w) op body)) w (with_reply w place r) (supplied_sum given) steps (DoesReply w.view place r steps) keeps
+    (λ none done. reply_on sh spell log w (supplied_sum given) op body steps keeps none done) does
 command_law sh spell log w given (WriteBlock kind body) steps input keeps does =
     let a = next_address (memory_of sh spell w) in
-    outcome_does sh spell log (first_refusal (block_refusals (memory_of sh spell w) kind body)) w (with_live w a (Some given.checksum)) (a, given.checksum) steps (DoesBlock w.view a (block_of given.checksum kind body) steps) keeps
-    (λ none done. block_on sh spell log w a (block_of given.checksum kind body) steps input.checksum (kind_some sh spell w kind body none) keeps (next_free sh spell w kind body none) done) does
+    outcome_does sh spell log (first_refusal (block_refusals (memory_of sh spell w) kind body)) w (with_live w a (Some (supplied_sum given))) (a, supplied_sum given) steps (DoesBlock w.view a (block_of (supplied_sum given) kind body) steps) keeps
+    (λ none done. block_on sh spell log w a (block_of (supplied_sum given) kind body) steps (first_small (supplied_sums given) input.checksums) (kind_some sh spell w kind body none) keeps (next_free sh spell w kind body none) done) does
 command_law sh spell log w given (Release address) steps input keeps does =
     outcome_idle {A = Unit {0}} sh spell log (first_refusal (release_refusals (memory_of sh spell w) address)) w (with_live w address None) tt steps keeps
     (λ none. idle sh spell log w (with_live w address None) steps refl keeps (release_keeps sh spell w address keeps.sense) keeps.written (released log w address) does) does
@@ -193,13 +193,13 @@ command_law sh spell log w given (Begin root) steps input keeps does =
     let u = with_running w (Some (begun sh spell w root)) in
     outcome_idle sh spell log (first_refusal (begin_refusals (memory_of sh spell w) needed root)) w u needed steps keeps
     (λ none. idle sh spell log w u steps refl keeps (begin_keeps sh spell w root input.fields keeps.sense none) (begun_written sh spell (now log) w root) (begun_backed sh spell log w root) does) does
-command_law sh spell log w given Advance steps input keeps does = advance_on sh spell log w given.checksum steps keeps does
+command_law sh spell log w given Advance steps input keeps does = advance_on sh spell log w (supplied_sum given) steps keeps does
 command_law sh spell log w given (ReadPrepare op) steps input keeps does = stay sh spell log w steps keeps does
 command_law sh spell log w given (ReadReply client) steps input keeps does = stay sh spell log w steps keeps does
 command_law sh spell log w given (ReadBlock address) steps input keeps does = stay sh spell log w steps keeps does
 command_law sh spell log w given Scrub steps input keeps does =
     let xs = to_check (memory_of sh spell w) in
-    let u = (after_check w given.verdict xs).0 in
-    idle sh spell log w u steps (check_view w given.verdict xs) keeps (check_keeps sh spell w given.verdict xs keeps.sense) (λ r at. keeps.written r (sym (check_running w given.verdict xs) ∙ at))
-    (checked log w u (check_view w given.verdict xs) (check_live w given.verdict xs) (check_running w given.verdict xs)) does
+    let u = (after_check w (supplied_verdict given) xs).0 in
+    idle sh spell log w u steps (check_view w (supplied_verdict given) xs) keeps (check_keeps sh spell w (supplied_verdict given) xs keeps.sense) (λ r at. keeps.written r (sym (check_running w (supplied_verdict given) xs) ∙ at))
+    (checked log w u (check_view w (supplied_verdict given) xs) (check_live w (supplied_verdict given) xs) (check_running w (supplied_verdict given) xs)) does
 command_law sh spell log w given Recent steps input keeps does = stay sh spell log w steps keeps does

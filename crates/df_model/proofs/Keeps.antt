@@ -28,12 +28,12 @@ use Rattle.df_model.proofs.Grid.{IsFree, are_free, each_take, each_weaker, in_ea
 use Rattle.df_model.proofs.Knows.{begin_knows, one_fewer, one_more, opened_one, scrub_one, trailer_knows, trailer_new}
 use Rattle.df_model.proofs.Appends.{append_keeps, may_append}
 use Rattle.df_model.proofs.Replies.{may_reply, reply_keeps}
-use Rattle.df_model.proofs.Blocks.{live_keeps, next_free, release_keeps}
+use Rattle.df_model.proofs.Blocks.{first_small, live_keeps, next_free, release_keeps}
 use Rattle.df_model.proofs.Steps.{begin_capture, step_capture}
 use Rattle.df_model.proofs.Finishes.{finish_keeps, is_finish}
 use Rattle.df_model.specs.Memory.{free_of, memory_of}
 use Rattle.df_model.specs.Making.{needed_of, next_address, place_of_reply, prepare_of, reply_of}
-use Rattle.df_model.specs.Commands.{Advance, Append as ToAppendOf, Begin, ReadBlock, ReadPrepare, ReadReply, Recent, Release, Reply as ToReplyOf, Scrub, WriteBlock}
+use Rattle.df_model.specs.Commands.{Advance, Append as ToAppendOf, Begin, ReadBlock, ReadPrepare, ReadReply, Recent, Release, Reply as ToReplyOf, Scrub, WriteBlock, supplied_sum, supplied_sums, supplied_verdict}
 
 -- ---- a begin
 
@@ -145,42 +145,42 @@ step_has P sh spell w sum before last next = go w.running refl
 
 pub sense_law : SenseLaw
 sense_law sh spell w given (ToAppendOf client request body) input work =
-    let p = prepare_of (memory_of sh spell w) given.checksum client request body in
-    outcome_has (IsWork sh spell) (first_refusal (append_refusals (memory_of sh spell w) client request body)) w (with_prepare w p) (p.header.op, given.checksum) work (λ none. append_keeps sh spell w given.checksum client request body work none input.fields)
+    let p = prepare_of (memory_of sh spell w) (supplied_sum given) client request body in
+    outcome_has (IsWork sh spell) (first_refusal (append_refusals (memory_of sh spell w) client request body)) w (with_prepare w p) (p.header.op, supplied_sum given) work (λ none. append_keeps sh spell w (supplied_sum given) client request body work none input.fields)
 sense_law sh spell w given (ToReplyOf op body) input work =
-    outcome_has (IsWork sh spell) (first_refusal (reply_refusals (memory_of sh spell w) op body)) w (with_reply w (place_of_reply (memory_of sh spell w)) (reply_of (memory_of sh spell w) given.checksum body)) given.checksum work (reply_keeps sh spell w given.checksum op body work)
+    outcome_has (IsWork sh spell) (first_refusal (reply_refusals (memory_of sh spell w) op body)) w (with_reply w (place_of_reply (memory_of sh spell w)) (reply_of (memory_of sh spell w) (supplied_sum given) body)) (supplied_sum given) work (reply_keeps sh spell w (supplied_sum given) op body work)
 sense_law sh spell w given (WriteBlock kind body) input work =
-    outcome_has (IsWork sh spell) (first_refusal (block_refusals (memory_of sh spell w) kind body)) w (with_live w (next_address (memory_of sh spell w)) (Some given.checksum)) (next_address (memory_of sh spell w), given.checksum) work (λ none. live_keeps sh spell w (next_address (memory_of sh spell w)) given.checksum input.checksum work (next_free sh spell w kind body none))
+    outcome_has (IsWork sh spell) (first_refusal (block_refusals (memory_of sh spell w) kind body)) w (with_live w (next_address (memory_of sh spell w)) (Some (supplied_sum given))) (next_address (memory_of sh spell w), supplied_sum given) work (λ none. live_keeps sh spell w (next_address (memory_of sh spell w)) (supplied_sum given) (first_small (supplied_sums given) input.checksums) work (next_free sh spell w kind body none))
 sense_law sh spell w given (Release address) input work =
     outcome_has {A = Unit {0}} (IsWork sh spell) (first_refusal (release_refusals (memory_of sh spell w) address)) w (with_live w address None) tt work (λ none. release_keeps sh spell w address work)
 sense_law sh spell w given (Begin root) input work =
     outcome_has (IsWork sh spell) (first_refusal (begin_refusals (memory_of sh spell w) (needed_of spell (memory_of sh spell w) root) root)) w (with_running w (Some (begun sh spell w root))) (needed_of spell (memory_of sh spell w) root) work (begin_keeps sh spell w root input.fields work)
 sense_law sh spell w given Advance input work =
-    step_has (IsWork sh spell) sh spell w given.checksum work (λ r at left. finish_keeps sh spell w r given.checksum work at left) (λ r a more at left. trailer_keeps sh spell w given.checksum r a more work at left)
+    step_has (IsWork sh spell) sh spell w (supplied_sum given) work (λ r at left. finish_keeps sh spell w r (supplied_sum given) work at left) (λ r a more at left. trailer_keeps sh spell w (supplied_sum given) r a more work at left)
 sense_law sh spell w given (ReadPrepare op) input work = work
 sense_law sh spell w given (ReadReply client) input work = work
 sense_law sh spell w given (ReadBlock address) input work = work
-sense_law sh spell w given Scrub input work = check_keeps sh spell w given.verdict (to_check (memory_of sh spell w)) work
+sense_law sh spell w given Scrub input work = check_keeps sh spell w (supplied_verdict given) (to_check (memory_of sh spell w)) work
 sense_law sh spell w given Recent input work = work
 
 pub next_law : NextLaw
 next_law sh spell w given (ToAppendOf client request body) work =
-    let p = prepare_of (memory_of sh spell w) given.checksum client request body in
-    outcome_has (λ u. Next w.view u.view) (first_refusal (append_refusals (memory_of sh spell w) client request body)) w (with_prepare w p) (p.header.op, given.checksum) Same (λ none. Append (p ∷ []) (may_append sh spell w given.checksum client request body work none).is)
+    let p = prepare_of (memory_of sh spell w) (supplied_sum given) client request body in
+    outcome_has (λ u. Next w.view u.view) (first_refusal (append_refusals (memory_of sh spell w) client request body)) w (with_prepare w p) (p.header.op, supplied_sum given) Same (λ none. Append (p ∷ []) (may_append sh spell w (supplied_sum given) client request body work none).is)
 next_law sh spell w given (ToReplyOf op body) work =
-    outcome_has (λ u. Next w.view u.view) (first_refusal (reply_refusals (memory_of sh spell w) op body)) w (with_reply w (place_of_reply (memory_of sh spell w)) (reply_of (memory_of sh spell w) given.checksum body)) given.checksum Same (λ none. Reply (place_of_reply (memory_of sh spell w)) (reply_of (memory_of sh spell w) given.checksum body) (may_reply sh spell w given.checksum op body work none).is)
+    outcome_has (λ u. Next w.view u.view) (first_refusal (reply_refusals (memory_of sh spell w) op body)) w (with_reply w (place_of_reply (memory_of sh spell w)) (reply_of (memory_of sh spell w) (supplied_sum given) body)) (supplied_sum given) Same (λ none. Reply (place_of_reply (memory_of sh spell w)) (reply_of (memory_of sh spell w) (supplied_sum given) body) (may_reply sh spell w (supplied_sum given) op body work none).is)
 next_law sh spell w given (WriteBlock kind body) work =
-    outcome_has (λ u. Next w.view u.view) (first_refusal (block_refusals (memory_of sh spell w) kind body)) w (with_live w (next_address (memory_of sh spell w)) (Some given.checksum)) (next_address (memory_of sh spell w), given.checksum) Same (λ none. Same)
+    outcome_has (λ u. Next w.view u.view) (first_refusal (block_refusals (memory_of sh spell w) kind body)) w (with_live w (next_address (memory_of sh spell w)) (Some (supplied_sum given))) (next_address (memory_of sh spell w), supplied_sum given) Same (λ none. Same)
 next_law sh spell w given (Release address) work =
     outcome_has {A = Unit {0}} (λ u. Next w.view u.view) (first_refusal (release_refusals (memory_of sh spell w) address)) w (with_live w address None) tt Same (λ none. Same)
 next_law sh spell w given (Begin root) work =
     outcome_has (λ u. Next w.view u.view) (first_refusal (begin_refusals (memory_of sh spell w) (needed_of spell (memory_of sh spell w) root) root)) w (with_running w (Some (begun sh spell w root))) (needed_of spell (memory_of sh spell w) root) Same (λ none. Same)
 next_law sh spell w given Advance work =
-    step_has (λ u. Next w.view u.view) sh spell w given.checksum Same (λ r at left. Finish (checkpoint_of sh spell w r given.checksum) (is_finish sh spell w r given.checksum work (work.running r at) left)) (λ r a more at left. Same)
+    step_has (λ u. Next w.view u.view) sh spell w (supplied_sum given) Same (λ r at left. Finish (checkpoint_of sh spell w r (supplied_sum given)) (is_finish sh spell w r (supplied_sum given) work (work.running r at) left)) (λ r a more at left. Same)
 next_law sh spell w given (ReadPrepare op) work = Same
 next_law sh spell w given (ReadReply client) work = Same
 next_law sh spell w given (ReadBlock address) work = Same
-next_law sh spell w given Scrub work = subst (Next w.view) (sym (check_view w given.verdict (to_check (memory_of sh spell w)))) Same
+next_law sh spell w given Scrub work = subst (Next w.view) (sym (check_view w (supplied_verdict given) (to_check (memory_of sh spell w)))) Same
 next_law sh spell w given Recent work = Same
 
 -- ---- the start

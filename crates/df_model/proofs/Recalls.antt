@@ -17,7 +17,7 @@ use Rattle.df_model.specs.Memory.{Memory, course, course_of, memory_of, stored_s
 use Rattle.df_model.specs.Refusals.{append_refusals, begin_refusals, block_refusals, first_refusal, release_refusals, reply_refusals}
 use Rattle.df_model.specs.Making.{needed_of, next_address, place_of_reply, prepare_of, reply_of}
 use Rattle.df_model.specs.After.{after_check, after_running, after_step_of, begun, checkpoint_of, finished, next_trailer, outcome, to_check, with_live, with_prepare, with_reply, with_running, with_trailer_block}
-use Rattle.df_model.specs.Commands.{Advance, Append, Begin, Command, Given, ReadBlock, ReadPrepare, ReadReply, Recent, Release, Reply, Scrub, WriteBlock, after}
+use Rattle.df_model.specs.Commands.{Advance, Append, Begin, Command, Given, ReadBlock, ReadPrepare, ReadReply, Recent, Release, Reply, Scrub, WriteBlock, after, supplied_sum, supplied_verdict}
 use Rattle.df_model.specs.Changing.{ChangeLaw, ListsLaw, appended_in, blocks_after, checked_in, course_on, memory_after, replied_in, step_in, unless_refused, unstored}
 use Rattle.df_model.specs.Sense.{IsWork}
 use Rattle.df_model.specs.declared.answers.Verdict.{Verdict}
@@ -131,9 +131,9 @@ module _ (sh : Shape) (spell : Parts → List ℕ) (w : Work) (given : Given) (w
   abbrev v : View
   v = w.view
 
-  appended_memory : (client request : ℕ) (body : List ℕ) (b : Blocks) → record (memory_of sh spell (with_prepare w (prepare_of m given.checksum client request body))) { blocks = b } ≡ record (appended_in m (prepare_of m given.checksum client request body)) { blocks = b }
+  appended_memory : (client request : ℕ) (body : List ℕ) (b : Blocks) → record (memory_of sh spell (with_prepare w (prepare_of m (supplied_sum given) client request body))) { blocks = b } ≡ record (appended_in m (prepare_of m (supplied_sum given) client request body)) { blocks = b }
   appended_memory client request body b =
-      let p = prepare_of m given.checksum client request body in
+      let p = prepare_of m (supplied_sum given) client request body in
       let u = appended v (p ∷ []) in
       let stored = map (λ k. stored_sum (u.stored k)) (range_with_len 0 (length (sessions u))) in
       let noted_now : sessions u ≡ noted p.header (sessions v) = sessions-append v.checkpoint.parts.sessions v.tail (p ∷ []) in
@@ -142,19 +142,19 @@ module _ (sh : Shape) (spell : Parts → List ℕ) (w : Work) (given : Given) (w
       let last = last_checksum v.checkpoint.content.op_checksum (v.tail ++ p ∷ []) in
       ap (λ (h : ℕ). T h last (sessions u) sums stored) (let e : head u ≡ head v + 1 = omega (arith, length-append v.tail (p ∷ [])) in e)
       ∙ ap (λ (c : ℕ). T (head v + 1) c (sessions u) sums stored) (last_more v.checkpoint.content.op_checksum v.tail p)
-      ∙ ap (λ (ss : List Session). T (head v + 1) given.checksum ss sums stored) noted_now
-      ∙ ap (λ (ps : List ℕ). T (head v + 1) given.checksum (noted p.header (sessions v)) ps stored) (map-append sum_of_message v.tail (p ∷ []))
-      ∙ ap (λ (st : List (Option ℕ)). T (head v + 1) given.checksum (noted p.header (sessions v)) (map sum_of_message v.tail ++ given.checksum ∷ []) st) (
+      ∙ ap (λ (ss : List Session). T (head v + 1) (supplied_sum given) ss sums stored) noted_now
+      ∙ ap (λ (ps : List ℕ). T (head v + 1) (supplied_sum given) (noted p.header (sessions v)) ps stored) (map-append sum_of_message v.tail (p ∷ []))
+      ∙ ap (λ (st : List (Option ℕ)). T (head v + 1) (supplied_sum given) (noted p.header (sessions v)) (map sum_of_message v.tail ++ (supplied_sum given) ∷ []) st) (
       ap (λ (n : ℕ). map (λ k. stored_sum (u.stored k)) (range_with_len 0 n)) (ap length noted_now)
       ∙ noted_is p.header (head v) (omega arith) v.stored (slice_get (sessions u)) (sessions v) 0 (λ j. ap (slice_get (sessions u)) (let e : 0 + j ≡ j = omega arith in e) ∙ ap (λ (ss : List Session). slice_get ss j) noted_now) (tracks sh v work.view).below
       )
 
-  replied_memory : (body : List ℕ) (b : Blocks) → record (memory_of sh spell (with_reply w (place_of_reply m) (reply_of m given.checksum body))) { blocks = b } ≡ record (replied_in m given.checksum) { blocks = b }
+  replied_memory : (body : List ℕ) (b : Blocks) → record (memory_of sh spell (with_reply w (place_of_reply m) (reply_of m (supplied_sum given) body))) { blocks = b } ≡ record (replied_in m (supplied_sum given)) { blocks = b }
   replied_memory body b =
       let place = place_of_reply m in
-      let r = reply_of m given.checksum body in
+      let r = reply_of m (supplied_sum given) body in
       ap (λ (st : List (Option ℕ)). record m { blocks = b; replies = m.replies + 1; stored = st; waiting = drop 1 m.waiting })
-      (map_set (λ k. stored_sum (if k == place then Some r else v.stored k)) (λ k. stored_sum (v.stored k)) (Some given.checksum) 0 (length (sessions v)) place (λ k apart. ap stored_sum (not_there k place r (λ same. apart (omega arith)))) (ap stored_sum (is_there (0 + place) place r (omega arith))))
+      (map_set (λ k. stored_sum (if k == place then Some r else v.stored k)) (λ k. stored_sum (v.stored k)) (Some (supplied_sum given)) 0 (length (sessions v)) place (λ k apart. ap stored_sum (not_there k place r (λ same. apart (omega arith)))) (ap stored_sum (is_there (0 + place) place r (omega arith))))
     where
       not_there : (k place : ℕ) (r : Message) → (k ≡ place → ⊥) → (if k == place then Some r else w.view.stored k) ≡ w.view.stored k
       not_there k place r apart = go (k == place) refl
@@ -170,28 +170,28 @@ module _ (sh : Shape) (spell : Parts → List ℕ) (w : Work) (given : Given) (w
           go true is = refl
           go false is = absurd (grind (arith, nat_tests))
 
-  finished_memory : (r : Running) (b : Blocks) → w.running ≡ Some r → r.left ≡ [] → record (memory_of sh spell (finished sh spell w r given.checksum)) { blocks = b } ≡ record (course_on m given.checksum (course spell r) []) { blocks = b }
+  finished_memory : (r : Running) (b : Blocks) → w.running ≡ Some r → r.left ≡ [] → record (memory_of sh spell (finished sh spell w r (supplied_sum given))) { blocks = b } ≡ record (course_on m (supplied_sum given) (course spell r) []) { blocks = b }
   finished_memory r b at done =
       let is = work.running r at in
-      let c = checkpoint_of sh spell w r given.checksum in
+      let c = checkpoint_of sh spell w r (supplied_sum given) in
       let u = checkpointed v c in
       let n = r.op - v.checkpoint.content.op in
       let T : ℕ → ℕ → List Session → List ℕ → List (Option ℕ) → Memory = λ h k ss ps st. record m { blocks = b; content = c.content; root = r.parts.root; head = h; head_checksum = k; sessions = ss; prepares = ps; stored = st; running = None } in
       let stored : ℕ → List (Option ℕ) = λ k. map (λ i. stored_sum (v.stored i)) (range_with_len 0 k) in
-      let same = same_sessions sh spell w r given.checksum work is done in
-      ap (λ (h : ℕ). T h (last_checksum r.op_checksum (drop n v.tail)) (sessions u) (map sum_of_message (drop n v.tail)) (stored (length (sessions u)))) (head_same sh spell w r given.checksum work is done)
+      let same = same_sessions sh spell w r (supplied_sum given) work is done in
+      ap (λ (h : ℕ). T h (last_checksum r.op_checksum (drop n v.tail)) (sessions u) (map sum_of_message (drop n v.tail)) (stored (length (sessions u)))) (head_same sh spell w r (supplied_sum given) work is done)
       ∙ ap (λ (k : ℕ). T (head v) k (sessions u) (map sum_of_message (drop n v.tail)) (stored (length (sessions u)))) (ap (λ (k : ℕ). last_checksum k (drop n v.tail)) is.op_checksum ∙ last_split n v.checkpoint.content.op_checksum v.tail)
       ∙ ap (λ (ss : List Session). T (head v) m.head_checksum ss (map sum_of_message (drop n v.tail)) (stored (length ss))) same
       ∙ ap (λ (ps : List ℕ). T (head v) m.head_checksum (sessions v) ps (stored (length (sessions v)))) (sym (drop-map sum_of_message n v.tail))
 
-  trailer_memory : (r : Running) (a : ℕ) (more : List ℕ) (b : Blocks) → record (memory_of sh spell (with_trailer_block w r a (next_trailer sh spell w r given.checksum) more)) { blocks = b } ≡ record (course_on m given.checksum (course spell r) (a ∷ more)) { blocks = b }
-  trailer_memory r a more b = ap (λ (n : ℕ). record m { blocks = b; running = Some (record (course spell r) { count = n; last = a; last_checksum = given.checksum; left = more }) }) (let e : suc (length r.written) ≡ length r.written + 1 = omega arith in e)
+  trailer_memory : (r : Running) (a : ℕ) (more : List ℕ) (b : Blocks) → record (memory_of sh spell (with_trailer_block w r a (next_trailer sh spell w r (supplied_sum given)) more)) { blocks = b } ≡ record (course_on m (supplied_sum given) (course spell r) (a ∷ more)) { blocks = b }
+  trailer_memory r a more b = ap (λ (n : ℕ). record m { blocks = b; running = Some (record (course spell r) { count = n; last = a; last_checksum = supplied_sum given; left = more }) }) (let e : suc (length r.written) ≡ length r.written + 1 = omega arith in e)
 
-  running_memory : (r : Running) (l : List ℕ) (b : Blocks) → w.running ≡ Some r → r.left ≡ l → record (memory_of sh spell (after_running sh spell w given.checksum r l).0) { blocks = b } ≡ record (course_on m given.checksum (course spell r) l) { blocks = b }
+  running_memory : (r : Running) (l : List ℕ) (b : Blocks) → w.running ≡ Some r → r.left ≡ l → record (memory_of sh spell (after_running sh spell w (supplied_sum given) r l).0) { blocks = b } ≡ record (course_on m (supplied_sum given) (course spell r) l) { blocks = b }
   running_memory r [] b at left = finished_memory r b at left
   running_memory r (a ∷ more) b at left = trailer_memory r a more b
 
-  step_memory : (o : Option Running) (b : Blocks) → w.running ≡ o → record (memory_of sh spell (after_step_of sh spell w given.checksum o).0) { blocks = b } ≡ record (step_in m given.checksum (course_of spell o)) { blocks = b }
+  step_memory : (o : Option Running) (b : Blocks) → w.running ≡ o → record (memory_of sh spell (after_step_of sh spell w (supplied_sum given) o).0) { blocks = b } ≡ record (step_in m (supplied_sum given) (course_of spell o)) { blocks = b }
   step_memory None b at = refl
   step_memory (Some r) b at = running_memory r r.left b at refl
 
@@ -207,16 +207,16 @@ module _ (sh : Shape) (spell : Parts → List ℕ) (w : Work) (given : Given) (w
 
   pub change_is : (c : Command) → memory_of sh spell (after sh spell w given c).0 ≡ memory_after spell m given c
   change_is (Append client request body) =
-      let p = prepare_of m given.checksum client request body in
+      let p = prepare_of m (supplied_sum given) client request body in
       let b = blocks_after spell m given (Append client request body) in
-      outcome_memory sh spell (first_refusal (append_refusals m client request body)) w (with_prepare w p) (p.header.op, given.checksum) (appended_in m p) b (blocks_law sh spell w given (Append client request body)) (λ none. appended_memory client request body b)
+      outcome_memory sh spell (first_refusal (append_refusals m client request body)) w (with_prepare w p) (p.header.op, supplied_sum given) (appended_in m p) b (blocks_law sh spell w given (Append client request body)) (λ none. appended_memory client request body b)
   change_is (Reply op body) =
       let b = blocks_after spell m given (Reply op body) in
-      outcome_memory sh spell (first_refusal (reply_refusals m op body)) w (with_reply w (place_of_reply m) (reply_of m given.checksum body)) given.checksum (replied_in m given.checksum) b (blocks_law sh spell w given (Reply op body)) (λ none. replied_memory body b)
+      outcome_memory sh spell (first_refusal (reply_refusals m op body)) w (with_reply w (place_of_reply m) (reply_of m (supplied_sum given) body)) (supplied_sum given) (replied_in m (supplied_sum given)) b (blocks_law sh spell w given (Reply op body)) (λ none. replied_memory body b)
   change_is (WriteBlock kind body) =
       let a = next_address m in
       let b = blocks_after spell m given (WriteBlock kind body) in
-      outcome_memory sh spell (first_refusal (block_refusals m kind body)) w (with_live w a (Some given.checksum)) (a, given.checksum) m b (blocks_law sh spell w given (WriteBlock kind body)) (λ none. refl)
+      outcome_memory sh spell (first_refusal (block_refusals m kind body)) w (with_live w a (Some (supplied_sum given))) (a, supplied_sum given) m b (blocks_law sh spell w given (WriteBlock kind body)) (λ none. refl)
       ∙ same_unless (first_refusal (block_refusals m kind body)) m b
   change_is (Release address) =
       let b = blocks_after spell m given (Release address) in
@@ -226,11 +226,11 @@ module _ (sh : Shape) (spell : Parts → List ℕ) (w : Work) (given : Given) (w
       let b = blocks_after spell m given (Begin root) in
       let needed = needed_of spell m root in
       outcome_memory sh spell (first_refusal (begin_refusals m needed root)) w (with_running w (Some (begun sh spell w root))) needed _ b (blocks_law sh spell w given (Begin root)) (λ none. refl)
-  change_is Advance = rightly (after_step_of sh spell w given.checksum w.running).0 (step_in m given.checksum m.running) (blocks_after spell m given Advance) (blocks_law sh spell w given Advance) (step_memory w.running (blocks_after spell m given Advance) refl)
+  change_is Advance = rightly (after_step_of sh spell w (supplied_sum given) w.running).0 (step_in m (supplied_sum given) m.running) (blocks_after spell m given Advance) (blocks_law sh spell w given Advance) (step_memory w.running (blocks_after spell m given Advance) refl)
   change_is (ReadPrepare op) = refl
   change_is (ReadReply client) = refl
   change_is (ReadBlock address) = refl
-  change_is Scrub = rightly (after_check w given.verdict (to_check m)).0 (checked_in m given.verdict (to_check m)) (blocks_after spell m given Scrub) (blocks_law sh spell w given Scrub) (check_memory given.verdict (to_check m) (blocks_after spell m given Scrub))
+  change_is Scrub = rightly (after_check w (supplied_verdict given) (to_check m)).0 (checked_in m (supplied_verdict given) (to_check m)) (blocks_after spell m given Scrub) (blocks_law sh spell w given Scrub) (check_memory (supplied_verdict given) (to_check m) (blocks_after spell m given Scrub))
   change_is Recent = refl
 
 pub change_law : ChangeLaw

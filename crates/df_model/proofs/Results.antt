@@ -1,5 +1,5 @@
 -- Calls over a device answer the fold of the machine.
-use Rattle.std.proofs.Common.{◌≡◌, ℕ, ◌+◌, ◌%◌, List, [], ◌∷◌, Option, Some, None, Result, refl, sym, ◌∙◌, ap, subst}
+use Rattle.std.proofs.Common.{◌≡◌, ℕ, ◌+◌, ◌%◌, List, [], ◌∷◌, Option, Some, None, refl, sym, ◌∙◌, ap, subst}
 use Rattle.df_layout.specs.declared.damage.Class.{Class}
 use Rattle.df_theory.specs.Units.{AnyUnit, Block, BlockPlace, BlockUnit, Content, CopyPlace, CopyUnit, HeaderPlace, Message, Parts, Place, PreparePlace, PrepareUnit, ReplyPlace, ReplyUnit, Units, or_else, overlay}
 use Rattle.df_theory.specs.Shape.{Shape}
@@ -14,12 +14,11 @@ use Rattle.df_model.specs.Blocks.{sum_at}
 use Rattle.df_model.specs.Refusals.{append_refusals, block_refusals, first_refusal, reply_refusals}
 use Rattle.df_model.specs.Making.{block_of, next_address, place_of_reply, prepare_of, reply_of}
 use Rattle.df_model.specs.After.{checkpoint_of, next_trailer, place_of_client, to_check}
-use Rattle.df_model.specs.Commands.{Advance, Answer, Append, Begin, Command, Given, ReadBlock, ReadPrepare, ReadReply, Recent, Release, Reply, Scrub, WriteBlock, after}
-use Rattle.df_model.specs.Supply.{Codec, Shown, block_at, block_given, block_read, class_or, copies_of, first_check, message_given, no_trailer, nothing, prepare_at, prepare_given, puts_of, reply_at, reply_given, result, step_puts, supplied, trailer_puts, unless, verdict_of}
+use Rattle.df_model.specs.Commands.{Advance, Answer, Append, Begin, Command, ForReadBlock, ForReadPrepare, ForReadReply, ForScrub, Given, ReadBlock, ReadPrepare, ReadReply, Recent, Release, Reply, Scrub, WriteBlock, after, supplied_sum}
+use Rattle.df_model.specs.Supply.{Codec, Shown, block_at, block_given, block_read, checksum_given, class_or, copies_of, first_check, message_given, next, no_trailer, nothing, prepare_at, prepare_given, puts_of, reply_at, reply_given, result, step_puts, supplied, trailer_puts, unless, verdict_of}
 use Rattle.df_model.specs.Laws.{Does, DoesAdvance, DoesAdvanceTo, DoesAppend, DoesBlock, DoesFinish, DoesReply, UnlessRefused}
 use Rattle.df_model.specs.Runs.{Act, answers_of}
 use Rattle.df_model.specs.Result.{AgreeReads, AreServed, ResultLaw, WritesLaw, commands_of}
-use Rattle.df_model.specs.declared.answers.Verdict.{Verdict}
 
 -- ---- what is supplied
 
@@ -52,12 +51,33 @@ module _ (codec : Codec) (m : Memory) (image other : Units) (damage : Place → 
   check_same [] = refl
   check_same (x ∷ more) = ap verdict_of (block_same (Some x.1) x.0)
 
+  -- what makes a unit is supplied with a checksum that isn't of what is shown
   pub supplied_same : (c : Command) → supplied codec s m c ≡ supplied codec t m c
-  supplied_same c =
-      let g = supplied codec s m c in
-      ap (λ (x : Result Message Class). record g { message = x }) (message_same c)
-      ∙ ap (λ (x : Result Block Class). record g { message = message_given t m c; block = x }) (read_same c)
-      ∙ ap (λ (x : Verdict). record g { message = message_given t m c; block = block_read t m c; verdict = x }) (check_same (to_check m))
+  supplied_same (Append client request body) = refl
+  supplied_same (Reply op body) = refl
+  supplied_same (WriteBlock kind body) = refl
+  supplied_same (Release address) = refl
+  supplied_same (Begin root) = refl
+  supplied_same Advance = refl
+  supplied_same (ReadPrepare op) = ap ForReadPrepare (message_same (ReadPrepare op))
+  supplied_same (ReadReply client) = ap ForReadReply (message_same (ReadReply client))
+  supplied_same (ReadBlock address) = ap ForReadBlock (read_same (ReadBlock address))
+  supplied_same Scrub = ap ForScrub (check_same (to_check m))
+  supplied_same Recent = refl
+
+-- the checksum that is supplied is the codec's
+supplied_by : (codec : Codec) (shown : Shown) (m : Memory) (c : Command) → supplied_sum (supplied codec shown m c) ≡ checksum_given codec m c
+supplied_by codec shown m (Append client request body) = refl
+supplied_by codec shown m (Reply op body) = refl
+supplied_by codec shown m (WriteBlock kind body) = refl
+supplied_by codec shown m (Release address) = refl
+supplied_by codec shown m (Begin root) = refl
+supplied_by codec shown m Advance = refl
+supplied_by codec shown m (ReadPrepare op) = refl
+supplied_by codec shown m (ReadReply client) = refl
+supplied_by codec shown m (ReadBlock address) = refl
+supplied_by codec shown m Scrub = refl
+supplied_by codec shown m Recent = refl
 
 -- ---- what is written
 
@@ -132,17 +152,17 @@ module _ (sh : Shape) (spell : Parts → List ℕ) (log : UnitLog) (w : Work) (g
   abbrev m : Memory
   m = memory_of sh spell w
 
-  append_writes : (client request : ℕ) (body : List ℕ) → DoesAppend sh (now log) w.view (prepare_of m given.checksum client request body) steps
-      → Shows log steps (put_one (PreparePlace ((m.head + 1) % sh.layout.slots)) (PrepareUnit (prepare_of m given.checksum client request body))) under
+  append_writes : (client request : ℕ) (body : List ℕ) → DoesAppend sh (now log) w.view (prepare_of m (supplied_sum given) client request body) steps
+      → Shows log steps (put_one (PreparePlace ((m.head + 1) % sh.layout.slots)) (PrepareUnit (prepare_of m (supplied_sum given) client request body))) under
   append_writes client request body does =
-      let p = prepare_of m given.checksum client request body in
+      let p = prepare_of m (supplied_sum given) client request body in
       subst (λ (ss : List Step). Shows log ss (put_one (PreparePlace ((m.head + 1) % sh.layout.slots)) (PrepareUnit p)) under) (sym does.are)
       (agree_aside does.headers (overlay does.prepare (now log)) (overlay (put_one (PreparePlace ((m.head + 1) % sh.layout.slots)) (PrepareUnit p)) under) (headers_aside sh does.headers (overlay does.prepare (now log)) (now log) p does.sector)
       (agree_one does.prepare (now log) under (PreparePlace ((m.head + 1) % sh.layout.slots)) (PrepareUnit p) does.one agree))
 
-  finish_writes : (c : Content) → (r : Running) → (c ≡ (checkpoint_of sh spell w r given.checksum).content) → DoesFinish w.view (checkpoint_of sh spell w r given.checksum) steps → Shows log steps (copies_of c) under
+  finish_writes : (c : Content) → (r : Running) → (c ≡ (checkpoint_of sh spell w r (supplied_sum given)).content) → DoesFinish w.view (checkpoint_of sh spell w r (supplied_sum given)) steps → Shows log steps (copies_of c) under
   finish_writes c r is does =
-      let d = (checkpoint_of sh spell w r given.checksum).content in
+      let d = (checkpoint_of sh spell w r (supplied_sum given)).content in
       let image0 = overlay does.puts.put0 (now log) in
       let image1 = overlay does.puts.put1 image0 in
       let image2 = overlay does.puts.put2 image1 in
@@ -153,22 +173,22 @@ module _ (sh : Shape) (spell : Parts → List ℕ) (log : UnitLog) (w : Work) (g
       (agree_aside does.puts.put1 image0 under (copy_aside does.puts.put1 image0 1 d does.puts.one1)
       (agree_aside does.puts.put0 (now log) under (copy_aside does.puts.put0 (now log) 0 d does.puts.one0) agree)))))
 
-  advance_to : (r : Running) (l : List ℕ) → DoesAdvanceTo sh spell w given.checksum r l steps → Shows log steps (trailer_puts m (course spell r) given.checksum l) under
-  advance_to r [] does = finish_writes (checkpoint_of sh spell w r given.checksum).content r refl does
-  advance_to r (a ∷ more) does = block_writes log steps w.view a (next_trailer sh spell w r given.checksum) under agree does
+  advance_to : (r : Running) (l : List ℕ) → DoesAdvanceTo sh spell w (supplied_sum given) r l steps → Shows log steps (trailer_puts m (course spell r) (supplied_sum given) l) under
+  advance_to r [] does = finish_writes (checkpoint_of sh spell w r (supplied_sum given)).content r refl does
+  advance_to r (a ∷ more) does = block_writes log steps w.view a (next_trailer sh spell w r (supplied_sum given)) under agree does
 
-  advances : (o : Option Running) → w.running ≡ o → DoesAdvance sh spell w given.checksum o steps → Shows log steps (step_puts m m.running given.checksum) under
-  advances None is does = subst (λ (o : Option Running). Shows log steps (step_puts m (course_of spell o) given.checksum) under) (sym is) (idle log steps under does agree)
-  advances (Some r) is does = subst (λ (o : Option Running). Shows log steps (step_puts m (course_of spell o) given.checksum) under) (sym is) (advance_to r r.left does)
+  advances : (o : Option Running) → w.running ≡ o → DoesAdvance sh spell w (supplied_sum given) o steps → Shows log steps (step_puts m m.running (supplied_sum given)) under
+  advances None is does = subst (λ (o : Option Running). Shows log steps (step_puts m (course_of spell o) (supplied_sum given)) under) (sym is) (idle log steps under does agree)
+  advances (Some r) is does = subst (λ (o : Option Running). Shows log steps (step_puts m (course_of spell o) (supplied_sum given)) under) (sym is) (advance_to r r.left does)
 
-  pub shows_next : (c : Command) → Does sh spell (now log) w given c steps → Shows log steps (puts_of m given.checksum c) under
+  pub shows_next : (c : Command) → Does sh spell (now log) w given c steps → Shows log steps (puts_of m (supplied_sum given) c) under
   shows_next (Append client request body) does = unless_refused log (first_refusal (append_refusals m client request body)) steps _ _ under agree (append_writes client request body) does
   shows_next (Reply op body) does =
       let place = place_of_reply m in
-      let r = reply_of m given.checksum body in
+      let r = reply_of m (supplied_sum given) body in
       unless_refused log (first_refusal (reply_refusals m op body)) steps (DoesReply w.view place r steps) (put_one (ReplyPlace place) (ReplyUnit r)) under agree (λ done.
       subst (λ (ss : List Step). Shows log ss (put_one (ReplyPlace place) (ReplyUnit r)) under) (sym done.are) (agree_one done.put (now log) under (ReplyPlace place) (ReplyUnit r) done.one agree)) does
-  shows_next (WriteBlock kind body) does = unless_refused log (first_refusal (block_refusals m kind body)) steps _ _ under agree (λ done. block_writes log steps w.view (next_address m) (block_of given.checksum kind body) under agree done) does
+  shows_next (WriteBlock kind body) does = unless_refused log (first_refusal (block_refusals m kind body)) steps _ _ under agree (λ done. block_writes log steps w.view (next_address m) (block_of (supplied_sum given) kind body) under agree done) does
   shows_next (Release address) does = idle log steps under does agree
   shows_next (Begin root) does = idle log steps under does agree
   shows_next Advance does = advances w.running refl does
@@ -193,9 +213,10 @@ folds sh codec damage log under w (act ∷ acts) agree served =
     let m = memory_of sh codec.spell w in
     let s : Shown = record { units = under; damage = damage } in
     let given : act.given ≡ supplied codec s m act.command = served.0 ∙ supplied_same codec m (now log) under damage agree act.command in
-    let later : AgreeReads (now (after_steps act.steps log)) (overlay (puts_of m act.given.checksum act.command) under) = shows_next sh codec.spell log w act.given act.steps under agree act.command served.1 in
-    ap (λ (rest : List Answer). (after sh codec.spell w act.given act.command).1 ∷ rest) (folds sh codec damage (after_steps act.steps log) (overlay (puts_of m act.given.checksum act.command) under) (after sh codec.spell w act.given act.command).0 acts later served.2)
-    ∙ ap (λ (g : Given). (after sh codec.spell w g act.command).1 ∷ result sh codec (record { units = overlay (puts_of m g.checksum act.command) under; damage = damage }) (after sh codec.spell w g act.command).0 (commands_of acts)) given
+    let later : AgreeReads (now (after_steps act.steps log)) (overlay (puts_of m (supplied_sum act.given) act.command) under) = shows_next sh codec.spell log w act.given act.steps under agree act.command served.1 in
+    ap (λ (rest : List Answer). (after sh codec.spell w act.given act.command).1 ∷ rest) (folds sh codec damage (after_steps act.steps log) (overlay (puts_of m (supplied_sum act.given) act.command) under) (after sh codec.spell w act.given act.command).0 acts later served.2)
+    ∙ ap (λ (g : Given). (after sh codec.spell w g act.command).1 ∷ result sh codec (record { units = overlay (puts_of m (supplied_sum g) act.command) under; damage = damage }) (after sh codec.spell w g act.command).0 (commands_of acts)) given
+    ∙ ap (λ (sum : ℕ). (next sh codec s w act.command).1 ∷ result sh codec (record { units = overlay (puts_of m sum act.command) under; damage = damage }) (next sh codec s w act.command).0 (commands_of acts)) (supplied_by codec s m act.command)
 
 pub result_law : ResultLaw
 result_law sh codec damage log w acts served = folds sh codec damage log (now log) w acts (agree_self (now log)) served

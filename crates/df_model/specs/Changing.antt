@@ -13,7 +13,7 @@ use Rattle.df_model.specs.Codec.{InGrid}
 use Rattle.df_model.specs.Sense.{IsWork}
 use Rattle.df_model.specs.declared.answers.Verdict.{Verdict}
 use Rattle.df_model.specs.declared.answers.Verdict.TheVariants.{Sound, Failing}
-use Rattle.df_model.specs.Commands.{Advance, Append, Begin, Command, Given, Release, Reply, Scrub, WriteBlock, after}
+use Rattle.df_model.specs.Commands.{Advance, Append, Begin, Command, Given, Release, Reply, Scrub, WriteBlock, after, supplied_sum, supplied_verdict}
 
 -- ---- what is kept of the grid
 
@@ -31,10 +31,10 @@ after_step_in b sum None = b
 after_step_in b sum (Some r) = trailer_step b sum r.left
 
 abbrev pub blocks_after : (Parts → List ℕ) → Memory → Given → Command → Blocks
-blocks_after spell m given (WriteBlock kind body) = unless_refused (first_refusal (block_refusals m kind body)) m.blocks (block_written m.blocks (next_address m) given.checksum)
+blocks_after spell m given (WriteBlock kind body) = unless_refused (first_refusal (block_refusals m kind body)) m.blocks (block_written m.blocks (next_address m) (supplied_sum given))
 blocks_after spell m given (Release address) = unless_refused (first_refusal (release_refusals m address)) m.blocks (block_released m.blocks address)
 blocks_after spell m given (Begin root) = unless_refused (first_refusal (begin_refusals m (needed_of spell m root) root)) m.blocks (blocks_captured m.blocks (take (needed_of spell m root) (free_of m)))
-blocks_after spell m given Advance = after_step_in m.blocks given.checksum m.running
+blocks_after spell m given Advance = after_step_in m.blocks (supplied_sum given) m.running
 blocks_after spell m given command = m.blocks
 
 abbrev pub BlocksLaw : Type 0
@@ -83,11 +83,11 @@ checked_in m Sound (x ∷ more) = record m { tour = record { last = x.0; checked
 checked_in m (Failing class) (x ∷ more) = record m { tour = record { last = x.0; checked = m.tour.checked + 1; failing = m.tour.failing + 1 }; findings = newest (m.findings ++ record { address = x.0; «class» = class } ∷ []) }
 
 abbrev pub rest_after : (Parts → List ℕ) → Memory → Given → Command → Memory
-rest_after spell m given (Append client request body) = unless_refused (first_refusal (append_refusals m client request body)) m (appended_in m (prepare_of m given.checksum client request body))
-rest_after spell m given (Reply op body) = unless_refused (first_refusal (reply_refusals m op body)) m (replied_in m given.checksum)
+rest_after spell m given (Append client request body) = unless_refused (first_refusal (append_refusals m client request body)) m (appended_in m (prepare_of m (supplied_sum given) client request body))
+rest_after spell m given (Reply op body) = unless_refused (first_refusal (reply_refusals m op body)) m (replied_in m (supplied_sum given))
 rest_after spell m given (Begin root) = unless_refused (first_refusal (begin_refusals m (needed_of spell m root) root)) m (record m { running = Some (begun_in spell m root) })
-rest_after spell m given Advance = step_in m given.checksum m.running
-rest_after spell m given Scrub = checked_in m given.verdict (to_check m)
+rest_after spell m given Advance = step_in m (supplied_sum given) m.running
+rest_after spell m given Scrub = checked_in m (supplied_verdict given) (to_check m)
 rest_after spell m given command = m
 
 -- what is in memory after a command

@@ -1,5 +1,5 @@
 -- What a trailer may say, and how it is spelled.
-use Rattle.std.specs.Prelude.{◌≡◌, ◌<◌, ◌≤◌, ◌^◌, ℕ, List, length, Some}
+use Rattle.std.specs.Prelude.{◌≡◌, ◌<◌, ◌≤◌, ◌^◌, ℕ, List, [], ◌∷◌, length, Some}
 use Rattle.std.specs.List.{slice_get}
 pub use Rattle.df_base.specs.Fields.{AreBytes}
 use Rattle.df_theory.specs.Units.{Layout, Parts, Session}
@@ -13,6 +13,10 @@ InGrid l a = (0 < a) × (a ≤ l.blocks)
 -- a checksum is 16 bytes long
 abbrev pub IsChecksum : ℕ → Type 0
 IsChecksum c = c < 2 ^ 128
+
+abbrev pub AreChecksums : List ℕ → Type 0
+AreChecksums [] = Unit {0}
+AreChecksums (c ∷ cs) = IsChecksum c × AreChecksums cs
 
 -- the fields of a session are in range
 pub record IsLawfulSession (s : Session) : Type 0 where

@@ -1,12 +1,14 @@
 -- Commands, what is supplied to them and what they answer, and the machine: one function for all.
-use Rattle.std.specs.Prelude.{ℕ, ◌<◌, ◌^◌, List, Result}
+use Rattle.std.specs.Prelude.{ℕ, ◌<◌, ◌^◌, List, [], Result, Err}
 use Rattle.df_layout.specs.declared.damage.Class.{Class}
+use Rattle.df_layout.specs.declared.damage.Class.TheVariants.{Blank}
 use Rattle.df_layout.specs.declared.damage.Finding.{Finding}
 use Rattle.df_theory.specs.Units.{Block, Message, Parts}
 use Rattle.df_theory.specs.Shape.{Shape}
 use Rattle.df_model.specs.Work.{Work}
 use Rattle.df_model.specs.Memory.{memory_of}
-use Rattle.df_model.specs.Codec.{AreBytes, IsChecksum}
+use Rattle.df_model.specs.Codec.{AreBytes, AreChecksums}
+use Rattle.df_model.specs.Making.{first_of}
 use Rattle.df_model.specs.After.{after_advance, after_append, after_begin, after_block, after_release, after_reply, after_scrub, lookup_answer, prepare_answer, read_answer}
 use Rattle.df_model.specs.declared.errors.AppendError.{AppendError}
 use Rattle.df_model.specs.declared.errors.ReplyError.{ReplyError}
@@ -19,6 +21,7 @@ use Rattle.df_model.specs.declared.reading.PrepareError.{PrepareError}
 use Rattle.df_model.specs.declared.reading.LookupError.{LookupError}
 use Rattle.df_model.specs.declared.reading.ReadError.{ReadError}
 use Rattle.df_model.specs.declared.answers.Verdict.{Verdict}
+use Rattle.df_model.specs.declared.answers.Verdict.TheVariants.{Sound}
 use Rattle.df_model.specs.declared.answers.Scrubbed.{Scrubbed}
 
 pub data Command : Type 0 where
@@ -34,12 +37,44 @@ pub data Command : Type 0 where
   Scrub : Command
   Recent : Command
 
--- what the device and the codecs supply: the checksum of the unit that the command makes, and the unit that is wanted at the place that it reads, or the class of what is shown there
-pub record Given : Type 0 where
-  pub checksum : ℕ
-  pub message : Result Message Class
-  pub block : Result Block Class
-  pub verdict : Verdict
+-- what the device and the codecs supply, a case for each command: the checksums of the units that it makes, in their order (one today); or the unit that is wanted at the place that it reads, or the class of what is shown there
+pub data Given : Type 0 where
+  ForAppend : (checksums : List ℕ) → Given
+  ForReply : (checksums : List ℕ) → Given
+  ForWriteBlock : (checksums : List ℕ) → Given
+  ForRelease : Given
+  ForBegin : Given
+  ForAdvance : (checksums : List ℕ) → Given
+  ForReadPrepare : (message : Result Message Class) → Given
+  ForReadReply : (message : Result Message Class) → Given
+  ForReadBlock : (block : Result Block Class) → Given
+  ForScrub : (verdict : Verdict) → Given
+  ForRecent : Given
+
+-- what is supplied of each kind: no checksums, a blank place and a sound block where the case has none
+abbrev pub supplied_sums : Given → List ℕ
+supplied_sums (ForAppend checksums) = checksums
+supplied_sums (ForReply checksums) = checksums
+supplied_sums (ForWriteBlock checksums) = checksums
+supplied_sums (ForAdvance checksums) = checksums
+supplied_sums given = []
+
+abbrev pub supplied_message : Given → Result Message Class
+supplied_message (ForReadPrepare message) = message
+supplied_message (ForReadReply message) = message
+supplied_message given = Err Blank
+
+abbrev pub supplied_block : Given → Result Block Class
+supplied_block (ForReadBlock block) = block
+supplied_block given = Err Blank
+
+abbrev pub supplied_verdict : Given → Verdict
+supplied_verdict (ForScrub verdict) = verdict
+supplied_verdict given = Sound
+
+-- the checksum of the one unit that a command makes
+abbrev pub supplied_sum : Given → ℕ
+supplied_sum given = first_of (supplied_sums given)
 
 -- the fields are in the range of their types
 abbrev pub IsInRange : Command → Type 0
@@ -57,7 +92,7 @@ IsInRange Recent = Unit {0}
 
 -- what is supplied is in range too
 pub record IsInput (given : Given) (command : Command) : Type 0 where
-  pub checksum : IsChecksum given.checksum
+  pub checksums : AreChecksums (supplied_sums given)
   pub fields : IsInRange command
 
 pub data Answer : Type 0 where
@@ -78,14 +113,14 @@ as_answer answer pair = (pair.0, answer pair.1)
 
 -- the state after a command, and its answer
 abbrev pub after : Shape → (Parts → List ℕ) → Work → Given → Command → Work × Answer
-after sh spell w given (Append client request body) = as_answer ToAppend (after_append sh spell w given.checksum client request body)
-after sh spell w given (Reply op body) = as_answer ToReply (after_reply sh spell w given.checksum op body)
-after sh spell w given (WriteBlock kind body) = as_answer ToWriteBlock (after_block sh spell w given.checksum kind body)
+after sh spell w given (Append client request body) = as_answer ToAppend (after_append sh spell w (supplied_sum given) client request body)
+after sh spell w given (Reply op body) = as_answer ToReply (after_reply sh spell w (supplied_sum given) op body)
+after sh spell w given (WriteBlock kind body) = as_answer ToWriteBlock (after_block sh spell w (supplied_sum given) kind body)
 after sh spell w given (Release address) = as_answer ToRelease (after_release sh spell w address)
 after sh spell w given (Begin root) = as_answer ToBegin (after_begin sh spell w root)
-after sh spell w given Advance = as_answer ToAdvance (after_advance sh spell w given.checksum)
-after sh spell w given (ReadPrepare op) = (w, ToReadPrepare (prepare_answer (memory_of sh spell w) given.message op))
-after sh spell w given (ReadReply client) = (w, ToReadReply (lookup_answer (memory_of sh spell w) given.message client))
-after sh spell w given (ReadBlock address) = (w, ToReadBlock (read_answer (memory_of sh spell w) given.block address))
-after sh spell w given Scrub = as_answer ToScrub (after_scrub sh spell w given.verdict)
+after sh spell w given Advance = as_answer ToAdvance (after_advance sh spell w (supplied_sum given))
+after sh spell w given (ReadPrepare op) = (w, ToReadPrepare (prepare_answer (memory_of sh spell w) (supplied_message given) op))
+after sh spell w given (ReadReply client) = (w, ToReadReply (lookup_answer (memory_of sh spell w) (supplied_message given) client))
+after sh spell w given (ReadBlock address) = (w, ToReadBlock (read_answer (memory_of sh spell w) (supplied_block given) address))
+after sh spell w given Scrub = as_answer ToScrub (after_scrub sh spell w (supplied_verdict given))
 after sh spell w given Recent = (w, ToRecent w.findings)

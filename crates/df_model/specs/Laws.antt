@@ -22,7 +22,7 @@ use Rattle.df_model.specs.After.{next_trailer, checkpoint_of}
 use Rattle.df_model.specs.Sense.{IsBacked, IsVersionOne, IsWork, ShowsWritten}
 use Rattle.df_model.specs.Memory.{memory_of, message_room}
 use Rattle.df_model.specs.Making.{block_of, next_address, place_of_reply, prepare_of, reply_of}
-use Rattle.df_model.specs.Commands.{Advance, Append, Begin, Command, Given, IsInput, ReadBlock, ReadPrepare, ReadReply, Recent, Release, Reply, Scrub, WriteBlock, after}
+use Rattle.df_model.specs.Commands.{Advance, Append, Begin, Command, Given, IsInput, ReadBlock, ReadPrepare, ReadReply, Recent, Release, Reply, Scrub, WriteBlock, after, supplied_sum}
 
 -- ---- the state keeps its sense
 
@@ -145,10 +145,10 @@ DoesAdvance sh spell w sum (Some r) steps = DoesAdvanceTo sh spell w sum r r.lef
 
 -- the steps of a command, over the image that is shown at its start
 abbrev pub Does : Shape → (Parts → List ℕ) → Units → Work → Given → Command → List Step → Type 0
-Does sh spell image w given (Append client request body) steps = UnlessRefused (first_refusal (append_refusals (memory_of sh spell w) client request body)) steps (DoesAppend sh image w.view (prepare_of (memory_of sh spell w) given.checksum client request body) steps)
-Does sh spell image w given (Reply op body) steps = UnlessRefused (first_refusal (reply_refusals (memory_of sh spell w) op body)) steps (DoesReply w.view (place_of_reply (memory_of sh spell w)) (reply_of (memory_of sh spell w) given.checksum body) steps)
-Does sh spell image w given (WriteBlock kind body) steps = UnlessRefused (first_refusal (block_refusals (memory_of sh spell w) kind body)) steps (DoesBlock w.view (next_address (memory_of sh spell w)) (block_of given.checksum kind body) steps)
-Does sh spell image w given Advance steps = DoesAdvance sh spell w given.checksum w.running steps
+Does sh spell image w given (Append client request body) steps = UnlessRefused (first_refusal (append_refusals (memory_of sh spell w) client request body)) steps (DoesAppend sh image w.view (prepare_of (memory_of sh spell w) (supplied_sum given) client request body) steps)
+Does sh spell image w given (Reply op body) steps = UnlessRefused (first_refusal (reply_refusals (memory_of sh spell w) op body)) steps (DoesReply w.view (place_of_reply (memory_of sh spell w)) (reply_of (memory_of sh spell w) (supplied_sum given) body) steps)
+Does sh spell image w given (WriteBlock kind body) steps = UnlessRefused (first_refusal (block_refusals (memory_of sh spell w) kind body)) steps (DoesBlock w.view (next_address (memory_of sh spell w)) (block_of (supplied_sum given) kind body) steps)
+Does sh spell image w given Advance steps = DoesAdvance sh spell w (supplied_sum given) w.running steps
 Does sh spell image w given (Release address) steps = DoesNothing steps
 Does sh spell image w given (Begin root) steps = DoesNothing steps
 Does sh spell image w given (ReadPrepare op) steps = DoesNothing steps

@@ -1,4 +1,5 @@
 pub mod Work
+pub mod Views
 pub mod Blocks
 pub mod Memory
 pub mod Refusals

@@ -11,7 +11,7 @@ use Rattle.df_model.specs.Blocks.{sum_at}
 use Rattle.df_model.specs.Refusals.{append_refusals, block_refusals, first_refusal, reply_refusals}
 use Rattle.df_model.specs.Making.{block_of, content_of, next_address, place_of_reply, prepare_of, reply_of, trailer_block}
 use Rattle.df_model.specs.After.{place_of_client, to_check}
-use Rattle.df_model.specs.Commands.{Advance, Answer, Append, Command, Given, ReadBlock, ReadPrepare, ReadReply, Reply, WriteBlock, after}
+use Rattle.df_model.specs.Commands.{Advance, Answer, Append, Begin, Command, ForAdvance, ForAppend, ForBegin, ForReadBlock, ForReadPrepare, ForReadReply, ForRecent, ForRelease, ForReply, ForScrub, ForWriteBlock, Given, ReadBlock, ReadPrepare, ReadReply, Recent, Release, Reply, Scrub, WriteBlock, after}
 use Rattle.df_model.specs.declared.answers.Verdict.{Verdict}
 use Rattle.df_model.specs.declared.answers.Verdict.TheVariants.{Sound, Failing}
 
@@ -112,13 +112,19 @@ abbrev pub first_check : Shown → List (ℕ × ℕ) → Verdict
 first_check shown [] = Sound
 first_check shown (x ∷ more) = check_of shown x
 
+-- what is supplied to a command: the checksum of the one unit that it makes, or what is shown where it looks
 abbrev pub supplied : Codec → Shown → Memory → Command → Given
-supplied codec shown m command = record {
-  checksum = checksum_given codec m command;
-  message = message_given shown m command;
-  block = block_read shown m command;
-  verdict = first_check shown (to_check m);
-}
+supplied codec shown m (Append client request body) = ForAppend (checksum_given codec m (Append client request body) ∷ [])
+supplied codec shown m (Reply op body) = ForReply (checksum_given codec m (Reply op body) ∷ [])
+supplied codec shown m (WriteBlock kind body) = ForWriteBlock (checksum_given codec m (WriteBlock kind body) ∷ [])
+supplied codec shown m (Release address) = ForRelease
+supplied codec shown m (Begin root) = ForBegin
+supplied codec shown m Advance = ForAdvance (checksum_given codec m Advance ∷ [])
+supplied codec shown m (ReadPrepare op) = ForReadPrepare (message_given shown m (ReadPrepare op))
+supplied codec shown m (ReadReply client) = ForReadReply (message_given shown m (ReadReply client))
+supplied codec shown m (ReadBlock address) = ForReadBlock (block_read shown m (ReadBlock address))
+supplied codec shown m Scrub = ForScrub (first_check shown (to_check m))
+supplied codec shown m Recent = ForRecent
 
 -- ---- what a command leaves shown
 

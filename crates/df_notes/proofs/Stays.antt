@@ -1,9 +1,7 @@
 -- Kept notes are acts that were served, one append and one reply each.
-use Rattle.std.proofs.Common.{◌≡◌, ℕ, true, List, [], ◌∷◌, ◌++◌, append_assoc, append-nil, Option, refl, sym, ◌∙◌, ap, Result, Ok, Err}
+use Rattle.std.proofs.Common.{◌≡◌, ℕ, true, List, [], ◌∷◌, ◌++◌, append_assoc, append-nil, Option, refl, sym, ◌∙◌, ap, Result, Ok}
 use Rattle.df_base.specs.Log.{Event}
-use Rattle.df_layout.specs.declared.damage.Class.TheVariants.{Blank}
-use Rattle.df_model.specs.Commands.{Answer, Append, Given, Reply}
-use Rattle.df_model.specs.declared.answers.Verdict.TheVariants.{Sound}
+use Rattle.df_model.specs.Commands.{Answer, Append, ForAppend, ForReply, Reply}
 use Rattle.df_units.specs.Meaning.{number_of}
 use Rattle.df_replica.specs.Answering.{as_append, as_reply}
 use Rattle.df_replica.specs.Appending.{next_unit}
@@ -25,15 +23,12 @@ record AreServed (notes : List (List ℕ)) (m n : Moment) : Type 0 where
   are : notes_in acts ≡ notes
   served : IsServed m.replica n.replica m.told n.told acts answers events
 
-abbrev supply : ℕ → Given
-supply checksum = record { checksum = checksum; message = Err Blank; block = Err Blank; verdict = Sound }
-
 served : (m n : Moment) (notes : List (List ℕ)) → m.replica.live ≡ true → AreKept m notes n → AreServed notes m n
 served m n notes live Begun = record { acts = []; answers = []; events = []; are = refl; served = nothing_is_served m.replica m.told live }
 served m n notes live (Kept before note mid last kept is) =
     let s = served m mid before live kept in
-    let append : Act = record { command = Append 1 is.appended.0 note; given = supply (number_of (next_unit mid.replica 1 is.appended.0 note).header.checksum) } in
-    let reply : Act = record { command = Reply is.receipt.op []; given = supply (number_of (next_reply is.between []).header.checksum) } in
+    let append : Act = record { command = Append 1 is.appended.0 note; given = ForAppend (number_of (next_unit mid.replica 1 is.appended.0 note).header.checksum ∷ []) } in
+    let reply : Act = record { command = Reply is.receipt.op []; given = ForReply (number_of (next_reply is.between []).header.checksum ∷ []) } in
     let appending = is.appended.1 append.given refl in
     let replying = is.replied.1 reply.given refl in
     record {

@@ -7,7 +7,7 @@ use Rattle.df_model.specs.Memory.{memory_of}
 use Rattle.df_model.specs.Refusals.{append_refusals, begin_refusals, block_refusals, first_refusal, is_running, release_refusals, reply_refusals, steps_left}
 use Rattle.df_model.specs.Making.{needed_of, next_address, place_of_reply, prepare_of, reply_of}
 use Rattle.df_model.specs.After.{after_check, after_running, after_step_of, begun, outcome, to_check, with_live, with_prepare, with_reply, with_running}
-use Rattle.df_model.specs.Commands.{Advance, Append, Begin, Command, ReadBlock, ReadPrepare, ReadReply, Recent, Release, Reply, Scrub, WriteBlock}
+use Rattle.df_model.specs.Commands.{Advance, Append, Begin, Command, ReadBlock, ReadPrepare, ReadReply, Recent, Release, Reply, Scrub, WriteBlock, supplied_sum, supplied_verdict}
 use Rattle.df_model.specs.Supply.{Codec, Shown, next, shown_after, supplied}
 use Rattle.df_model.specs.declared.answers.Verdict.{Verdict}
 use Rattle.df_model.specs.declared.answers.Verdict.TheVariants.{Sound, Failing}
@@ -54,13 +54,13 @@ module _ (sh : Shape) (codec : Codec) where
       outcome_bare (first_refusal (reply_refusals m op body)) w (with_reply w (place_of_reply m) (reply_of m sum body)) sum
   work_bare shown w (WriteBlock kind body) other =
       let m = memory_of sh spell w in
-      let sum = (supplied codec shown m (WriteBlock kind body)).checksum in
+      let sum = supplied_sum (supplied codec shown m (WriteBlock kind body)) in
       outcome_bare (first_refusal (block_refusals m kind body)) w (with_live w (next_address m) (Some sum)) (next_address m, sum)
   work_bare shown w (Release address) other = outcome_bare {A = Unit {0}} (first_refusal (release_refusals (memory_of sh spell w) address)) w (with_live w address None) tt
   work_bare shown w (Begin root) other =
       let m = memory_of sh spell w in
       outcome_bare (first_refusal (begin_refusals m (needed_of spell m root) root)) w (with_running w (Some (begun sh spell w root))) (needed_of spell m root)
-  work_bare shown w Advance other = step_bare w (supplied codec shown (memory_of sh spell w) Advance).checksum w.running
+  work_bare shown w Advance other = step_bare w (supplied_sum (supplied codec shown (memory_of sh spell w) Advance)) w.running
   work_bare shown w (ReadPrepare op) other = refl
   work_bare shown w (ReadReply client) other = refl
   work_bare shown w (ReadBlock address) other = refl
@@ -106,7 +106,7 @@ module _ (sh : Shape) (codec : Codec) where
   check_bare w (Failing class) (x ∷ more) = refl
 
   scrub_bare : (x : Stand) → bare_at (by_loop sh codec x Scrub) ≡ bare_at x
-  scrub_bare x = ap (λ (w : Work). record x { work = w }) (check_bare x.work (supplied codec x.shown (memory_of sh spell x.work) Scrub).verdict (to_check (memory_of sh spell x.work)))
+  scrub_bare x = ap (λ (w : Work). record x { work = w }) (check_bare x.work (supplied_verdict (supplied codec x.shown (memory_of sh spell x.work) Scrub)) (to_check (memory_of sh spell x.work)))
 
   scrubs_bare : (n : ℕ) (x : Stand) → bare_at (all_by_loop sh codec x (replicate n Scrub)) ≡ bare_at x
   scrubs_bare zero x = refl

@@ -12,7 +12,7 @@ use Rattle.df_model.specs.Memory.{Memory, course, course_of, memory_of, stored_s
 use Rattle.df_model.specs.Refusals.{begin_refusals, first_refusal, is_running, steps_left}
 use Rattle.df_model.specs.Making.{needed_of}
 use Rattle.df_model.specs.After.{after_check, after_running, after_step_of, begun, outcome, to_check, with_running}
-use Rattle.df_model.specs.Commands.{Advance, Begin, Scrub}
+use Rattle.df_model.specs.Commands.{Advance, Begin, Scrub, supplied_sum, supplied_verdict}
 use Rattle.df_model.specs.Supply.{Codec, Shown, class_at, reply_given, step_puts, supplied, trailer_puts}
 use Rattle.df_model.specs.declared.answers.Verdict.{Verdict}
 use Rattle.df_model.specs.declared.answers.Verdict.TheVariants.{Sound, Failing}
@@ -118,7 +118,7 @@ module _ (sh : Shape) (codec : Codec) where
   step_stays x sum k (Some r) way goes = run_stays x sum k r r.left way
 
   advance_stays : (x : Stand) → Goes x.work → Stays x (by_loop sh codec x Advance)
-  advance_stays x goes = step_stays x (supplied codec x.shown (memory_at x) Advance).checksum _ x.work.running goes goes
+  advance_stays x goes = step_stays x (supplied_sum (supplied codec x.shown (memory_at x) Advance)) _ x.work.running goes goes
 
   check_stays : (x : Stand) (k : ℕ) (verdict : Verdict) (xs : List (ℕ × ℕ)) → Goes x.work → Stays x (record { shown = x.shown; work = (after_check x.work verdict xs).0; appended = k })
   check_stays x k verdict [] goes = record { told = refl; goes = goes }
@@ -126,7 +126,7 @@ module _ (sh : Shape) (codec : Codec) where
   check_stays x k (Failing class) (y ∷ more) goes = record { told = refl; goes = goes }
 
   scrub_stays : (x : Stand) → Goes x.work → Stays x (by_loop sh codec x Scrub)
-  scrub_stays x goes = check_stays x _ (supplied codec x.shown (memory_at x) Scrub).verdict (to_check (memory_at x)) goes
+  scrub_stays x goes = check_stays x _ (supplied_verdict (supplied codec x.shown (memory_at x) Scrub)) (to_check (memory_at x)) goes
 
   then_stays : (x y z : Stand) → Stays x y → (Goes y.work → Stays y z) → Stays x z
   then_stays x y z first second = let next = second first.goes in record { told = next.told ∙ first.told; goes = next.goes }

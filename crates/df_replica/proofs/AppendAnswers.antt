@@ -1,5 +1,5 @@
 -- Each append is the machine's: its answer, the state behind it, and what it does to the disk.
-use Rattle.std.proofs.Common.{◌≡◌, ℕ, ◌+◌, ◌%◌, ◌^◌, ◌<◌, ◌≤◌, true, false, List, [], length, Option, Some, None, refl, sym, ◌∙◌, ap, subst, arith}
+use Rattle.std.proofs.Common.{◌≡◌, ℕ, ◌+◌, ◌%◌, ◌^◌, ◌<◌, ◌≤◌, true, false, List, [], ◌∷◌, length, Option, Some, None, refl, sym, ◌∙◌, ap, subst, arith}
 use Rattle.std.specs.Prelude.{Ok, Err}
 use Rattle.std.proofs.Math.Nat.{mod-lt}
 use Rattle.std.proofs.lemmas.Option.{same_Some}
@@ -17,8 +17,8 @@ use Rattle.df_theory.specs.Shape.{Shape}
 use Rattle.df_units.specs.Meaning.{number_of}
 use Rattle.df_model.specs.After.{outcome, with_prepare}
 use Rattle.df_model.specs.Changing.{appended_in, blocks_after, unless_refused}
-use Rattle.df_model.specs.Codec.{IsChecksum}
-use Rattle.df_model.specs.Commands.{Answer, Append, Command, Given, IsInput, ToAppend, as_answer}
+use Rattle.df_model.specs.Codec.{AreChecksums}
+use Rattle.df_model.specs.Commands.{Answer, Append, Command, ForAppend, Given, IsInput, ToAppend, as_answer, supplied_sum, supplied_sums}
 use Rattle.df_model.specs.Faults.{is_append_fault}
 use Rattle.df_model.specs.Making.{prepare_of}
 use Rattle.df_model.specs.Memory.{Memory, memory_of}
@@ -41,7 +41,7 @@ use Rattle.df_replica.proofs.Calls.{AreCalls, Answered, answered_call, stopped_c
 use Rattle.df_replica.proofs.WritesOn.{StandsIn}
 use Rattle.df_replica.proofs.Unblamed.{append_unblamed, refused_answer}
 
-module _ (s : State) (client request : ℕ) (body : List ℕ) (given : Given) (is : IsState s) (live : s.live ≡ true) (fits : client < 2 ^ 128) (sum : given.checksum ≡ number_of (next_unit s client request body).header.checksum) where
+module _ (s : State) (client request : ℕ) (body : List ℕ) (given : Given) (is : IsState s) (live : s.live ≡ true) (fits : client < 2 ^ 128) (sum : given ≡ ForAppend (number_of (next_unit s client request body).header.checksum ∷ [])) where
   abbrev u : Message
   u = next_unit s client request body
 
@@ -49,15 +49,15 @@ module _ (s : State) (client request : ℕ) (body : List ℕ) (given : Given) (i
   command = Append client request body
 
   input : IsInput given command
-  input = record { checksum = subst IsChecksum (sym sum) (field_at-lt 16 0 u.header.checksum (AreBytes-check_of (spelling_rest (for_body (header_given s client request) body)))); fields = fits }
+  input = record { checksums = subst (λ (g : Given). AreChecksums (supplied_sums g)) (sym sum) (field_at-lt 16 0 u.header.checksum (AreBytes-check_of (spelling_rest (for_body (header_given s client request) body))), tt); fields = fits }
 
   -- ---- a refusal
 
   module _ (e : AppendError) (some : first_refusal (append_refusals (memory s) client request body) ≡ Some e) where
     refused_next : (w : Work) → Represents s w → next s.file w given command ≡ (w, ToAppend (Err e))
     refused_next w rep =
-        let p = prepare_of (memory_of (shape s.file) (spelling s.file) w) given.checksum client request body in
-        ap (λ (o : Option AppendError). as_answer ToAppend (outcome o w (with_prepare w p) (p.header.op, given.checksum))) (test_is s client request body given is sum w rep (Some e) some)
+        let p = prepare_of (memory_of (shape s.file) (spelling s.file) w) (supplied_sum given) client request body in
+        ap (λ (o : Option AppendError). as_answer ToAppend (outcome o w (with_prepare w p) (p.header.op, supplied_sum given))) (test_is s client request body given is sum w rep (Some e) some)
 
     refused_as : Answered given command s s [] (ToAppend (Err e))
     refused_as = record {
@@ -91,10 +91,10 @@ module _ (s : State) (client request : ℕ) (body : List ℕ) (given : Given) (i
       m = memory_of sh (spelling s.file) w
 
       abbrev p : theory.Message
-      p = prepare_of m given.checksum client request body
+      p = prepare_of m (supplied_sum given) client request body
 
       abbrev pair : ℕ × ℕ
-      pair = (p.header.op, given.checksum)
+      pair = (p.header.op, supplied_sum given)
 
       none_there : first_refusal (append_refusals m client request body) ≡ None
       none_there = test_is s client request body given is sum w rep None none
@@ -110,13 +110,13 @@ module _ (s : State) (client request : ℕ) (body : List ℕ) (given : Given) (i
       stands : Represents (appended s u) (with_prepare w p)
       stands =
           appended_memory s client request body is room slot_inside
-          ∙ (λ i. appended_in (rep i) (prepare_of (rep i) (sym sum i) client request body))
+          ∙ (λ i. appended_in (rep i) (prepare_of (rep i) (supplied_sum (sym sum i)) client request body))
           ∙ sym memory_is
 
       allowed_at : (answer ≡ (next s.file w given command).1) × Represents (appended s u) (next s.file w given command).0
       allowed_at =
           subst (λ (x : Work × Answer). (answer ≡ x.1) × Represents (appended s u) x.0) (sym next_is)
-          ((λ i. ToAppend (Ok ((rep i).head + 1, sym sum i))), stands)
+          ((λ i. ToAppend (Ok ((rep i).head + 1, supplied_sum (sym sum i)))), stands)
 
     allowed_as : Answered given command s (appended s u) (append_events s u) answer
     allowed_as = record {

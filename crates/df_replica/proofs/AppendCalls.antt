@@ -29,7 +29,7 @@ use Rattle.df_units.specs.Bytes.{unit_at}
 use Rattle.df_units.specs.Meaning.{header_of, layout_of, message_of, number_of}
 use Rattle.df_units.specs.Puts.{IsNextSector, header_unit, put_headers}
 use Rattle.df_units.proofs.Laws.{sector_puts}
-use Rattle.df_model.specs.Commands.{Append, Command, Given}
+use Rattle.df_model.specs.Commands.{Append, Command, ForAppend, Given, supplied_sum}
 use Rattle.df_model.specs.Laws.{DoesAppend, UnlessRefused}
 use Rattle.df_model.specs.Making.{prepare_of}
 use Rattle.df_model.specs.Memory.{Memory, memory_of}
@@ -74,7 +74,7 @@ module _ (layout : Layout) (cluster : ℕ) (sh : Shape) (u : Message) (sector : 
 
 -- ---- an append
 
-module _ (s : State) (client request : ℕ) (body : List ℕ) (given : Given) (is : IsState s) (sum : given.checksum ≡ number_of (next_unit s client request body).header.checksum) where
+module _ (s : State) (client request : ℕ) (body : List ℕ) (given : Given) (is : IsState s) (sum : given ≡ ForAppend (number_of (next_unit s client request body).header.checksum ∷ [])) where
   abbrev u : Message
   u = next_unit s client request body
 
@@ -85,8 +85,8 @@ module _ (s : State) (client request : ℕ) (body : List ℕ) (given : Given) (i
     pub test_is : (o : Option AppendError) → first_refusal (append_refusals (memory s) client request body) ≡ o → first_refusal (append_refusals (memory_of (shape s.file) (spelling s.file) w) client request body) ≡ o
     test_is o there = ap (λ (x : Memory). first_refusal (append_refusals x client request body)) (sym rep) ∙ there
 
-    pub prepare_is : prepare_of (memory_of (shape s.file) (spelling s.file) w) given.checksum client request body ≡ message_of u
-    prepare_is i = prepare_of (sym rep i) (sum i) client request body
+    pub prepare_is : prepare_of (memory_of (shape s.file) (spelling s.file) w) (supplied_sum given) client request body ≡ message_of u
+    prepare_is i = prepare_of (sym rep i) (supplied_sum (sum i)) client request body
 
   -- what is refused does nothing
   pub refused_does : (e : AppendError) → first_refusal (append_refusals (memory s) client request body) ≡ Some e → AreCalls given command s []
@@ -96,7 +96,7 @@ module _ (s : State) (client request : ℕ) (body : List ℕ) (given : Given) (i
         steps = [];
         are = tt;
         does =
-            subst (λ (o : Option AppendError). UnlessRefused o [] (DoesAppend (shape s.file) (unit_at s.file.layout s.file.cluster (now t.log)) w.view (prepare_of m given.checksum client request body) []))
+            subst (λ (o : Option AppendError). UnlessRefused o [] (DoesAppend (shape s.file) (unit_at s.file.layout s.file.cluster (now t.log)) w.view (prepare_of m (supplied_sum given) client request body) []))
             (sym (test_is w k.stands (Some e) some)) refl;
       }
 
@@ -104,14 +104,14 @@ module _ (s : State) (client request : ℕ) (body : List ℕ) (given : Given) (i
   pub refused_makes : (e : AppendError) → first_refusal (append_refusals (memory s) client request body) ≡ Some e → (P : Place → AnyUnit → Type 0) (w : Work) → Represents s w
       → OfMade (shape s.file) (spelling s.file) P w given command
   refused_makes e some P w rep =
-      let p = prepare_of (memory_of (shape s.file) (spelling s.file) w) given.checksum client request body in
+      let p = prepare_of (memory_of (shape s.file) (spelling s.file) w) (supplied_sum given) client request body in
       subst (λ (o : Option AppendError). Unless o (P (PreparePlace (p.header.op % s.file.layout.slots)) (PrepareUnit p))) (sym (test_is w rep (Some e) some)) tt
 
   pub refused_puts : (e : AppendError) → first_refusal (append_refusals (memory s) client request body) ≡ Some e → Makes given command s []
   refused_puts e some =
       let m = memory s in
       makes_nothing given command s
-      (λ place. ap (λ (o : Option AppendError). unless o (put_one (PreparePlace ((m.head + 1) % m.layout.slots)) (PrepareUnit (prepare_of m given.checksum client request body))) place) some) (λ no. no)
+      (λ place. ap (λ (o : Option AppendError). unless o (put_one (PreparePlace ((m.head + 1) % m.layout.slots)) (PrepareUnit (prepare_of m (supplied_sum given) client request body))) place) some) (λ no. no)
 
   module _ (none : first_refusal (append_refusals (memory s) client request body) ≡ None) (own : IsInOwnSlot s.file.layout u) where
     brings : Brings s.file.layout s.file.cluster (place_in WalPrepares u.header.slot) u (sectors_of u)
@@ -122,7 +122,7 @@ module _ (s : State) (client request : ℕ) (body : List ℕ) (given : Given) (i
     allowed_makes w rep =
         let f = format s.file in
         let events = append_events s u in
-        let p = prepare_of (memory_of (shape s.file) (spelling s.file) w) given.checksum client request body in
+        let p = prepare_of (memory_of (shape s.file) (spelling s.file) w) (supplied_sum given) client request body in
         let wrote : StandsIn f events (PreparePlace u.header.slot) (PrepareUnit (message_of u)) =
         steps_stand f events (journal_steps u s.headers) (PreparePlace u.header.slot) (PrepareUnit (message_of u)) (append_steps s.file.layout u s.headers own is.ring (sectors_of u) brings)
         (inl (put_one_law (PreparePlace u.header.slot) (PrepareUnit (message_of u))).at) in
@@ -130,11 +130,11 @@ module _ (s : State) (client request : ℕ) (body : List ℕ) (given : Given) (i
         (subst (λ (q : theory.Message). StandsIn f events (PreparePlace (q.header.op % s.file.layout.slots)) (PrepareUnit q)) (sym (prepare_is w rep)) wrote)
 
     -- its steps put the prepare, and headers, which no call reads
-    put_is : (place : Place) → put_one (PreparePlace u.header.slot) (PrepareUnit (message_of u)) place ≡ puts_of (memory s) given.checksum command place
+    put_is : (place : Place) → put_one (PreparePlace u.header.slot) (PrepareUnit (message_of u)) place ≡ puts_of (memory s) (supplied_sum given) command place
     put_is place =
         let m = memory s in
-        let p : theory.Message = prepare_of m given.checksum client request body in
-        let same : p ≡ message_of u = λ i. prepare_of m (sum i) client request body in
+        let p : theory.Message = prepare_of m (supplied_sum given) client request body in
+        let same : p ≡ message_of u = λ i. prepare_of m (supplied_sum (sum i)) client request body in
         ap (λ (x : theory.Message). put_one (PreparePlace u.header.slot) (PrepareUnit x) place) (sym same)
         ∙ ap (λ (o : Option AppendError). unless o (put_one (PreparePlace ((m.head + 1) % m.layout.slots)) (PrepareUnit p)) place) (sym none)
 
@@ -171,7 +171,7 @@ module _ (s : State) (client request : ℕ) (body : List ℕ) (given : Given) (i
             steps = steps;
             are = append_steps s.file.layout u s.headers own is.ring (sectors_of u) brings;
             does =
-                subst (λ (o : Option AppendError). UnlessRefused o steps (DoesAppend (shape s.file) (unit_at s.file.layout s.file.cluster (now t.log)) w.view (prepare_of m given.checksum client request body) steps))
+                subst (λ (o : Option AppendError). UnlessRefused o steps (DoesAppend (shape s.file) (unit_at s.file.layout s.file.cluster (now t.log)) w.view (prepare_of m (supplied_sum given) client request body) steps))
                 (sym (test_is w k.stands None none))
                 (subst (λ (p : theory.Message). DoesAppend (shape s.file) (unit_at s.file.layout s.file.cluster (now t.log)) w.view p steps) (sym (prepare_is w k.stands)) does_append);
           }
@@ -187,7 +187,7 @@ module _ (s : State) (client request : ℕ) (body : List ℕ) (given : Given) (i
             tidy = by.tidy;
             may =
                 subst (λ (p : theory.Message). MayAppend (shape s.file) w.view (p ∷ [])) (prepare_is w k.stands)
-                (append_may_law (shape s.file) (spelling s.file) w given.checksum client request body by.sense (test_is w k.stands None none));
+                (append_may_law (shape s.file) (spelling s.file) w (supplied_sum given) client request body by.sense (test_is w k.stands None none));
             ring = k.ring;
           }
 

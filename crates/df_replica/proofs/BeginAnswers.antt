@@ -1,5 +1,5 @@
 -- Each begin is the machine's: its answer, and the state behind it. It does nothing to the disk.
-use Rattle.std.proofs.Common.{◌≡◌, ◌∙◌, ℕ, ◌<◌, ◌^◌, true, List, [], take, Option, Some, None, refl, sym, ap, subst, arith}
+use Rattle.std.proofs.Common.{◌≡◌, ◌∙◌, ℕ, true, List, [], take, Option, Some, None, refl, sym, ap, subst}
 use Rattle.std.specs.Prelude.{Ok, Err}
 use Rattle.std.proofs.lemmas.Option.{same_Some}
 use Rattle.df_base.specs.Fields.{AreBytes}
@@ -10,7 +10,7 @@ use Rattle.df_theory.specs.Units.{Parts}
 use Rattle.df_model.specs.After.{begun as begun_by, outcome, with_running}
 use Rattle.df_model.specs.Blocks.{blocks_captured}
 use Rattle.df_model.specs.Changing.{begun_in, unless_refused}
-use Rattle.df_model.specs.Commands.{Answer, Begin, Command, Given, IsInput, ToBegin, as_answer}
+use Rattle.df_model.specs.Commands.{Answer, Begin, Command, ForBegin, Given, IsInput, ToBegin, as_answer}
 use Rattle.df_model.specs.Making.{needed_of}
 use Rattle.df_model.specs.Memory.{Memory, free_of, memory_of}
 use Rattle.df_model.specs.Refusals.{begin_refusals, first_refusal}
@@ -25,17 +25,18 @@ use Rattle.df_replica.specs.Serving.{IsCall, next}
 use Rattle.df_replica.specs.Supply.{IsSupplied}
 use Rattle.df_replica.proofs.Calls.{AreCalls, Answered, answered_call}
 use Rattle.df_replica.proofs.Leaves.{Makes, makes_nothing}
+use Rattle.df_replica.proofs.ReadCalls.{no_sums}
 
 -- what a begin makes of the memory
 abbrev begun_memory : (Parts → List ℕ) → Memory → List ℕ → Memory
 begun_memory spell m root = record m { running = Some (begun_in spell m root); blocks = blocks_captured m.blocks (take (needed_of spell m root) (free_of m)) }
 
-module _ (s : State) (root : List ℕ) (given : Given) (bytes : AreBytes root) (live : s.live ≡ true) (zero_sum : given.checksum ≡ 0) where
+module _ (s : State) (root : List ℕ) (given : Given) (bytes : AreBytes root) (live : s.live ≡ true) (own : given ≡ ForBegin) where
   abbrev command : Command
   command = Begin root
 
   input : IsInput given command
-  input = record { checksum = (let small : given.checksum < 2 ^ 128 = omega (arith, zero_sum) in small); fields = bytes }
+  input = record { checksums = no_sums given ForBegin own refl; fields = bytes }
 
   -- it does nothing
   does : AreCalls given command s []

@@ -1,5 +1,5 @@
 -- Each write of a block is the machine's: its answer, the state behind it, and what it does to the disk.
-use Rattle.std.proofs.Common.{◌≡◌, ◌∙◌, ℕ, true, false, List, [], Option, Some, None, refl, sym, ap, subst}
+use Rattle.std.proofs.Common.{◌≡◌, ◌∙◌, ℕ, true, false, List, [], ◌∷◌, Option, Some, None, refl, sym, ap, subst}
 use Rattle.std.specs.Prelude.{Ok, Err}
 use Rattle.std.proofs.lemmas.Option.{same_Some}
 use Rattle.df_base.proofs.Laws.{AreBytes-check_of, field_at-lt, now_is_image}
@@ -29,8 +29,8 @@ use Rattle.df_units.proofs.Laws.{block_put, no_number}
 use Rattle.df_model.specs.After.{outcome, with_live}
 use Rattle.df_model.specs.Blocks.{block_written, with_entry}
 use Rattle.df_model.specs.Changing.{unless_refused}
-use Rattle.df_model.specs.Codec.{IsChecksum}
-use Rattle.df_model.specs.Commands.{Answer, Command, Given, IsInput, ToWriteBlock, WriteBlock, as_answer}
+use Rattle.df_model.specs.Codec.{AreChecksums}
+use Rattle.df_model.specs.Commands.{Answer, Command, ForWriteBlock, Given, IsInput, ToWriteBlock, WriteBlock, as_answer, supplied_sum, supplied_sums}
 use Rattle.df_model.specs.Faults.{is_block_fault}
 use Rattle.df_model.specs.Laws.{DoesBlock, UnlessRefused}
 use Rattle.df_model.specs.Making.{block_of, next_address}
@@ -52,7 +52,7 @@ use Rattle.df_replica.proofs.Leaves.{Makes, makes_nothing}
 use Rattle.df_replica.proofs.BlockStates.{blocks_memory}
 use Rattle.df_replica.proofs.Unblamed.{block_unblamed, refused_answer}
 
-module _ (s : State) (kind : ℕ) (body : List ℕ) (given : Given) (live : s.live ≡ true) (sum : given.checksum ≡ number_of (next_block s kind body).header.checksum) where
+module _ (s : State) (kind : ℕ) (body : List ℕ) (given : Given) (live : s.live ≡ true) (sum : given ≡ ForWriteBlock (number_of (next_block s kind body).header.checksum ∷ [])) where
   abbrev u : Message
   u = next_block s kind body
 
@@ -60,7 +60,7 @@ module _ (s : State) (kind : ℕ) (body : List ℕ) (given : Given) (live : s.li
   command = WriteBlock kind body
 
   input : IsInput given command
-  input = record { checksum = subst IsChecksum (sym sum) (field_at-lt 16 0 u.header.checksum (AreBytes-check_of (spelling_rest (for_body (block_given s (next_address (memory s)) kind) body)))); fields = tt }
+  input = record { checksums = subst (λ (g : Given). AreChecksums (supplied_sums g)) (sym sum) (field_at-lt 16 0 u.header.checksum (AreBytes-check_of (spelling_rest (for_body (block_given s (next_address (memory s)) kind) body))), tt); fields = tt }
 
   module _ (w : Work) (rep : Represents s w) where
     test_is : (o : Option BlockError) → first_refusal (block_refusals (memory s) kind body) ≡ o → first_refusal (block_refusals (memory_of (shape s.file) (spelling s.file) w) kind body) ≡ o
@@ -72,8 +72,8 @@ module _ (s : State) (kind : ℕ) (body : List ℕ) (given : Given) (live : s.li
     refused_next : (w : Work) → Represents s w → next s.file w given command ≡ (w, ToWriteBlock (Err e))
     refused_next w rep =
         let a = next_address (memory_of (shape s.file) (spelling s.file) w) in
-        let pair : ℕ × ℕ = (a, given.checksum) in
-        ap (λ (o : Option BlockError). as_answer ToWriteBlock (outcome o w (with_live w a (Some given.checksum)) pair)) (test_is w rep (Some e) some)
+        let pair : ℕ × ℕ = (a, supplied_sum given) in
+        ap (λ (o : Option BlockError). as_answer ToWriteBlock (outcome o w (with_live w a (Some (supplied_sum given))) pair)) (test_is w rep (Some e) some)
 
     refused_does : AreCalls given command s []
     refused_does g w t k =
@@ -81,13 +81,13 @@ module _ (s : State) (kind : ℕ) (body : List ℕ) (given : Given) (live : s.li
         record {
           steps = [];
           are = tt;
-          does = subst (λ (o : Option BlockError). UnlessRefused o [] (DoesBlock w.view (next_address m) (block_of given.checksum kind body) [])) (sym (test_is w k.stands (Some e) some)) refl;
+          does = subst (λ (o : Option BlockError). UnlessRefused o [] (DoesBlock w.view (next_address m) (block_of (supplied_sum given) kind body) [])) (sym (test_is w k.stands (Some e) some)) refl;
         }
 
     refused_puts : Makes given command s []
     refused_puts =
         let m = memory s in
-        makes_nothing given command s (λ place. ap (λ (o : Option BlockError). unless o (put_one (BlockPlace (next_address m)) (BlockUnit (block_of given.checksum kind body))) place) some) (λ no. no)
+        makes_nothing given command s (λ place. ap (λ (o : Option BlockError). unless o (put_one (BlockPlace (next_address m)) (BlockUnit (block_of (supplied_sum given) kind body))) place) some) (λ no. no)
 
     refused_as : Answered given command s s [] (ToWriteBlock (Err e))
     refused_as = record {
@@ -114,9 +114,9 @@ module _ (s : State) (kind : ℕ) (body : List ℕ) (given : Given) (live : s.li
       none_there : first_refusal (block_refusals (memory_of (shape s.file) (spelling s.file) w) kind body) ≡ None
       none_there = test_is w rep None none
 
-    block_is : block_of given.checksum kind body ≡ meaning.block_of u
+    block_is : block_of (supplied_sum given) kind body ≡ meaning.block_of u
     block_is =
-        ap (λ (n : ℕ). block_of n kind body) sum
+        ap (λ (g : Given). block_of (supplied_sum g) kind body) sum
         ∙ ap (λ (n : ℕ). record (block_of (number_of u.header.checksum) kind body) { before_checksum = n }) (sym no_number)
 
     does_block : (g : Grade) (w : Work) (t : Told) → IsKept g s w t.log → DoesOnDisk (format s.file) (shape s.file) (spelling s.file) t.log w given command (block_events s u)
@@ -128,16 +128,16 @@ module _ (s : State) (kind : ℕ) (body : List ℕ) (given : Given) (live : s.li
           steps = steps;
           are = wrote;
           does =
-              subst (λ (o : Option BlockError). UnlessRefused o steps (DoesBlock w.view (next_address m) (block_of given.checksum kind body) steps)) (sym (none_there w k.stands))
+              subst (λ (o : Option BlockError). UnlessRefused o steps (DoesBlock w.view (next_address m) (block_of (supplied_sum given) kind body) steps)) (sym (none_there w k.stands))
               (subst (λ (b : theory.Block). DoesBlock w.view (next_address m) b steps) (sym block_is)
               (subst (λ (a : ℕ). DoesBlock w.view a (meaning.block_of u) steps) (sym (address_is w k.stands)) does));
         }
 
     -- its steps put that block
-    put_is : (place : Place) → put_one (BlockPlace u.header.op) (BlockUnit (meaning.block_of u)) place ≡ puts_of (memory s) given.checksum command place
+    put_is : (place : Place) → put_one (BlockPlace u.header.op) (BlockUnit (meaning.block_of u)) place ≡ puts_of (memory s) (supplied_sum given) command place
     put_is place =
         let m = memory s in
-        let b : theory.Block = block_of given.checksum kind body in
+        let b : theory.Block = block_of (supplied_sum given) kind body in
         ap (λ (x : theory.Block). put_one (BlockPlace u.header.op) (BlockUnit x) place) (sym block_is)
         ∙ ap (λ (o : Option BlockError). unless o (put_one (BlockPlace (next_address m)) (BlockUnit b)) place) (sym none)
 
@@ -160,29 +160,29 @@ module _ (s : State) (kind : ℕ) (body : List ℕ) (given : Given) (live : s.li
       m = memory_of (shape s.file) (spelling s.file) w
 
       abbrev later : Work
-      later = with_live w (next_address m) (Some given.checksum)
+      later = with_live w (next_address m) (Some (supplied_sum given))
 
       abbrev pair : ℕ × ℕ
-      pair = (next_address m, given.checksum)
+      pair = (next_address m, supplied_sum given)
 
       next_is : next s.file w given command ≡ (later, ToWriteBlock (Ok pair))
       next_is = ap (λ (o : Option BlockError). as_answer ToWriteBlock (outcome o w later pair)) (none_there w rep)
 
-      memory_is : memory_of (shape s.file) (spelling s.file) later ≡ record m { blocks = block_written m.blocks (next_address m) given.checksum }
+      memory_is : memory_of (shape s.file) (spelling s.file) later ≡ record m { blocks = block_written m.blocks (next_address m) (supplied_sum given) }
       memory_is =
-          subst (λ (o : Option BlockError). memory_of (shape s.file) (spelling s.file) (outcome o w later pair).0 ≡ record m { blocks = unless_refused o m.blocks (block_written m.blocks (next_address m) given.checksum) })
+          subst (λ (o : Option BlockError). memory_of (shape s.file) (spelling s.file) (outcome o w later pair).0 ≡ record m { blocks = unless_refused o m.blocks (block_written m.blocks (next_address m) (supplied_sum given)) })
           (none_there w rep) (change_law (shape s.file) (spelling s.file) w given command work)
 
       stands : Represents (written s u.header) later
       stands =
           blocks_memory s (with_entry u.header.op (number_of u.header.checksum) s.blocks.live)
-          ∙ (λ i. record (rep i) { blocks = block_written (rep i).blocks (next_address (rep i)) (sym sum i) })
+          ∙ (λ i. record (rep i) { blocks = block_written (rep i).blocks (next_address (rep i)) (supplied_sum (sym sum i)) })
           ∙ sym memory_is
 
       allowed_at : (answer ≡ (next s.file w given command).1) × Represents (written s u.header) (next s.file w given command).0
       allowed_at =
           subst (λ (x : Work × Answer). (answer ≡ x.1) × Represents (written s u.header) x.0) (sym next_is)
-          ((λ i. ToWriteBlock (Ok (sym (address_is w rep) i, sym sum i))), stands)
+          ((λ i. ToWriteBlock (Ok (sym (address_is w rep) i, supplied_sum (sym sum i)))), stands)
 
     -- the header ring shows what it did
     ring_kept : (g : Grade) (w : Work) (a b : Told) → IsKept g s w a.log → Some b ≡ after_all (block_events s u) (Some a) → ShowsRing s.file.layout s.file.cluster (now b.log) s.headers

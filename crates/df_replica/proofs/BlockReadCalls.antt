@@ -20,7 +20,7 @@ use Rattle.df_theory.specs.Units
 use Rattle.df_model.specs.After as after
 use Rattle.df_model.specs.After.{shown_or}
 use Rattle.df_model.specs.Blocks.{sum_at}
-use Rattle.df_model.specs.Commands.{Given, IsInput, ReadBlock, ToReadBlock}
+use Rattle.df_model.specs.Commands.{ForReadBlock, Given, IsInput, ReadBlock, ToReadBlock, supplied_block}
 use Rattle.df_model.specs.Memory.{Memory}
 use Rattle.df_model.specs.Refusals.{first_refusal, read_refusals}
 use Rattle.df_model.specs.Work.{is_known}
@@ -32,7 +32,7 @@ use Rattle.df_replica.specs.BlockReads.{IsBlockFound, IsReadBlock}
 use Rattle.df_replica.specs.Supply.{IsSupplied}
 use Rattle.df_replica.proofs.Calls.{AreCalls, Answered, answered_call, stopped_call}
 use Rattle.df_replica.proofs.Leaves.{makes_nothing}
-use Rattle.df_replica.proofs.ReadCalls.{zero_sum}
+use Rattle.df_replica.proofs.ReadCalls.{no_sums}
 
 module _ (s : State) (address : ℕ) (live : s.live ≡ true) where
   abbrev damaged : Class → ReadError
@@ -42,36 +42,36 @@ module _ (s : State) (address : ℕ) (live : s.live ≡ true) where
   calls given g w t k = record { steps = []; are = tt; does = refl }
 
   input : (told : Option Told) (given : Given) → IsSupplied s told (ReadBlock address) given → IsInput given (ReadBlock address)
-  input told given supplied = record { checksum = zero_sum given supplied.0; fields = tt }
+  input told given supplied = record { checksums = no_sums given (ForReadBlock (supplied_block given)) supplied.0 refl; fields = tt }
 
-  answered : (given : Given) (answer : Result Units.Block ReadError) → after.read_answer (memory s) given.block address ≡ answer → Answered given (ReadBlock address) s s [] (ToReadBlock answer)
+  answered : (given : Given) (answer : Result Units.Block ReadError) → after.read_answer (memory s) (supplied_block given) address ≡ answer → Answered given (ReadBlock address) s s [] (ToReadBlock answer)
   answered given answer same = record {
     file = refl;
     live = live;
-    stands = λ w work rep. (ap ToReadBlock (sym same) ∙ ap (λ (m : Memory). ToReadBlock (after.read_answer m given.block address)) rep, rep);
+    stands = λ w work rep. (ap ToReadBlock (sym same) ∙ ap (λ (m : Memory). ToReadBlock (after.read_answer m (supplied_block given) address)) rep, rep);
     made = λ w work rep. tt;
     ring = λ g w a b k all. subst (λ (x : Told). ShowsRing s.file.layout s.file.cluster (now x.log) s.headers) (sym (same_Some _ _ all)) k.ring;
   }
 
   answers : (told : Option Told) (found : Option (Result Units.Block Class)) (answer : Result Units.Block ReadError)
-      → ((given : Given) → IsSupplied s told (ReadBlock address) given → GivesBlock told found given → after.read_answer (memory s) given.block address ≡ answer)
+      → ((given : Given) → IsSupplied s told (ReadBlock address) given → GivesBlock told found given → after.read_answer (memory s) (supplied_block given) address ≡ answer)
       → ServesBlockRead (ReadBlock address) s s told found (Some (ToReadBlock answer))
   answers told found answer same given supplied gives =
       answered_call given (ReadBlock address) s [] (input told given supplied) (calls given) (makes_nothing given (ReadBlock address) s (λ place. refl) (λ no. no)) s (ToReadBlock answer) (answered given answer (same given supplied gives)) told told supplied refl
 
-  block_is : (told : Option Told) (b : Result Units.Block Class) → IsBlockFound s address told b → (given : Given) → IsSupplied s told (ReadBlock address) given → GivesBlock told (Some b) given → given.block ≡ b
+  block_is : (told : Option Told) (b : Result Units.Block Class) → IsBlockFound s address told b → (given : Given) → IsSupplied s told (ReadBlock address) given → GivesBlock told (Some b) given → supplied_block given ≡ b
   block_is None b by given supplied gives = gives
   block_is (Some t) b by given supplied gives = supplied.1 ∙ sym by
 
   -- a refusal
   pub block_refused : (told : Option Told) (e : ReadError) → first_refusal (read_refusals (memory s) address) ≡ Some e → ServesBlockRead (ReadBlock address) s s told None (Some (ToReadBlock (Err e)))
-  block_refused told e some = answers told None (Err e) (λ given supplied gives. ap (λ (o : Option ReadError). shown_or o damaged given.block) some)
+  block_refused told e some = answers told None (Err e) (λ given supplied gives. ap (λ (o : Option ReadError). shown_or o damaged (supplied_block given)) some)
 
   -- what was found
   pub block_serves : (told : Option Told) (b : Result Units.Block Class) → first_refusal (read_refusals (memory s) address) ≡ None → IsBlockFound s address told b
       → ServesBlockRead (ReadBlock address) s s told (Some b) (Some (ToReadBlock (shown_or None damaged b)))
   block_serves told b none by = answers told (Some b) (shown_or None damaged b) (λ given supplied gives.
-      ap (λ (o : Option ReadError). shown_or o damaged given.block) none ∙ ap (λ (r : Result Units.Block Class). shown_or None damaged r) (block_is told b by given supplied gives))
+      ap (λ (o : Option ReadError). shown_or o damaged (supplied_block given)) none ∙ ap (λ (r : Result Units.Block Class). shown_or None damaged r) (block_is told b by given supplied gives))
 
   -- a fault
   pub block_stopped : (told : Option Told) (t : State) → t.live ≡ false → ServesBlockRead (ReadBlock address) s t told None None

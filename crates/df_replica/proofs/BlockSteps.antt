@@ -15,7 +15,7 @@ use Rattle.df_units.specs.Format.{format_of}
 use Rattle.df_units.specs.Meaning.{block_of}
 use Rattle.df_grid.specs.Writes.{block_steps}
 use Rattle.df_model.specs.After.{next_trailer}
-use Rattle.df_model.specs.Commands.{Advance, Answer, Given, ToAdvance}
+use Rattle.df_model.specs.Commands.{Advance, Answer, ForAdvance, Given, ToAdvance, supplied_sum}
 use Rattle.df_model.specs.Laws.{DoesBlock}
 use Rattle.df_model.specs.Making.{first_of, piece_of, trailer_block}
 use Rattle.df_model.specs.Memory.{Course, block_room}
@@ -36,15 +36,15 @@ use Rattle.df_replica.proofs.WritesOn.{StandsIn, steps_stand}
 
 module _ (s : State) (r : RunningState) (a : ℕ) (more : List ℕ) (given : Given) (is : IsRunning s.file s.fields s.head s.blocks r) (running : s.running ≡ Some r) (left : s.blocks.left ≡ a ∷ more)
     (unit : block_of (trailer_unit s r) ≡ block_to_write s r (block_sum s r)) (steps : AreSteps (format_of s.file.layout s.file.cluster) (block_events s r) (block_steps (trailer_unit s r)))
-    (sum : given.checksum ≡ made_by s s.running) where
+    (sum : given ≡ ForAdvance (made_by s s.running ∷ [])) where
   abbrev given_steps : List Step
   given_steps = block_steps (trailer_unit s r)
 
-  sum_here : given.checksum ≡ block_sum s r
+  sum_here : supplied_sum given ≡ block_sum s r
   sum_here = sum_is s r given running sum ∙ ap (made_for s r) left
 
   -- the block is the machine's
-  block_is : (w : Work) (rep : Represents s w) → block_of (trailer_unit s r) ≡ next_trailer (shape s.file) (spelling s.file) w (runs s r given running sum w rep).on given.checksum
+  block_is : (w : Work) (rep : Represents s w) → block_of (trailer_unit s r) ≡ next_trailer (shape s.file) (spelling s.file) w (runs s r given running sum w rep).on (supplied_sum given)
   block_is w rep =
       let c : Course = course_of s.file s.blocks r in
       unit
@@ -55,7 +55,7 @@ module _ (s : State) (r : RunningState) (a : ℕ) (more : List ℕ) (given : Giv
   does : AreCalls given Advance s (block_events s r)
   does g w t k =
       let u = trailer_unit s r in
-      let b : theory.Block = next_trailer (shape s.file) (spelling s.file) w (runs s r given running sum w k.stands).on given.checksum in
+      let b : theory.Block = next_trailer (shape s.file) (spelling s.file) w (runs s r given running sum w k.stands).on (supplied_sum given) in
       let one : DoesBlock w.view u.header.op (block_of u) given_steps = record { put = put_one (BlockPlace u.header.op) (BlockUnit (block_of u)); one = put_one_law (BlockPlace u.header.op) (BlockUnit (block_of u)); are = refl } in
       let two : DoesBlock w.view u.header.op b given_steps = subst (λ (x : theory.Block). DoesBlock w.view u.header.op x given_steps) (block_is w k.stands) one in
       let three : DoesBlock w.view a b given_steps = subst (λ (x : ℕ). DoesBlock w.view x b given_steps) (ap first_of left) two in
@@ -66,11 +66,11 @@ module _ (s : State) (r : RunningState) (a : ℕ) (more : List ℕ) (given : Giv
       }
 
   -- the block that it makes is the one that it writes
-  makes : (w : Work) → Represents s w → OfStep (shape s.file) (spelling s.file) (StandsIn (format s.file) (block_events s r)) w given.checksum w.running
+  makes : (w : Work) → Represents s w → OfStep (shape s.file) (spelling s.file) (StandsIn (format s.file) (block_events s r)) w (supplied_sum given) w.running
   makes w rep =
       let f = format s.file in
       let u = trailer_unit s r in
-      let b : theory.Block = next_trailer (shape s.file) (spelling s.file) w (runs s r given running sum w rep).on given.checksum in
+      let b : theory.Block = next_trailer (shape s.file) (spelling s.file) w (runs s r given running sum w rep).on (supplied_sum given) in
       let wrote : StandsIn f (block_events s r) (BlockPlace u.header.op) (BlockUnit (block_of u)) =
       steps_stand f (block_events s r) given_steps (BlockPlace u.header.op) (BlockUnit (block_of u)) steps (inl (put_one_law (BlockPlace u.header.op) (BlockUnit (block_of u))).at) in
       makes_step s r given running sum (StandsIn f (block_events s r)) w rep (a ∷ more) left
@@ -78,7 +78,7 @@ module _ (s : State) (r : RunningState) (a : ℕ) (more : List ℕ) (given : Giv
       (subst (λ (x : theory.Block). StandsIn f (block_events s r) (BlockPlace u.header.op) (BlockUnit x)) (block_is w rep) wrote))
 
   -- its steps put that block
-  made_is : block_of (trailer_unit s r) ≡ trailer_block (memory s) (course_of s.file s.blocks r) given.checksum
+  made_is : block_of (trailer_unit s r) ≡ trailer_block (memory s) (course_of s.file s.blocks r) (supplied_sum given)
   made_is =
       let c : Course = course_of s.file s.blocks r in
       unit
@@ -86,10 +86,10 @@ module _ (s : State) (r : RunningState) (a : ℕ) (more : List ℕ) (given : Giv
       ∙ ap (λ (n : ℕ). record (trailer_block (memory s) c (block_sum s r)) { body = piece_of (block_room (memory s).layout) n c.text }) is.written
       ∙ ap (trailer_block (memory s) c) (sym sum_here)
 
-  put_is : (place : theory.Place) → put_one (BlockPlace (trailer_unit s r).header.op) (BlockUnit (block_of (trailer_unit s r))) place ≡ puts_of (memory s) given.checksum Advance place
+  put_is : (place : theory.Place) → put_one (BlockPlace (trailer_unit s r).header.op) (BlockUnit (block_of (trailer_unit s r))) place ≡ puts_of (memory s) (supplied_sum given) Advance place
   put_is place =
       ap (λ (b : theory.Block). put_one (BlockPlace (trailer_unit s r).header.op) (BlockUnit b) place) made_is
-      ∙ ap (λ (n : ℕ). put_one (BlockPlace n) (BlockUnit (trailer_block (memory s) (course_of s.file s.blocks r) given.checksum)) place) (ap first_of left)
+      ∙ ap (λ (n : ℕ). put_one (BlockPlace n) (BlockUnit (trailer_block (memory s) (course_of s.file s.blocks r) (supplied_sum given))) place) (ap first_of left)
       ∙ sym (step_puts_are s r given running sum (a ∷ more) left place)
 
   puts : Makes given Advance s (block_events s r)

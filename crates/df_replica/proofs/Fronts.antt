@@ -6,7 +6,7 @@ use Rattle.df_theory.specs.Device.{AreSteps, Format}
 use Rattle.df_theory.specs.Runs.{Puts, Step, Syncs}
 use Rattle.df_theory.specs.Units.{AnyUnit, Place, Units, or_else}
 use Rattle.df_units.specs.Bytes.{unit_at}
-use Rattle.df_model.specs.Commands.{Command, Given}
+use Rattle.df_model.specs.Commands.{Command, Given, supplied_sum}
 use Rattle.df_rooms.specs.State.{State, memory}
 use Rattle.df_replica.specs.Leaving.{SparesOthers, image_after}
 use Rattle.df_replica.specs.Serving.{format}
@@ -64,7 +64,7 @@ module _ (f : Format) (es part : List Event) (rest : (ss : List Step) → AreSte
 
 -- what a front of a call's device calls leaves of the places at which its command puts nothing
 module _ (given : Given) (command : Command) (s : State) (events : List Event) (makes : Makes given command s events) (part : List Event) (front : FrontSteps (format s.file) part makes.steps) (image : Image) (whole : IsImage image) where
-  pub others_spared : SparesOthers s.file (memory s) given.checksum command image (image_after part image)
+  pub others_spared : SparesOthers s.file (memory s) (supplied_sum given) command image (image_after part image)
   others_spared =
       let layout = s.file.layout in
       let cluster = s.file.cluster in

@@ -16,7 +16,7 @@ use Rattle.df_theory.proofs.Laws.{shown_law}
 use Rattle.df_units.proofs.Laws.{is_format}
 use Rattle.df_model.specs.After.{after_check, after_running, after_step_of, begun, finished, outcome, to_check, with_live, with_prepare, with_reply, with_running, with_trailer_block}
 use Rattle.df_model.specs.Codec.{InGrid}
-use Rattle.df_model.specs.Commands.{Advance, Append, Begin, Command, Given, ReadBlock, ReadPrepare, ReadReply, Recent, Release, Reply, Scrub, WriteBlock}
+use Rattle.df_model.specs.Commands.{Advance, Append, Begin, Command, Given, ReadBlock, ReadPrepare, ReadReply, Recent, Release, Reply, Scrub, WriteBlock, supplied_sum, supplied_verdict}
 use Rattle.df_model.specs.Making.{needed_of, next_address, place_of_reply, prepare_of, reply_of}
 use Rattle.df_model.specs.Memory.{memory_of}
 use Rattle.df_model.specs.Refusals.{append_refusals, begin_refusals, block_refusals, first_refusal, release_refusals, reply_refusals}
@@ -112,17 +112,17 @@ module _ (file : DataFile) (w : Work) (a : ℕ) where
   held_before : (given : Given) (command : Command) (d : ℕ) → InGrid (shape file).layout a → HoldsBlock (next file w given command).0 a d → Before d
   held_before given (Append client request body) d inside holds =
       let m = memory_of (shape file) (spelling file) w in
-      let p = prepare_of m given.checksum client request body in
-      let answer : ℕ × ℕ = (p.header.op, given.checksum) in
+      let p = prepare_of m (supplied_sum given) client request body in
+      let answer : ℕ × ℕ = (p.header.op, supplied_sum given) in
       passed (first_refusal (append_refusals m client request body)) (with_prepare w p) answer d (λ none more. after_prepare p d more) holds
   held_before given (Reply op body) d inside holds =
       let m = memory_of (shape file) (spelling file) w in
-      let r = reply_of m given.checksum body in
-      passed (first_refusal (reply_refusals m op body)) (with_reply w (place_of_reply m) r) given.checksum d (λ none more. after_stored (place_of_reply m) r d more) holds
+      let r = reply_of m (supplied_sum given) body in
+      passed (first_refusal (reply_refusals m op body)) (with_reply w (place_of_reply m) r) (supplied_sum given) d (λ none more. after_stored (place_of_reply m) r d more) holds
   held_before given (WriteBlock kind body) d inside holds =
       let m = memory_of (shape file) (spelling file) w in
-      let answer : ℕ × ℕ = (next_address m, given.checksum) in
-      passed (first_refusal (block_refusals m kind body)) (with_live w (next_address m) (Some given.checksum)) answer d (λ none more. after_write kind body given.checksum d none more) holds
+      let answer : ℕ × ℕ = (next_address m, supplied_sum given) in
+      passed (first_refusal (block_refusals m kind body)) (with_live w (next_address m) (Some (supplied_sum given))) answer d (λ none more. after_write kind body (supplied_sum given) d none more) holds
   held_before given (Release address) d inside holds =
       let m = memory_of (shape file) (spelling file) w in
       passed (first_refusal (release_refusals m address)) (with_live w address None) tt d (λ none more. after_let_go address d more) holds
@@ -130,11 +130,11 @@ module _ (file : DataFile) (w : Work) (a : ℕ) where
       let m = memory_of (shape file) (spelling file) w in
       let needed = needed_of (spelling file) m root in
       passed (first_refusal (begin_refusals m needed root)) (with_running w (Some (begun (shape file) (spelling file) w root))) needed d (λ none more. after_begun root d inside more) holds
-  held_before given Advance d inside holds = after_step given.checksum d w.running refl holds
+  held_before given Advance d inside holds = after_step (supplied_sum given) d w.running refl holds
   held_before given (ReadPrepare op) d inside holds = inl holds
   held_before given (ReadReply client) d inside holds = inl holds
   held_before given (ReadBlock address) d inside holds = inl holds
-  held_before given Scrub d inside holds = after_look given.verdict (to_check (memory_of (shape file) (spelling file) w)) d holds
+  held_before given Scrub d inside holds = after_look (supplied_verdict given) (to_check (memory_of (shape file) (spelling file) w)) d holds
   held_before given Recent d inside holds = inl holds
 
 -- ---- one checksum an address

@@ -20,7 +20,7 @@ use Rattle.df_units.specs.Meaning.{content_of, number_of, offset_list, rest_of}
 use Rattle.df_units.specs.Puts.{put_copies}
 use Rattle.df_grid.specs.Writes.{first_address, first_sum}
 use Rattle.df_model.specs.After.{checkpoint_of}
-use Rattle.df_model.specs.Commands.{Advance, Answer, Given, ToAdvance}
+use Rattle.df_model.specs.Commands.{Advance, Answer, ForAdvance, Given, ToAdvance, supplied_sum}
 use Rattle.df_model.specs.Laws.{DoesFinish}
 use Rattle.df_model.specs.Making as making
 use Rattle.df_model.specs.Memory.{Memory}
@@ -49,7 +49,7 @@ zero_rest boot (Some n) zeros = absurd (let one : suc n ≡ 0 = zeros 1 in omega
 
 module _ (s : State) (r : RunningState) (given : Given) (is : IsState s) (course : IsRunning s.file s.fields s.head s.blocks r) (running : s.running ≡ Some r) (left : s.blocks.left ≡ [])
     (number : number_of (spelled 16 (first_sum s.blocks.written)) ≡ first_sum s.blocks.written) (steps : AreStepsOfCopies (update_events (next_fields s r)) (update_steps (put_copies (next_fields s r))))
-    (sum : given.checksum ≡ made_by s s.running) where
+    (sum : given ≡ ForAdvance (made_by s s.running ∷ [])) where
   abbrev f : SuperFields
   f = next_fields s r
 
@@ -59,7 +59,7 @@ module _ (s : State) (r : RunningState) (given : Given) (is : IsState s) (course
   abbrev given_steps : List Step
   given_steps = Syncs ∷ update_steps (put_copies f)
 
-  sum_here : given.checksum ≡ made
+  sum_here : supplied_sum given ≡ made
   sum_here = sum_is s r given running sum ∙ ap (made_for s r) left
 
   module _ (w : Work) (work : IsWork (shape s.file) (spelling s.file) w) (rep : Represents s w) where
@@ -92,15 +92,15 @@ module _ (s : State) (r : RunningState) (given : Given) (is : IsState s) (course
       rest = rest i;
     }
 
-    content_there : content_of (content_with f) ≡ (checkpoint_of (shape s.file) (spelling s.file) w (runs s r given running sum w rep).on given.checksum).content
+    content_there : content_of (content_with f) ≡ (checkpoint_of (shape s.file) (spelling s.file) w (runs s r given running sum w rep).on (supplied_sum given)).content
     content_there = content_is ∙ (λ i. making.content_of (rep i) (sym (runs s r given running sum w rep).course i) (sym sum_here i))
 
-    finishes : DoesFinish w.view (checkpoint_of (shape s.file) (spelling s.file) w (runs s r given running sum w rep).on given.checksum) given_steps
+    finishes : DoesFinish w.view (checkpoint_of (shape s.file) (spelling s.file) w (runs s r given running sum w rep).on (supplied_sum given)) given_steps
     finishes =
         let there = subst (λ (c : theory.Content). (puts : PutsCopies c) × (given_steps ≡ Syncs ∷ update_steps puts)) content_there (put_copies f, refl) in
         record { puts = there.0; are = there.1 }
 
-    leaves : memory (finished s r) ≡ step_memory (memory s) given.checksum
+    leaves : memory (finished s r) ≡ step_memory (memory s) (supplied_sum given)
     leaves = last_memory s r running course.op_from course.op_to content_is left ∙ ap (step_memory (memory s)) (sym sum_here)
 
   does : AreCalls given Advance s (last_events s r)
@@ -111,13 +111,13 @@ module _ (s : State) (r : RunningState) (given : Given) (is : IsState s) (course
   }
 
   -- it makes no block
-  makes : (w : Work) → Represents s w → OfStep (shape s.file) (spelling s.file) (StandsIn (format s.file) (last_events s r)) w given.checksum w.running
+  makes : (w : Work) → Represents s w → OfStep (shape s.file) (spelling s.file) (StandsIn (format s.file) (last_events s r)) w (supplied_sum given) w.running
   makes w rep = makes_step s r given running sum (StandsIn (format s.file) (last_events s r)) w rep [] left tt
 
   -- its steps put copies, which no call reads
   puts : Makes given Advance s (last_events s r)
   puts =
-      let none : (place : theory.Place) → puts_of (memory s) given.checksum Advance place ≡ trailer_puts (memory s) (course_of s.file s.blocks r) given.checksum [] place = step_puts_are s r given running sum [] left in
+      let none : (place : theory.Place) → puts_of (memory s) (supplied_sum given) Advance place ≡ trailer_puts (memory s) (course_of s.file s.blocks r) (supplied_sum given) [] place = step_puts_are s r given running sum [] left in
       record {
         steps = given_steps;
         are = steps s.file.layout s.file.cluster;
@@ -125,10 +125,10 @@ module _ (s : State) (r : RunningState) (given : Given) (is : IsState s) (course
         reply = λ k o. sym (ap (λ (p : Option theory.AnyUnit). or_else p o) (none (ReplyPlace k)));
         block = λ k o. sym (ap (λ (p : Option theory.AnyUnit). or_else p o) (none (BlockPlace k)));
         copy = λ w work rep k o.
-            let is : content_of (content_with f) ≡ making.content_of (memory s) (course_of s.file s.blocks r) given.checksum =
+            let is : content_of (content_with f) ≡ making.content_of (memory s) (course_of s.file s.blocks r) (supplied_sum given) =
             content_is w work rep ∙ ap (making.content_of (memory s) (course_of s.file s.blocks r)) (sym sum_here) in
             ap (λ (c : theory.Content). copies_over (CopyUnit c) k o) is
-            ∙ copies_made (making.content_of (memory s) (course_of s.file s.blocks r) given.checksum) k o
+            ∙ copies_made (making.content_of (memory s) (course_of s.file s.blocks r) (supplied_sum given)) k o
             ∙ sym (ap (λ (p : Option theory.AnyUnit). or_else p o) (none (CopyPlace k)));
         last = λ whole. tt;
       }

@@ -23,7 +23,7 @@ use Rattle.df_units.specs.Meaning.{place_of}
 use Rattle.df_units.specs.Wanted.{class_at}
 use Rattle.df_units.proofs.Laws.{is_format}
 use Rattle.df_model.specs.After.{after_check, after_running, after_step_of, begun, outcome, to_check, with_live, with_prepare, with_reply, with_running}
-use Rattle.df_model.specs.Commands.{Advance, Append, Begin, Command, Given, ReadBlock, ReadPrepare, ReadReply, Recent, Release, Reply, Scrub, WriteBlock}
+use Rattle.df_model.specs.Commands.{Advance, Append, Begin, Command, Given, ReadBlock, ReadPrepare, ReadReply, Recent, Release, Reply, Scrub, WriteBlock, supplied_sum, supplied_verdict}
 use Rattle.df_model.specs.Making.{block_of, needed_of, next_address, place_of_reply, prepare_of, reply_of, trailer_block}
 use Rattle.df_model.specs.Memory.{Course, Memory, course, course_of, memory_of}
 use Rattle.df_model.specs.Refusals.{append_refusals, begin_refusals, block_refusals, first_refusal, release_refusals, reply_refusals}
@@ -274,16 +274,16 @@ module _ (file : DataFile) (w : Work) (a : ℕ) where
   was_durable : (given : Given) (command : Command) → is_durable (next file w given command).0 a ≡ true → WasDurable command
   was_durable given (Append client request body) is =
       let m = memory_of (shape file) (spelling file) w in
-      let p = prepare_of m given.checksum client request body in
-      let answer : ℕ × ℕ = (p.header.op, given.checksum) in
+      let p = prepare_of m (supplied_sum given) client request body in
+      let answer : ℕ × ℕ = (p.header.op, supplied_sum given) in
       inl (unless_was (first_refusal (append_refusals m client request body)) (with_prepare w p) answer (λ there. there) is)
   was_durable given (Reply op body) is =
       let m = memory_of (shape file) (spelling file) w in
-      inl (unless_was (first_refusal (reply_refusals m op body)) (with_reply w (place_of_reply m) (reply_of m given.checksum body)) given.checksum (λ there. there) is)
+      inl (unless_was (first_refusal (reply_refusals m op body)) (with_reply w (place_of_reply m) (reply_of m (supplied_sum given) body)) (supplied_sum given) (λ there. there) is)
   was_durable given (WriteBlock kind body) is =
       let m = memory_of (shape file) (spelling file) w in
-      let answer : ℕ × ℕ = (next_address m, given.checksum) in
-      inl (unless_was (first_refusal (block_refusals m kind body)) (with_live w (next_address m) (Some given.checksum)) answer (λ there. there) is)
+      let answer : ℕ × ℕ = (next_address m, supplied_sum given) in
+      inl (unless_was (first_refusal (block_refusals m kind body)) (with_live w (next_address m) (Some (supplied_sum given))) answer (λ there. there) is)
   was_durable given (Release address) is =
       let m = memory_of (shape file) (spelling file) w in
       inl (unless_was (first_refusal (release_refusals m address)) (with_live w address None) tt (λ there. there) is)
@@ -291,11 +291,11 @@ module _ (file : DataFile) (w : Work) (a : ℕ) where
       let m = memory_of (shape file) (spelling file) w in
       let needed = needed_of (spelling file) m root in
       inl (unless_was (first_refusal (begin_refusals m needed root)) (with_running w (Some (begun (shape file) (spelling file) w root))) needed (λ there. there) is)
-  was_durable given Advance is = step_was given.checksum w.running refl is
+  was_durable given Advance is = step_was (supplied_sum given) w.running refl is
   was_durable given (ReadPrepare op) is = inl is
   was_durable given (ReadReply client) is = inl is
   was_durable given (ReadBlock address) is = inl is
-  was_durable given Scrub is = inl (checked_was given.verdict (to_check (memory_of (shape file) (spelling file) w)) is)
+  was_durable given Scrub is = inl (checked_was (supplied_verdict given) (to_check (memory_of (shape file) (spelling file) w)) is)
   was_durable given Recent is = inl is
 
 -- what is durable is held
@@ -364,14 +364,14 @@ IsLast command m = ⊥
 pub record Makes (given : Given) (command : Command) (s : State) (events : List Event) : Type 0 where
   pub steps : List Step
   pub are : AreSteps (format s.file) events steps
-  pub prepare : (k : ℕ) (o : Option AnyUnit) → unit_after steps (PreparePlace k) o ≡ or_else (puts_of (memory s) given.checksum command (PreparePlace k)) o
-  pub reply : (k : ℕ) (o : Option AnyUnit) → unit_after steps (ReplyPlace k) o ≡ or_else (puts_of (memory s) given.checksum command (ReplyPlace k)) o
-  pub block : (k : ℕ) (o : Option AnyUnit) → unit_after steps (BlockPlace k) o ≡ or_else (puts_of (memory s) given.checksum command (BlockPlace k)) o
-  pub copy : (w : Work) → IsWork (shape s.file) (spelling s.file) w → Represents s w → (n : ℕ) (o : Option AnyUnit) → unit_after steps (CopyPlace n) o ≡ or_else (puts_of (memory s) given.checksum command (CopyPlace n)) o
+  pub prepare : (k : ℕ) (o : Option AnyUnit) → unit_after steps (PreparePlace k) o ≡ or_else (puts_of (memory s) (supplied_sum given) command (PreparePlace k)) o
+  pub reply : (k : ℕ) (o : Option AnyUnit) → unit_after steps (ReplyPlace k) o ≡ or_else (puts_of (memory s) (supplied_sum given) command (ReplyPlace k)) o
+  pub block : (k : ℕ) (o : Option AnyUnit) → unit_after steps (BlockPlace k) o ≡ or_else (puts_of (memory s) (supplied_sum given) command (BlockPlace k)) o
+  pub copy : (w : Work) → IsWork (shape s.file) (spelling s.file) w → Represents s w → (n : ℕ) (o : Option AnyUnit) → unit_after steps (CopyPlace n) o ≡ or_else (puts_of (memory s) (supplied_sum given) command (CopyPlace n)) o
   pub last : IsLast command (memory s) → StartSynced steps
 
 -- a command that makes nothing
-pub makes_nothing : (given : Given) (command : Command) (s : State) → ((place : Place) → puts_of (memory s) given.checksum command place ≡ None) → (IsLast command (memory s) → ⊥) → Makes given command s []
+pub makes_nothing : (given : Given) (command : Command) (s : State) → ((place : Place) → puts_of (memory s) (supplied_sum given) command place ≡ None) → (IsLast command (memory s) → ⊥) → Makes given command s []
 makes_nothing given command s none other = record {
   steps = [];
   are = tt;
@@ -409,14 +409,14 @@ module _ (given : Given) (command : Command) (s : State) (events : List Event) (
   abbrev cluster : ℕ
   cluster = s.file.cluster
 
-  pub none_put : (place : Place) → IsReadPlace layout place → puts_of (memory s) given.checksum command place ≡ None → unit_after makes.steps place None ≡ None
+  pub none_put : (place : Place) → IsReadPlace layout place → puts_of (memory s) (supplied_sum given) command place ≡ None → unit_after makes.steps place None ≡ None
   none_put (CopyPlace k) read none = absurd read
   none_put (HeaderPlace k) read none = absurd read
   none_put (PreparePlace k) read none = makes.prepare k None ∙ ap (λ (p : Option AnyUnit). or_else p None) none
   none_put (ReplyPlace k) read none = makes.reply k None ∙ ap (λ (p : Option AnyUnit). or_else p None) none
   none_put (BlockPlace k) read none = makes.block k None ∙ ap (λ (p : Option AnyUnit). or_else p None) none
 
-  pub leaves_shown : (image : Image) → IsImage image → LeavesShown s.file (memory s) given.checksum command image (image_after events image)
+  pub leaves_shown : (image : Image) → IsImage image → LeavesShown s.file (memory s) (supplied_sum given) command image (image_after events image)
   leaves_shown image whole = record {
     whole = stays_whole layout cluster events makes.steps image makes.are whole;
     units = record {
@@ -428,12 +428,12 @@ module _ (given : Given) (command : Command) (s : State) (events : List Event) (
         same_sector layout cluster events makes.steps makes.are image sector (unwritten layout cluster events makes.steps makes.are place (none_put place read none) sector here));
   }
 
-  pub leaves_copies : (w : Work) → Keeps Firm s w None → (image : Image) → IsImage image → LeavesCopies s.file (memory s) given.checksum command image (image_after events image)
+  pub leaves_copies : (w : Work) → Keeps Firm s w None → (image : Image) → IsImage image → LeavesCopies s.file (memory s) (supplied_sum given) command image (image_after events image)
   leaves_copies w k image whole n = shown_by layout cluster events makes.steps image makes.are whole (CopyPlace n) ∙ makes.copy w k.0 k.1 n (unit_at layout cluster image (CopyPlace n))
 
   pub spares_held : (w : Work) → Keeps Firm s w None → SparesHeld s.file command w events
   spares_held w k a held other sector here =
-      let none = subst (λ (x : Memory). puts_of x given.checksum command (BlockPlace a) ≡ None) (sym k.1) (held_unput s.file w k.0 a held given.checksum command other) in
+      let none = subst (λ (x : Memory). puts_of x (supplied_sum given) command (BlockPlace a) ≡ None) (sym k.1) (held_unput s.file w k.0 a held (supplied_sum given) command other) in
       unwritten layout cluster events makes.steps makes.are (BlockPlace a) (makes.block a None ∙ ap (λ (p : Option AnyUnit). or_else p None) none) sector here
 
   ends_last : (w : Work) (a : ℕ) (c : Command) → EndsWith c w a → IsLast c (memory_of (shape s.file) (spelling s.file) w)

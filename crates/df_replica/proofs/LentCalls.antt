@@ -4,7 +4,7 @@ use Rattle.df_base.specs.Log.{Log}
 use Rattle.df_disk.specs.Told.{Told}
 use Rattle.df_layout.specs.declared.damage.Class.{Class}
 use Rattle.df_model.specs.After.{lookup_answer, prepare_answer, read_answer, shown_or}
-use Rattle.df_model.specs.Commands.{Advance, Answer, Append, Begin, Given, ReadBlock, ReadPrepare, ReadReply, Recent, Release, Reply, Scrub, ToReadBlock, ToReadPrepare, ToReadReply, WriteBlock}
+use Rattle.df_model.specs.Commands.{Advance, Answer, Append, Begin, Given, ReadBlock, ReadPrepare, ReadReply, Recent, Release, Reply, Scrub, ToReadBlock, ToReadPrepare, ToReadReply, WriteBlock, supplied_block, supplied_message}
 use Rattle.df_model.specs.Memory.{Memory, memory_of}
 use Rattle.df_model.specs.Refusals.{first_refusal, lookup_refusals, prepare_refusals, read_refusals}
 use Rattle.df_model.specs.Work.{Work}
@@ -34,23 +34,23 @@ module _ (given : Given) (s u : State) (w : Work) (t : Told) (new : Option Told)
 
   prepare_read : (op : ℕ) → IsCall given (ReadPrepare op) s u (Some t) new (Some answer) → (p : Message) → answer ≡ ToReadPrepare (Ok p) → IsReadPrepare op s (Some t) (Ok p)
   prepare_read op call p is =
-      let said : answer ≡ ToReadPrepare (prepare_answer known given.message op) = (call.answers Firm w keeps).0 in
-      let same : Ok p ≡ prepare_answer known given.message op = (let both : ToReadPrepare (Ok p) ≡ ToReadPrepare (prepare_answer known given.message op) = sym is ∙ said in cc) in
-      let parts = ok_in (first_refusal (prepare_refusals known op)) _ given.message p same in
+      let said : answer ≡ ToReadPrepare (prepare_answer known (supplied_message given) op) = (call.answers Firm w keeps).0 in
+      let same : Ok p ≡ prepare_answer known (supplied_message given) op = (let both : ToReadPrepare (Ok p) ≡ ToReadPrepare (prepare_answer known (supplied_message given) op) = sym is ∙ said in cc) in
+      let parts = ok_in (first_refusal (prepare_refusals known op)) _ (supplied_message given) p same in
       (ap (λ (m : Memory). first_refusal (prepare_refusals m op)) keeps.1 ∙ parts.0, subst (λ (r : Result Message Class). IsFoundBy s (ReadPrepare op) (Some t) r) parts.1 call.supplied.1)
 
   reply_read : (client : ℕ) → IsCall given (ReadReply client) s u (Some t) new (Some answer) → (r : Message) → answer ≡ ToReadReply (Ok r) → IsReadReply client s (Some t) (Ok r)
   reply_read client call r is =
-      let said : answer ≡ ToReadReply (lookup_answer known given.message client) = (call.answers Firm w keeps).0 in
-      let same : Ok r ≡ lookup_answer known given.message client = (let both : ToReadReply (Ok r) ≡ ToReadReply (lookup_answer known given.message client) = sym is ∙ said in cc) in
-      let parts = ok_in (first_refusal (lookup_refusals known client)) _ given.message r same in
+      let said : answer ≡ ToReadReply (lookup_answer known (supplied_message given) client) = (call.answers Firm w keeps).0 in
+      let same : Ok r ≡ lookup_answer known (supplied_message given) client = (let both : ToReadReply (Ok r) ≡ ToReadReply (lookup_answer known (supplied_message given) client) = sym is ∙ said in cc) in
+      let parts = ok_in (first_refusal (lookup_refusals known client)) _ (supplied_message given) r same in
       (ap (λ (m : Memory). first_refusal (lookup_refusals m client)) keeps.1 ∙ parts.0, subst (λ (x : Result Message Class). IsFoundBy s (ReadReply client) (Some t) x) parts.1 call.supplied.1)
 
   block_read : (address : ℕ) → IsCall given (ReadBlock address) s u (Some t) new (Some answer) → (b : Block) → answer ≡ ToReadBlock (Ok b) → IsReadBlock address s (Some t) (Ok b)
   block_read address call b is =
-      let said : answer ≡ ToReadBlock (read_answer known given.block address) = (call.answers Firm w keeps).0 in
-      let same : Ok b ≡ read_answer known given.block address = (let both : ToReadBlock (Ok b) ≡ ToReadBlock (read_answer known given.block address) = sym is ∙ said in cc) in
-      let parts = ok_in (first_refusal (read_refusals known address)) _ given.block b same in
+      let said : answer ≡ ToReadBlock (read_answer known (supplied_block given) address) = (call.answers Firm w keeps).0 in
+      let same : Ok b ≡ read_answer known (supplied_block given) address = (let both : ToReadBlock (Ok b) ≡ ToReadBlock (read_answer known (supplied_block given) address) = sym is ∙ said in cc) in
+      let parts = ok_in (first_refusal (read_refusals known address)) _ (supplied_block given) b same in
       (ap (λ (m : Memory). first_refusal (read_refusals m address)) keeps.1 ∙ parts.0, subst (λ (x : Result Block Class). IsBlockFound s address (Some t) x) parts.1 call.supplied.1)
 
   -- what is found is shown by an image without chance, so it is the state's own

@@ -1,5 +1,5 @@
 -- Each read of a reply is the machine's: it does nothing to the disk, and what it found is what it was supplied with.
-use Rattle.std.proofs.Common.{◌≡◌, ℕ, ◌^◌, ◌<◌, Bool, true, false, cond, nat_lt, [], Option, Some, None, refl, sym, ◌∙◌, ap, subst, arith}
+use Rattle.std.proofs.Common.{◌≡◌, ℕ, Bool, true, false, cond, nat_lt, [], Option, Some, None, refl, sym, ◌∙◌, ap, subst}
 use Rattle.std.specs.Prelude.{Result, Ok, Err}
 use Rattle.std.proofs.lemmas.Option.{same_Some}
 use Rattle.df_base.specs.Log.{now}
@@ -16,8 +16,7 @@ use Rattle.df_journal.specs.Append.{ShowsRing}
 use Rattle.df_theory.specs.Units
 use Rattle.df_model.specs.After as after
 use Rattle.df_model.specs.After.{shown_or}
-use Rattle.df_model.specs.Codec.{IsChecksum}
-use Rattle.df_model.specs.Commands.{Given, IsInput, ReadReply, ToReadReply}
+use Rattle.df_model.specs.Commands.{ForReadReply, Given, IsInput, ReadReply, ToReadReply, supplied_message}
 use Rattle.df_model.specs.Faults.{is_lookup_fault}
 use Rattle.df_model.specs.Memory.{Memory}
 use Rattle.df_model.specs.Memory as memory
@@ -34,43 +33,43 @@ use Rattle.df_replica.specs.Stopping.{left_by}
 use Rattle.df_replica.proofs.LookupFinds.{reply_found_by, reply_known, reply_lacks_by}
 use Rattle.df_replica.proofs.Calls.{AreCalls, Answered, answered_call, stopped_call}
 use Rattle.df_replica.proofs.Leaves.{makes_nothing}
-use Rattle.df_replica.proofs.ReadCalls.{zero_sum}
+use Rattle.df_replica.proofs.ReadCalls.{no_sums}
 
 module _ (s : State) (client : ℕ) (live : s.live ≡ true) where
   calls : (given : Given) → AreCalls given (ReadReply client) s []
   calls given g w t k = record { steps = []; are = tt; does = refl }
 
   input : (told : Option Told) (given : Given) → IsSupplied s told (ReadReply client) given → IsInput given (ReadReply client)
-  input told given supplied = record { checksum = zero_sum given supplied.0; fields = tt }
+  input told given supplied = record { checksums = no_sums given (ForReadReply (supplied_message given)) supplied.0 refl; fields = tt }
 
-  answered : (given : Given) (answer : Result Units.Message LookupError) → after.lookup_answer (memory s) given.message client ≡ answer → Answered given (ReadReply client) s s [] (ToReadReply answer)
+  answered : (given : Given) (answer : Result Units.Message LookupError) → after.lookup_answer (memory s) (supplied_message given) client ≡ answer → Answered given (ReadReply client) s s [] (ToReadReply answer)
   answered given answer same = record {
     file = refl;
     live = live;
-    stands = λ w work rep. (ap ToReadReply (sym same) ∙ ap (λ (m : Memory). ToReadReply (after.lookup_answer m given.message client)) rep, rep);
+    stands = λ w work rep. (ap ToReadReply (sym same) ∙ ap (λ (m : Memory). ToReadReply (after.lookup_answer m (supplied_message given) client)) rep, rep);
     made = λ w work rep. tt;
     ring = λ g w a b k all. subst (λ (x : Told). ShowsRing s.file.layout s.file.cluster (now x.log) s.headers) (sym (same_Some _ _ all)) k.ring;
   }
 
   answers : (told : Option Told) (found : Option (Result Units.Message Class)) (answer : Result Units.Message LookupError)
-      → ((given : Given) → IsSupplied s told (ReadReply client) given → Gives told found given → after.lookup_answer (memory s) given.message client ≡ answer)
+      → ((given : Given) → IsSupplied s told (ReadReply client) given → Gives told found given → after.lookup_answer (memory s) (supplied_message given) client ≡ answer)
       → ServesRead (ReadReply client) s s told found (Some (ToReadReply answer))
   answers told found answer same given supplied gives =
       answered_call given (ReadReply client) s [] (input told given supplied) (calls given) (makes_nothing given (ReadReply client) s (λ place. refl) (λ no. no)) s (ToReadReply answer) (answered given answer (same given supplied gives)) told told supplied refl
 
-  message_is : (told : Option Told) (m : Result Units.Message Class) → IsFoundBy s (ReadReply client) told m → (given : Given) → IsSupplied s told (ReadReply client) given → Gives told (Some m) given → given.message ≡ m
+  message_is : (told : Option Told) (m : Result Units.Message Class) → IsFoundBy s (ReadReply client) told m → (given : Given) → IsSupplied s told (ReadReply client) given → Gives told (Some m) given → supplied_message given ≡ m
   message_is None m by given supplied gives = gives
   message_is (Some t) m by given supplied gives = supplied.1 ∙ sym by
 
   -- a refusal
   pub lookup_refused : (told : Option Told) (e : LookupError) → first_refusal (lookup_refusals (memory s) client) ≡ Some e → ServesRead (ReadReply client) s s told None (Some (ToReadReply (Err e)))
-  lookup_refused told e some = answers told None (Err e) (λ given supplied gives. ap (λ (o : Option LookupError). shown_or o (lookup.Damaged (place_in ClientReplies (place_for s client))) given.message) some)
+  lookup_refused told e some = answers told None (Err e) (λ given supplied gives. ap (λ (o : Option LookupError). shown_or o (lookup.Damaged (place_in ClientReplies (place_for s client))) (supplied_message given)) some)
 
   -- what was found
   pub lookup_serves : (told : Option Told) (m : Result Units.Message Class) → first_refusal (lookup_refusals (memory s) client) ≡ None → IsFoundBy s (ReadReply client) told m
       → ServesRead (ReadReply client) s s told (Some m) (Some (ToReadReply (shown_or None (lookup.Damaged (place_in ClientReplies (place_for s client))) m)))
   lookup_serves told m none by = answers told (Some m) (shown_or None (lookup.Damaged (place_in ClientReplies (place_for s client))) m) (λ given supplied gives.
-      ap (λ (o : Option LookupError). shown_or o (lookup.Damaged (place_in ClientReplies (place_for s client))) given.message) none
+      ap (λ (o : Option LookupError). shown_or o (lookup.Damaged (place_in ClientReplies (place_for s client))) (supplied_message given)) none
       ∙ ap (λ (r : Result Units.Message Class). shown_or None (lookup.Damaged (place_in ClientReplies (place_for s client))) r) (message_is told m by given supplied gives))
 
   -- a fault

@@ -11,7 +11,7 @@ use Rattle.df_theory.specs.Units.{AnyUnit, Block, BlockPlace, BlockUnit, CopyPla
 use Rattle.df_theory.specs.View.{head}
 use Rattle.df_theory.proofs.Laws.{in_dropped, in_either, in_single}
 use Rattle.df_model.specs.After.{after_check, after_running, after_step_of, begun, finished, next_trailer, outcome, to_check, with_live, with_prepare, with_reply, with_running, with_trailer_block}
-use Rattle.df_model.specs.Commands.{Advance, Append, Begin, Command, Given, ReadBlock, ReadPrepare, ReadReply, Recent, Release, Reply, Scrub, WriteBlock, after}
+use Rattle.df_model.specs.Commands.{Advance, Append, Begin, Command, Given, ReadBlock, ReadPrepare, ReadReply, Recent, Release, Reply, Scrub, WriteBlock, after, supplied_sum, supplied_verdict}
 use Rattle.df_model.specs.Making.{needed_of, next_address, place_of_reply, prepare_of, reply_of}
 use Rattle.df_model.specs.Memory.{memory_of}
 use Rattle.df_model.specs.Refusals.{append_refusals, begin_refusals, block_refusals, first_refusal, release_refusals, reply_refusals}
@@ -38,12 +38,12 @@ OfStep sh spell P w sum (Some r) = OfLeft sh spell P w sum r r.left
 -- a fact of the prepare, the reply or the trailer block that the command makes, with its place
 abbrev pub OfMade : Shape → (Parts → List ℕ) → (Place → AnyUnit → Type 0) → Work → Given → Command → Type 0
 OfMade sh spell P w given (Append client request body) =
-    let p = prepare_of (memory_of sh spell w) given.checksum client request body in
+    let p = prepare_of (memory_of sh spell w) (supplied_sum given) client request body in
     Unless (first_refusal (append_refusals (memory_of sh spell w) client request body)) (P (PreparePlace (p.header.op % slots sh)) (PrepareUnit p))
 OfMade sh spell P w given (Reply op body) =
     let m = memory_of sh spell w in
-    Unless (first_refusal (reply_refusals m op body)) (P (ReplyPlace (place_of_reply m)) (ReplyUnit (reply_of m given.checksum body)))
-OfMade sh spell P w given Advance = OfStep sh spell P w given.checksum w.running
+    Unless (first_refusal (reply_refusals m op body)) (P (ReplyPlace (place_of_reply m)) (ReplyUnit (reply_of m (supplied_sum given) body)))
+OfMade sh spell P w given Advance = OfStep sh spell P w (supplied_sum given) w.running
 OfMade sh spell P w given (WriteBlock kind body) = Unit {0}
 OfMade sh spell P w given (Release address) = Unit {0}
 OfMade sh spell P w given (Begin root) = Unit {0}
@@ -70,7 +70,7 @@ module _ (sh : Shape) (spell : Parts → List ℕ) (P Q : Place → AnyUnit → 
   pub made_weaker : (given : Given) (command : Command) → OfMade sh spell P w given command → OfMade sh spell Q w given command
   made_weaker given (Append client request body) is = unless_weaker (first_refusal (append_refusals (memory_of sh spell w) client request body)) _ _ is
   made_weaker given (Reply op body) is = unless_weaker (first_refusal (reply_refusals (memory_of sh spell w) op body)) _ _ is
-  made_weaker given Advance is = step_weaker given.checksum w.running is
+  made_weaker given Advance is = step_weaker (supplied_sum given) w.running is
   made_weaker given (WriteBlock kind body) is = tt
   made_weaker given (Release address) is = tt
   made_weaker given (Begin root) is = tt
@@ -184,16 +184,16 @@ module _ (sh : Shape) (spell : Parts → List ℕ) (P : Place → AnyUnit → Ty
   pub after_has : (given : Given) (command : Command) → OfMade sh spell P w given command → HasEach sh P (after sh spell w given command).0
   after_has given (Append client request body) made =
       let m = memory_of sh spell w in
-      let p = prepare_of m given.checksum client request body in
-      made_has (first_refusal (append_refusals m client request body)) (with_prepare w p) (p.header.op, given.checksum) (PreparePlace (p.header.op % slots sh)) (PrepareUnit p) (appended_has p) made
+      let p = prepare_of m (supplied_sum given) client request body in
+      made_has (first_refusal (append_refusals m client request body)) (with_prepare w p) (p.header.op, supplied_sum given) (PreparePlace (p.header.op % slots sh)) (PrepareUnit p) (appended_has p) made
   after_has given (Reply op body) made =
       let m = memory_of sh spell w in
-      let r = reply_of m given.checksum body in
-      made_has (first_refusal (reply_refusals m op body)) (with_reply w (place_of_reply m) r) given.checksum (ReplyPlace (place_of_reply m)) (ReplyUnit r) (replied_has (place_of_reply m) r) made
-  after_has given Advance made = step_has given.checksum w.running refl made
+      let r = reply_of m (supplied_sum given) body in
+      made_has (first_refusal (reply_refusals m op body)) (with_reply w (place_of_reply m) r) (supplied_sum given) (ReplyPlace (place_of_reply m)) (ReplyUnit r) (replied_has (place_of_reply m) r) made
+  after_has given Advance made = step_has (supplied_sum given) w.running refl made
   after_has given (WriteBlock kind body) made =
       let a = next_address (memory_of sh spell w) in
-      unless_has (first_refusal (block_refusals (memory_of sh spell w) kind body)) (with_live w a (Some given.checksum)) (a, given.checksum) (record { needs = has.needs; trailer = has.trailer })
+      unless_has (first_refusal (block_refusals (memory_of sh spell w) kind body)) (with_live w a (Some (supplied_sum given))) (a, supplied_sum given) (record { needs = has.needs; trailer = has.trailer })
   after_has given (Release address) made = unless_has (first_refusal (release_refusals (memory_of sh spell w) address)) (with_live w address None) tt (record { needs = has.needs; trailer = has.trailer })
   after_has given (Begin root) made =
       let needed = needed_of spell (memory_of sh spell w) root in
@@ -201,5 +201,5 @@ module _ (sh : Shape) (spell : Parts → List ℕ) (P : Place → AnyUnit → Ty
   after_has given (ReadPrepare op) made = has
   after_has given (ReadReply client) made = has
   after_has given (ReadBlock address) made = has
-  after_has given Scrub made = checked_has given.verdict (to_check (memory_of sh spell w))
+  after_has given Scrub made = checked_has (supplied_verdict given) (to_check (memory_of sh spell w))
   after_has given Recent made = has

@@ -1,5 +1,5 @@
 -- Each read is the machine's: it does nothing to the disk, and what it found is what it was supplied with.
-use Rattle.std.proofs.Common.{◌≡◌, ℕ, ◌+◌, ◌%◌, ◌^◌, ◌<◌, Bool, true, false, cond, not, ◌&&◌, nat_lt, [], Option, Some, None, refl, sym, ◌∙◌, ap, subst, arith}
+use Rattle.std.proofs.Common.{◌≡◌, ℕ, ◌+◌, ◌%◌, Bool, true, false, cond, not, ◌&&◌, nat_lt, [], Option, Some, None, refl, sym, ◌∙◌, ap, subst}
 use Rattle.std.specs.Prelude.{Result, Ok, Err, nat_le, slice_get}
 use Rattle.std.proofs.lemmas.Option.{same_Some}
 use Rattle.df_base.specs.Log.{now}
@@ -18,8 +18,8 @@ use Rattle.df_journal.specs.Append.{ShowsRing}
 use Rattle.df_theory.specs.Units
 use Rattle.df_model.specs.After as after
 use Rattle.df_model.specs.After.{shown_or}
-use Rattle.df_model.specs.Codec.{IsChecksum}
-use Rattle.df_model.specs.Commands.{Given, IsInput, ReadPrepare, ToReadPrepare}
+use Rattle.df_model.specs.Codec.{AreChecksums}
+use Rattle.df_model.specs.Commands.{ForReadPrepare, Given, IsInput, ReadPrepare, ToReadPrepare, supplied_message, supplied_sums}
 use Rattle.df_model.specs.Faults.{is_prepare_fault}
 use Rattle.df_model.specs.Memory.{Memory, prepare_sum}
 use Rattle.df_model.specs.Refusals.{first_refusal, prepare_refusals}
@@ -34,44 +34,45 @@ use Rattle.df_replica.proofs.ReadFinds.{prepare_found_by, prepare_known, prepare
 use Rattle.df_replica.proofs.Calls.{AreCalls, Answered, answered_call, stopped_call}
 use Rattle.df_replica.proofs.Leaves.{makes_nothing}
 
-pub zero_sum : (given : Given) → given.checksum ≡ 0 → IsChecksum given.checksum
-zero_sum given zero = subst IsChecksum (sym zero) (let small : 0 < 2 ^ 128 = omega arith in small)
+-- what makes no unit is supplied with no checksum
+pub no_sums : (given other : Given) → given ≡ other → supplied_sums other ≡ [] → AreChecksums (supplied_sums given)
+no_sums given other is none = subst AreChecksums (sym (ap supplied_sums is ∙ none)) tt
 
 module _ (s : State) (op : ℕ) (live : s.live ≡ true) where
   calls : (given : Given) → AreCalls given (ReadPrepare op) s []
   calls given g w t k = record { steps = []; are = tt; does = refl }
 
   input : (told : Option Told) (given : Given) → IsSupplied s told (ReadPrepare op) given → IsInput given (ReadPrepare op)
-  input told given supplied = record { checksum = zero_sum given supplied.0; fields = tt }
+  input told given supplied = record { checksums = no_sums given (ForReadPrepare (supplied_message given)) supplied.0 refl; fields = tt }
 
-  answered : (given : Given) (answer : Result Units.Message PrepareError) → after.prepare_answer (memory s) given.message op ≡ answer → Answered given (ReadPrepare op) s s [] (ToReadPrepare answer)
+  answered : (given : Given) (answer : Result Units.Message PrepareError) → after.prepare_answer (memory s) (supplied_message given) op ≡ answer → Answered given (ReadPrepare op) s s [] (ToReadPrepare answer)
   answered given answer same = record {
     file = refl;
     live = live;
-    stands = λ w work rep. (ap ToReadPrepare (sym same) ∙ ap (λ (m : Memory). ToReadPrepare (after.prepare_answer m given.message op)) rep, rep);
+    stands = λ w work rep. (ap ToReadPrepare (sym same) ∙ ap (λ (m : Memory). ToReadPrepare (after.prepare_answer m (supplied_message given) op)) rep, rep);
     made = λ w work rep. tt;
     ring = λ g w a b k all. subst (λ (x : Told). ShowsRing s.file.layout s.file.cluster (now x.log) s.headers) (sym (same_Some _ _ all)) k.ring;
   }
 
   answers : (told : Option Told) (found : Option (Result Units.Message Class)) (answer : Result Units.Message PrepareError)
-      → ((given : Given) → IsSupplied s told (ReadPrepare op) given → Gives told found given → after.prepare_answer (memory s) given.message op ≡ answer)
+      → ((given : Given) → IsSupplied s told (ReadPrepare op) given → Gives told found given → after.prepare_answer (memory s) (supplied_message given) op ≡ answer)
       → ServesRead (ReadPrepare op) s s told found (Some (ToReadPrepare answer))
   answers told found answer same given supplied gives =
       answered_call given (ReadPrepare op) s [] (input told given supplied) (calls given) (makes_nothing given (ReadPrepare op) s (λ place. refl) (λ no. no)) s (ToReadPrepare answer) (answered given answer (same given supplied gives)) told told supplied refl
 
-  message_is : (told : Option Told) (m : Result Units.Message Class) → IsFoundBy s (ReadPrepare op) told m → (given : Given) → IsSupplied s told (ReadPrepare op) given → Gives told (Some m) given → given.message ≡ m
+  message_is : (told : Option Told) (m : Result Units.Message Class) → IsFoundBy s (ReadPrepare op) told m → (given : Given) → IsSupplied s told (ReadPrepare op) given → Gives told (Some m) given → supplied_message given ≡ m
   message_is None m by given supplied gives = gives
   message_is (Some t) m by given supplied gives = supplied.1 ∙ sym by
 
   -- a refusal
   pub prepare_refused : (told : Option Told) (e : PrepareError) → first_refusal (prepare_refusals (memory s) op) ≡ Some e → ServesRead (ReadPrepare op) s s told None (Some (ToReadPrepare (Err e)))
-  prepare_refused told e some = answers told None (Err e) (λ given supplied gives. ap (λ (o : Option PrepareError). shown_or o (prepare.Damaged (place_in WalPrepares (op % s.file.layout.slots))) given.message) some)
+  prepare_refused told e some = answers told None (Err e) (λ given supplied gives. ap (λ (o : Option PrepareError). shown_or o (prepare.Damaged (place_in WalPrepares (op % s.file.layout.slots))) (supplied_message given)) some)
 
   -- what was found
   pub prepare_serves : (told : Option Told) (m : Result Units.Message Class) → first_refusal (prepare_refusals (memory s) op) ≡ None → IsFoundBy s (ReadPrepare op) told m
       → ServesRead (ReadPrepare op) s s told (Some m) (Some (ToReadPrepare (shown_or None (prepare.Damaged (place_in WalPrepares (op % s.file.layout.slots))) m)))
   prepare_serves told m none by = answers told (Some m) (shown_or None (prepare.Damaged (place_in WalPrepares (op % s.file.layout.slots))) m) (λ given supplied gives.
-      ap (λ (o : Option PrepareError). shown_or o (prepare.Damaged (place_in WalPrepares (op % s.file.layout.slots))) given.message) none
+      ap (λ (o : Option PrepareError). shown_or o (prepare.Damaged (place_in WalPrepares (op % s.file.layout.slots))) (supplied_message given)) none
       ∙ ap (λ (r : Result Units.Message Class). shown_or None (prepare.Damaged (place_in WalPrepares (op % s.file.layout.slots))) r) (message_is told m by given supplied gives))
 
   -- a fault

@@ -8,7 +8,7 @@ use Rattle.df_journal.specs.Append.{ShowsRing}
 use Rattle.df_model.specs.After.{outcome, with_live}
 use Rattle.df_model.specs.Blocks.{block_released, sum_at, without_entry}
 use Rattle.df_model.specs.Changing.{unless_refused}
-use Rattle.df_model.specs.Commands.{Answer, Given, IsInput, Release, ToRelease, as_answer}
+use Rattle.df_model.specs.Commands.{Answer, ForRelease, Given, IsInput, Release, ToRelease, as_answer}
 use Rattle.df_model.specs.Memory.{Memory, memory_of}
 use Rattle.df_model.specs.Refusals.{first_refusal, release_refusals}
 use Rattle.df_model.specs.Sense.{IsWork}
@@ -23,14 +23,14 @@ use Rattle.df_replica.specs.Supply.{IsSupplied}
 use Rattle.df_replica.proofs.BlockStates.{blocks_memory}
 use Rattle.df_replica.proofs.Calls.{AreCalls, Answered, answered_call}
 use Rattle.df_replica.proofs.Leaves.{makes_nothing}
-use Rattle.df_replica.proofs.ReadCalls.{zero_sum}
+use Rattle.df_replica.proofs.ReadCalls.{no_sums}
 
 module _ (s : State) (address : ℕ) (live : s.live ≡ true) where
   calls : (given : Given) → AreCalls given (Release address) s []
   calls given g w t k = record { steps = []; are = tt; does = refl }
 
   input : (told : Option Told) (given : Given) → IsSupplied s told (Release address) given → IsInput given (Release address)
-  input told given supplied = record { checksum = zero_sum given supplied; fields = tt }
+  input told given supplied = record { checksums = no_sums given ForRelease supplied refl; fields = tt }
 
   module _ (w : Work) (rep : Represents s w) where
     next_is : (given : Given) (o : Option NotLive) → first_refusal (release_refusals (memory s) address) ≡ o → next s.file w given (Release address) ≡ as_answer ToRelease (outcome o w (with_live w address None) tt)

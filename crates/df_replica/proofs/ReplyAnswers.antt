@@ -26,8 +26,8 @@ use Rattle.df_units.specs.Meaning.{message_of, number_of}
 use Rattle.df_units.proofs.Laws.{reply_put}
 use Rattle.df_model.specs.After.{outcome, with_reply}
 use Rattle.df_model.specs.Changing.{blocks_after, replied_in, unless_refused}
-use Rattle.df_model.specs.Codec.{IsChecksum}
-use Rattle.df_model.specs.Commands.{Answer, Command, Given, IsInput, Reply, ToReply, as_answer}
+use Rattle.df_model.specs.Codec.{AreChecksums}
+use Rattle.df_model.specs.Commands.{Answer, Command, ForReply, Given, IsInput, Reply, ToReply, as_answer, supplied_sum, supplied_sums}
 use Rattle.df_model.specs.Faults.{is_reply_fault}
 use Rattle.df_model.specs.Laws.{DoesReply, UnlessRefused}
 use Rattle.df_model.specs.Making.{first_of, place_of_reply, reply_of}
@@ -57,7 +57,7 @@ first_number : (ws : List (List ℕ)) → 0 < length ws → first_of (map number
 first_number [] some = absurd (omega arith)
 first_number (w ∷ ws) some = refl
 
-module _ (s : State) (op : ℕ) (body : List ℕ) (given : Given) (is : IsState s) (live : s.live ≡ true) (sum : given.checksum ≡ number_of (next_reply s body).header.checksum) where
+module _ (s : State) (op : ℕ) (body : List ℕ) (given : Given) (is : IsState s) (live : s.live ≡ true) (sum : given ≡ ForReply (number_of (next_reply s body).header.checksum ∷ [])) where
   abbrev u : Message
   u = next_reply s body
 
@@ -65,7 +65,7 @@ module _ (s : State) (op : ℕ) (body : List ℕ) (given : Given) (is : IsState 
   command = Reply op body
 
   input : IsInput given command
-  input = record { checksum = subst IsChecksum (sym sum) (field_at-lt 16 0 u.header.checksum (AreBytes-check_of (spelling_rest (for_body (reply_given s) body)))); fields = tt }
+  input = record { checksums = subst (λ (g : Given). AreChecksums (supplied_sums g)) (sym sum) (field_at-lt 16 0 u.header.checksum (AreBytes-check_of (spelling_rest (for_body (reply_given s) body))), tt); fields = tt }
 
   module _ (w : Work) (rep : Represents s w) where
     test_is : (o : Option ReplyError) → first_refusal (reply_refusals (memory s) op body) ≡ o → first_refusal (reply_refusals (memory_of (shape s.file) (spelling s.file) w) op body) ≡ o
@@ -77,7 +77,7 @@ module _ (s : State) (op : ℕ) (body : List ℕ) (given : Given) (is : IsState 
     refused_next : (w : Work) → Represents s w → next s.file w given command ≡ (w, ToReply (Err e))
     refused_next w rep =
         let m = memory_of (shape s.file) (spelling s.file) w in
-        ap (λ (o : Option ReplyError). as_answer ToReply (outcome o w (with_reply w (place_of_reply m) (reply_of m given.checksum body)) given.checksum)) (test_is w rep (Some e) some)
+        ap (λ (o : Option ReplyError). as_answer ToReply (outcome o w (with_reply w (place_of_reply m) (reply_of m (supplied_sum given) body)) (supplied_sum given))) (test_is w rep (Some e) some)
 
     refused_does : AreCalls given command s []
     refused_does g w t k =
@@ -85,18 +85,18 @@ module _ (s : State) (op : ℕ) (body : List ℕ) (given : Given) (is : IsState 
         record {
           steps = [];
           are = tt;
-          does = subst (λ (o : Option ReplyError). UnlessRefused o [] (DoesReply w.view (place_of_reply m) (reply_of m given.checksum body) [])) (sym (test_is w k.stands (Some e) some)) refl;
+          does = subst (λ (o : Option ReplyError). UnlessRefused o [] (DoesReply w.view (place_of_reply m) (reply_of m (supplied_sum given) body) [])) (sym (test_is w k.stands (Some e) some)) refl;
         }
 
     refused_puts : Makes given command s []
     refused_puts =
         let m = memory s in
-        makes_nothing given command s (λ place. ap (λ (o : Option ReplyError). unless o (put_one (ReplyPlace (place_of_reply m)) (ReplyUnit (reply_of m given.checksum body))) place) some) (λ no. no)
+        makes_nothing given command s (λ place. ap (λ (o : Option ReplyError). unless o (put_one (ReplyPlace (place_of_reply m)) (ReplyUnit (reply_of m (supplied_sum given) body))) place) some) (λ no. no)
 
     refused_makes : (w : Work) → Represents s w → OfMade (shape s.file) (spelling s.file) (StandsIn (format s.file) []) w given command
     refused_makes w rep =
         let m = memory_of (shape s.file) (spelling s.file) w in
-        subst (λ (o : Option ReplyError). Unless o (StandsIn (format s.file) [] (ReplyPlace (place_of_reply m)) (ReplyUnit (reply_of m given.checksum body)))) (sym (test_is w rep (Some e) some)) tt
+        subst (λ (o : Option ReplyError). Unless o (StandsIn (format s.file) [] (ReplyPlace (place_of_reply m)) (ReplyUnit (reply_of m (supplied_sum given) body)))) (sym (test_is w rep (Some e) some)) tt
 
     refused_as : Answered given command s s [] (ToReply (Err e))
     refused_as = record {
@@ -120,9 +120,9 @@ module _ (s : State) (op : ℕ) (body : List ℕ) (given : Given) (is : IsState 
     waits = omega (arith, (may_reply s op body is none).waits, is.waiting)
 
     module _ (w : Work) (rep : Represents s w) where
-      reply_is : reply_of (memory_of (shape s.file) (spelling s.file) w) given.checksum body ≡ message_of u
+      reply_is : reply_of (memory_of (shape s.file) (spelling s.file) w) (supplied_sum given) body ≡ message_of u
       reply_is =
-          (λ i. reply_of (sym rep i) (sum i) body)
+          (λ i. reply_of (sym rep i) (supplied_sum (sum i)) body)
           ∙ ap (λ (parent : ℕ). record { header = record (message_of u).header { parent = parent }; body = body }) (first_number s.waiting waits)
 
       place_is : place_of_reply (memory_of (shape s.file) (spelling s.file) w) ≡ u.header.slot
@@ -140,17 +140,17 @@ module _ (s : State) (op : ℕ) (body : List ℕ) (given : Given) (is : IsState 
           steps = steps;
           are = (put, tt);
           does =
-              subst (λ (o : Option ReplyError). UnlessRefused o steps (DoesReply w.view (place_of_reply m) (reply_of m given.checksum body) steps)) (sym (none_there w k.stands))
+              subst (λ (o : Option ReplyError). UnlessRefused o steps (DoesReply w.view (place_of_reply m) (reply_of m (supplied_sum given) body) steps)) (sym (none_there w k.stands))
               (subst (λ (p : theory.Message). DoesReply w.view (place_of_reply m) p steps) (sym (reply_is w k.stands))
               (subst (λ (place : ℕ). DoesReply w.view place (message_of u) steps) (sym (place_is w k.stands)) does));
         }
 
     -- its steps put that reply
-    put_is : (place : Place) → put_one (ReplyPlace u.header.slot) (ReplyUnit (message_of u)) place ≡ puts_of (memory s) given.checksum command place
+    put_is : (place : Place) → put_one (ReplyPlace u.header.slot) (ReplyUnit (message_of u)) place ≡ puts_of (memory s) (supplied_sum given) command place
     put_is place =
         let m = memory s in
-        let r : theory.Message = reply_of m given.checksum body in
-        let same : r ≡ message_of u = (λ i. reply_of m (sum i) body) ∙ ap (λ (parent : ℕ). record { header = record (message_of u).header { parent = parent }; body = body }) (first_number s.waiting waits) in
+        let r : theory.Message = reply_of m (supplied_sum given) body in
+        let same : r ≡ message_of u = (λ i. reply_of m (supplied_sum (sum i)) body) ∙ ap (λ (parent : ℕ). record { header = record (message_of u).header { parent = parent }; body = body }) (first_number s.waiting waits) in
         ap (λ (x : theory.Message). put_one (ReplyPlace u.header.slot) (ReplyUnit x) place) (sym same)
         ∙ ap (λ (o : Option ReplyError). unless o (put_one (ReplyPlace (place_of_reply m)) (ReplyUnit r)) place) (sym none)
 
@@ -172,7 +172,7 @@ module _ (s : State) (op : ℕ) (body : List ℕ) (given : Given) (is : IsState 
         let events = reply_events s u in
         let wrote : StandsIn (format s.file) events (ReplyPlace u.header.slot) (ReplyUnit (message_of u)) =
         steps_stand (format s.file) events (write_steps u) (ReplyPlace u.header.slot) (ReplyUnit (message_of u)) (put, tt) (inl (put_one_law (ReplyPlace u.header.slot) (ReplyUnit (message_of u))).at) in
-        subst (λ (o : Option ReplyError). Unless o (StandsIn (format s.file) events (ReplyPlace (place_of_reply m)) (ReplyUnit (reply_of m given.checksum body)))) (sym (none_there w rep))
+        subst (λ (o : Option ReplyError). Unless o (StandsIn (format s.file) events (ReplyPlace (place_of_reply m)) (ReplyUnit (reply_of m (supplied_sum given) body)))) (sym (none_there w rep))
         (subst (λ (r : theory.Message). StandsIn (format s.file) events (ReplyPlace (place_of_reply m)) (ReplyUnit r)) (sym (reply_is w rep))
         (subst (λ (place : ℕ). StandsIn (format s.file) events (ReplyPlace place) (ReplyUnit (message_of u))) (sym (place_is w rep)) wrote))
 
@@ -184,22 +184,22 @@ module _ (s : State) (op : ℕ) (body : List ℕ) (given : Given) (is : IsState 
       m = memory_of (shape s.file) (spelling s.file) w
 
       abbrev later : Work
-      later = with_reply w (place_of_reply m) (reply_of m given.checksum body)
+      later = with_reply w (place_of_reply m) (reply_of m (supplied_sum given) body)
 
-      next_is : next s.file w given command ≡ (later, ToReply (Ok given.checksum))
-      next_is = ap (λ (o : Option ReplyError). as_answer ToReply (outcome o w later given.checksum)) (none_there w rep)
+      next_is : next s.file w given command ≡ (later, ToReply (Ok (supplied_sum given)))
+      next_is = ap (λ (o : Option ReplyError). as_answer ToReply (outcome o w later (supplied_sum given))) (none_there w rep)
 
-      memory_is : memory_of (shape s.file) (spelling s.file) later ≡ replied_in m given.checksum
+      memory_is : memory_of (shape s.file) (spelling s.file) later ≡ replied_in m (supplied_sum given)
       memory_is =
-          subst (λ (o : Option ReplyError). memory_of (shape s.file) (spelling s.file) (outcome o w later given.checksum).0 ≡ record (unless_refused o m (replied_in m given.checksum)) { blocks = blocks_after (spelling s.file) m given command })
+          subst (λ (o : Option ReplyError). memory_of (shape s.file) (spelling s.file) (outcome o w later (supplied_sum given)).0 ≡ record (unless_refused o m (replied_in m (supplied_sum given))) { blocks = blocks_after (spelling s.file) m given command })
           (none_there w rep) (change_law (shape s.file) (spelling s.file) w given command work)
 
       stands : Represents (replied s u.header) later
-      stands = replied_memory s u.header refl ∙ (λ i. replied_in (rep i) (sym sum i)) ∙ sym memory_is
+      stands = replied_memory s u.header refl ∙ (λ i. replied_in (rep i) (supplied_sum (sym sum i))) ∙ sym memory_is
 
       allowed_at : (answer ≡ (next s.file w given command).1) × Represents (replied s u.header) (next s.file w given command).0
       allowed_at =
-          subst (λ (x : Work × Answer). (answer ≡ x.1) × Represents (replied s u.header) x.0) (sym next_is) (ap (λ (n : ℕ). ToReply (Ok n)) (sym sum), stands)
+          subst (λ (x : Work × Answer). (answer ≡ x.1) × Represents (replied s u.header) x.0) (sym next_is) (ap (λ (g : Given). ToReply (Ok (supplied_sum g))) (sym sum), stands)
 
     -- the header ring shows what it did
     ring_kept : (g : Grade) (w : Work) (a b : Told) → IsKept g s w a.log → Some b ≡ after_all (reply_events s u) (Some a) → ShowsRing s.file.layout s.file.cluster (now b.log) s.headers

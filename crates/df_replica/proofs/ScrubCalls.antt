@@ -8,7 +8,7 @@ use Rattle.df_disk.specs.Told.{Told}
 use Rattle.df_journal.specs.Append.{ShowsRing}
 use Rattle.df_model.specs.After.{after_check, to_check}
 use Rattle.df_model.specs.Changing.{checked_in}
-use Rattle.df_model.specs.Commands.{Given, IsInput, Recent, Scrub, ToRecent, ToScrub}
+use Rattle.df_model.specs.Commands.{ForRecent, ForScrub, Given, IsInput, Recent, Scrub, ToRecent, ToScrub, supplied_verdict}
 use Rattle.df_model.specs.Memory.{Memory, memory_of}
 use Rattle.df_model.specs.Sense.{IsWork}
 use Rattle.df_model.specs.Work.{Work}
@@ -24,7 +24,7 @@ use Rattle.df_replica.specs.Serving.{next}
 use Rattle.df_replica.specs.Supply.{IsSupplied}
 use Rattle.df_replica.proofs.Calls.{AreCalls, Answered, answered_call, stopped_call}
 use Rattle.df_replica.proofs.Leaves.{makes_nothing}
-use Rattle.df_replica.proofs.ReadCalls.{zero_sum}
+use Rattle.df_replica.proofs.ReadCalls.{no_sums}
 
 -- a check leaves the blocks as they are
 blocks_kept : (m : Memory) (v : Verdict) (xs : List (ℕ × ℕ)) → record (checked_in m v xs) { blocks = m.blocks } ≡ checked_in m v xs
@@ -34,7 +34,7 @@ blocks_kept m (Failing kind) (x ∷ more) = refl
 
 -- the verdict that a check was supplied with is the one that it found
 verdict_is : (s : State) (told : Option Told) (answer : Scrubbed) (after : ScrubState) → IsMachineStep (grid_with s.file s.blocks) after told answer (memory s) → (given : Given) → IsSupplied s told Scrub given → GivesVerdict told (Ok answer) given
-    → given.verdict ≡ verdict_in answer
+    → supplied_verdict given ≡ verdict_in answer
 verdict_is s None answer after of given supplied gives = gives
 verdict_is s (Some t) answer after of given supplied gives = supplied.1 ∙ sym of.verdict
 
@@ -43,23 +43,23 @@ module _ (s : State) (live : s.live ≡ true) where
   calls given g w t k = record { steps = []; are = tt; does = refl }
 
   input : (told : Option Told) (given : Given) → IsSupplied s told Scrub given → IsInput given Scrub
-  input told given supplied = record { checksum = zero_sum given supplied.0; fields = tt }
+  input told given supplied = record { checksums = no_sums given (ForScrub (supplied_verdict given)) supplied.0 refl; fields = tt }
 
-  module _ (told : Option Told) (answer : Scrubbed) (scrub : ScrubState) (of : IsMachineStep (grid_with s.file s.blocks) scrub told answer (memory s)) (given : Given) (same : given.verdict ≡ verdict_in answer) where
+  module _ (told : Option Told) (answer : Scrubbed) (scrub : ScrubState) (of : IsMachineStep (grid_with s.file s.blocks) scrub told answer (memory s)) (given : Given) (same : supplied_verdict given ≡ verdict_in answer) where
     module _ (w : Work) (work : IsWork (shape s.file) (spelling s.file) w) (rep : Represents s w) where
       answers : ToScrub answer ≡ (next s.file w given Scrub).1
       answers =
           ap ToScrub (sym (of.answers w (ap (λ (m : Memory). m.tour) (sym rep))))
           ∙ ap (λ (v : Verdict). ToScrub (after_check w v (to_check (memory s))).1) (sym same)
-          ∙ ap (λ (m : Memory). ToScrub (after_check w given.verdict (to_check m)).1) rep
+          ∙ ap (λ (m : Memory). ToScrub (after_check w (supplied_verdict given) (to_check m)).1) rep
 
       stands : Represents (with_scrub s scrub) (next s.file w given Scrub).0
       stands =
           let m : Memory = memory_of (shape s.file) (spelling s.file) w in
           sym of.memory
           ∙ ap (λ (v : Verdict). checked_in (memory s) v (to_check (memory s))) (sym same)
-          ∙ ap (λ (x : Memory). checked_in x given.verdict (to_check x)) rep
-          ∙ sym (blocks_kept m given.verdict (to_check m))
+          ∙ ap (λ (x : Memory). checked_in x (supplied_verdict given) (to_check x)) rep
+          ∙ sym (blocks_kept m (supplied_verdict given) (to_check m))
           ∙ sym (change_law (shape s.file) (spelling s.file) w given Scrub work)
 
     answered : Answered given Scrub s (with_scrub s scrub) [] (ToScrub answer)
@@ -98,4 +98,4 @@ module _ (s : State) (live : s.live ≡ true) where
 
   pub recent_serves : (told : Option Told) → Serves Recent s s told told (Some (ToRecent s.findings))
   recent_serves told given supplied =
-      answered_call given Recent s [] (record { checksum = zero_sum given supplied; fields = tt }) (recent_calls given) (makes_nothing given Recent s (λ place. refl) (λ no. no)) s (ToRecent s.findings) (recent_answered given) told told supplied refl
+      answered_call given Recent s [] (record { checksums = no_sums given ForRecent supplied refl; fields = tt }) (recent_calls given) (makes_nothing given Recent s (λ place. refl) (λ no. no)) s (ToRecent s.findings) (recent_answered given) told told supplied refl

@@ -1,5 +1,5 @@
 -- Calls one after the other: nothing is served at first, one more call goes on, and a fault stops them.
-use Rattle.std.proofs.Common.{◌≡◌, ◌⊎◌, inl, inr, List, [], ◌∷◌, ◌++◌, Option, Some, None, Err, refl, sym, ◌∙◌, ap, subst, arith}
+use Rattle.std.proofs.Common.{◌≡◌, ◌⊎◌, inl, inr, List, [], ◌∷◌, ◌++◌, Option, Some, None, refl, sym, ◌∙◌, ap, subst}
 use Rattle.df_base.specs.Image.{Image}
 use Rattle.df_base.specs.Log.{Event, IsLeft, Log, add}
 use Rattle.df_base.specs.Moments.{EachMoment, Extends, adds}
@@ -7,11 +7,9 @@ use Rattle.df_base.proofs.Laws.{extends_add, extends_self, more, weaker, same_lo
 use Rattle.df_disk.specs.Told.{Told}
 use Rattle.df_disk.specs.Adds.{after_all}
 use Rattle.df_disk.proofs.Laws.{after_append}
-use Rattle.df_layout.specs.declared.damage.Class.TheVariants.{Blank}
 use Rattle.df_theory.specs.View.{View}
 use Rattle.df_theory.specs.Device.{NoChanceOf}
-use Rattle.df_model.specs.Commands.{Answer, Given, Recent}
-use Rattle.df_model.specs.declared.answers.Verdict.TheVariants.{Sound}
+use Rattle.df_model.specs.Commands.{Answer, ForRecent, Recent}
 use Rattle.df_model.specs.Work.{Work, kept}
 use Rattle.df_rooms.specs.declared.file.DataFile.{DataFile}
 use Rattle.df_rooms.specs.State.{State, shape}
@@ -96,13 +94,9 @@ moments_go_on g w acts a s (Some t) (Some o) (Some n) one two = (
 
 -- ---- the laws
 
--- a command that does nothing
-abbrev looks : Given
-looks = record { checksum = 0; message = Err Blank; block = Err Blank; verdict = Sound }
-
--- what is kept is good where it stands
+-- what is kept is good where it stands: a command that does nothing
 good_now : (g : Grade) (s : State) (w : Work) (t : Told) → IsKept g s w t.log → EachMoment t.log t.log (IsGoodFor g (format s.file) (shape s.file) (kept w) (kept w))
-good_now g s w t k = moments looks Recent s [] (record { checksum = omega arith; fields = tt }) (λ known x told there. record { steps = []; are = tt; does = refl }) g w t k t refl
+good_now g s w t k = moments ForRecent Recent s [] (record { checksums = tt; fields = tt }) (λ known x told there. record { steps = []; are = tt; does = refl }) g w t k t refl
 
 view_now : (g : Grade) (s : State) (w : Work) (t : Told) → IsKept g s w t.log → LeavesView s.file g w (Some t)
 view_now g s w t k image left chance =

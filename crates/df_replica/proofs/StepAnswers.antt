@@ -13,8 +13,8 @@ use Rattle.df_journal.specs.Append.{ShowsRing}
 use Rattle.df_theory.specs.Runs.{Step}
 use Rattle.df_theory.specs.Units as theory
 use Rattle.df_model.specs.After.{after_running, after_step_of}
-use Rattle.df_model.specs.Codec.{IsChecksum}
-use Rattle.df_model.specs.Commands.{Advance, Answer, Given, IsInput, ToAdvance, as_answer}
+use Rattle.df_model.specs.Codec.{AreChecksums, IsChecksum}
+use Rattle.df_model.specs.Commands.{Advance, Answer, ForAdvance, Given, IsInput, ToAdvance, as_answer, supplied_sum, supplied_sums}
 use Rattle.df_model.specs.Laws.{DoesAdvance, DoesAdvanceTo}
 use Rattle.df_model.specs.Memory.{Course, Memory, course as course_from, course_of as courses, memory_of}
 use Rattle.df_model.specs.Sense.{IsWork}
@@ -43,8 +43,8 @@ made_is : (s : State) (o : Option RunningState) → IsChecksum (made_by s o)
 made_is s None = omega arith
 made_is s (Some r) = made_small s r s.blocks.left
 
-pub step_input : (s : State) (given : Given) → given.checksum ≡ made_by s s.running → IsInput given Advance
-step_input s given sum = record { checksum = subst IsChecksum (sym sum) (made_is s s.running); fields = tt }
+pub step_input : (s : State) (given : Given) → given ≡ ForAdvance (made_by s s.running ∷ []) → IsInput given Advance
+step_input s given sum = record { checksums = subst (λ (g : Given). AreChecksums (supplied_sums g)) (sym sum) (made_is s s.running, tt); fields = tt }
 
 -- ---- where no checkpoint runs
 
@@ -56,31 +56,31 @@ pub none_pending : (o : Option RunningState) (left : List ℕ) → pending o lef
 none_pending None left none = refl
 none_pending (Some r) left none = absurd (cc)
 
-module _ (s : State) (given : Given) (live : s.live ≡ true) (idle : s.running ≡ None) (sum : given.checksum ≡ made_by s s.running) where
+module _ (s : State) (given : Given) (live : s.live ≡ true) (idle : s.running ≡ None) (sum : given ≡ ForAdvance (made_by s s.running ∷ [])) where
   idle_work : (w : Work) → Represents s w → w.running ≡ None
   idle_work w rep = none_runs (spelling s.file) w.running (sym (ap (course_in s.file s.blocks) idle) ∙ ap (λ (m : Memory). m.running) rep)
 
   idle_next : (w : Work) → Represents s w → next s.file w given Advance ≡ (w, ToAdvance (Err step.NotRunning))
-  idle_next w rep = ap (λ (o : Option Running). as_answer ToAdvance (after_step_of (shape s.file) (spelling s.file) w given.checksum o)) (idle_work w rep)
+  idle_next w rep = ap (λ (o : Option Running). as_answer ToAdvance (after_step_of (shape s.file) (spelling s.file) w (supplied_sum given) o)) (idle_work w rep)
 
   idle_does : AreCalls given Advance s []
   idle_does g w t k = record {
     steps = [];
     are = tt;
-    does = subst (λ (o : Option Running). DoesAdvance (shape s.file) (spelling s.file) w given.checksum o []) (sym (idle_work w k.stands)) refl;
+    does = subst (λ (o : Option Running). DoesAdvance (shape s.file) (spelling s.file) w (supplied_sum given) o []) (sym (idle_work w k.stands)) refl;
   }
 
   idle_puts : Makes given Advance s []
   idle_puts =
       let none : course_in s.file s.blocks s.running ≡ None = ap (course_in s.file s.blocks) idle in
-      makes_nothing given Advance s (λ place. ap (λ (o : Option Course). step_puts (memory s) o given.checksum place) none) (λ is. subst IsWhole none is)
+      makes_nothing given Advance s (λ place. ap (λ (o : Option Course). step_puts (memory s) o (supplied_sum given) place) none) (λ is. subst IsWhole none is)
 
   idle_as : Answered given Advance s s [] (ToAdvance (Err step.NotRunning))
   idle_as = record {
     file = refl;
     live = live;
     stands = λ w work rep. (ap (λ (x : Work × Answer). x.1) (sym (idle_next w rep)), subst (λ (x : Work × Answer). Represents s x.0) (sym (idle_next w rep)) rep);
-    made = λ w work rep. subst (λ (o : Option Running). OfStep (shape s.file) (spelling s.file) (StandsIn (format s.file) []) w given.checksum o) (sym (idle_work w rep)) tt;
+    made = λ w work rep. subst (λ (o : Option Running). OfStep (shape s.file) (spelling s.file) (StandsIn (format s.file) []) w (supplied_sum given) o) (sym (idle_work w rep)) tt;
     ring = λ g w a b k all. subst (λ (x : Told). ShowsRing s.file.layout s.file.cluster (now x.log) s.headers) (sym (same_Some _ _ all)) k.ring;
   }
 
@@ -89,7 +89,7 @@ module _ (s : State) (given : Given) (live : s.live ≡ true) (idle : s.running 
 
 -- ---- where one does
 
-module _ (s : State) (r : RunningState) (given : Given) (running : s.running ≡ Some r) (sum : given.checksum ≡ made_by s s.running) where
+module _ (s : State) (r : RunningState) (given : Given) (running : s.running ≡ Some r) (sum : given ≡ ForAdvance (made_by s s.running ∷ [])) where
   abbrev spell : theory.Parts → List ℕ
   spell = spelling s.file
 
@@ -106,46 +106,46 @@ module _ (s : State) (r : RunningState) (given : Given) (running : s.running ≡
   pub runs : (w : Work) → Represents s w → Runs w
   runs w rep = runs_in w w.running refl (sym (ap (course_in s.file s.blocks) running) ∙ ap (λ (m : Memory). m.running) rep)
 
-  pub sum_is : given.checksum ≡ made_for s r s.blocks.left
-  sum_is = sum ∙ ap (made_by s) running
+  pub sum_is : supplied_sum given ≡ made_for s r s.blocks.left
+  sum_is = ap supplied_sum sum ∙ ap (made_by s) running
 
   -- the machine's step, where these addresses are to come
-  pub next_is : (w : Work) (rep : Represents s w) (l : List ℕ) → s.blocks.left ≡ l → next s.file w given Advance ≡ as_answer ToAdvance (after_running (shape s.file) spell w given.checksum (runs w rep).on l)
+  pub next_is : (w : Work) (rep : Represents s w) (l : List ℕ) → s.blocks.left ≡ l → next s.file w given Advance ≡ as_answer ToAdvance (after_running (shape s.file) spell w (supplied_sum given) (runs w rep).on l)
   next_is w rep l left =
       let R = runs w rep in
-      ap (λ (o : Option Running). as_answer ToAdvance (after_step_of (shape s.file) spell w given.checksum o)) R.is
-      ∙ ap (λ (k : List ℕ). as_answer ToAdvance (after_running (shape s.file) spell w given.checksum R.on k)) (ap (λ (c : Course). c.left) R.course ∙ left)
+      ap (λ (o : Option Running). as_answer ToAdvance (after_step_of (shape s.file) spell w (supplied_sum given) o)) R.is
+      ∙ ap (λ (k : List ℕ). as_answer ToAdvance (after_running (shape s.file) spell w (supplied_sum given) R.on k)) (ap (λ (c : Course). c.left) R.course ∙ left)
 
   -- what it does to the disk
-  pub does_step : (w : Work) (rep : Represents s w) (l : List ℕ) (steps : List Step) → s.blocks.left ≡ l → DoesAdvanceTo (shape s.file) spell w given.checksum (runs w rep).on l steps → DoesAdvance (shape s.file) spell w given.checksum w.running steps
+  pub does_step : (w : Work) (rep : Represents s w) (l : List ℕ) (steps : List Step) → s.blocks.left ≡ l → DoesAdvanceTo (shape s.file) spell w (supplied_sum given) (runs w rep).on l steps → DoesAdvance (shape s.file) spell w (supplied_sum given) w.running steps
   does_step w rep l steps left does =
       let R = runs w rep in
-      subst (λ (o : Option Running). DoesAdvance (shape s.file) spell w given.checksum o steps) (sym R.is)
-      (subst (λ (k : List ℕ). DoesAdvanceTo (shape s.file) spell w given.checksum R.on k steps) (sym (ap (λ (c : Course). c.left) R.course ∙ left)) does)
+      subst (λ (o : Option Running). DoesAdvance (shape s.file) spell w (supplied_sum given) o steps) (sym R.is)
+      (subst (λ (k : List ℕ). DoesAdvanceTo (shape s.file) spell w (supplied_sum given) R.on k steps) (sym (ap (λ (c : Course). c.left) R.course ∙ left)) does)
 
   -- and the block that it makes
-  pub makes_step : (P : theory.Place → theory.AnyUnit → Type 0) (w : Work) (rep : Represents s w) (l : List ℕ) → s.blocks.left ≡ l → OfLeft (shape s.file) spell P w given.checksum (runs w rep).on l → OfStep (shape s.file) spell P w given.checksum w.running
+  pub makes_step : (P : theory.Place → theory.AnyUnit → Type 0) (w : Work) (rep : Represents s w) (l : List ℕ) → s.blocks.left ≡ l → OfLeft (shape s.file) spell P w (supplied_sum given) (runs w rep).on l → OfStep (shape s.file) spell P w (supplied_sum given) w.running
   makes_step P w rep l left made =
       let R = runs w rep in
-      subst (λ (o : Option Running). OfStep (shape s.file) spell P w given.checksum o) (sym R.is)
-      (subst (λ (k : List ℕ). OfLeft (shape s.file) spell P w given.checksum R.on k) (sym (ap (λ (c : Course). c.left) R.course ∙ left)) made)
+      subst (λ (o : Option Running). OfStep (shape s.file) spell P w (supplied_sum given) o) (sym R.is)
+      (subst (λ (k : List ℕ). OfLeft (shape s.file) spell P w (supplied_sum given) R.on k) (sym (ap (λ (c : Course). c.left) R.course ∙ left)) made)
 
   -- what it puts
-  pub step_puts_are : (l : List ℕ) → s.blocks.left ≡ l → (place : theory.Place) → puts_of (memory s) given.checksum Advance place ≡ trailer_puts (memory s) (course_of s.file s.blocks r) given.checksum l place
+  pub step_puts_are : (l : List ℕ) → s.blocks.left ≡ l → (place : theory.Place) → puts_of (memory s) (supplied_sum given) Advance place ≡ trailer_puts (memory s) (course_of s.file s.blocks r) (supplied_sum given) l place
   step_puts_are l left place =
-      ap (λ (o : Option Course). step_puts (memory s) o given.checksum place) (ap (course_in s.file s.blocks) running)
-      ∙ ap (λ (k : List ℕ). trailer_puts (memory s) (course_of s.file s.blocks r) given.checksum k place) left
+      ap (λ (o : Option Course). step_puts (memory s) o (supplied_sum given) place) (ap (course_in s.file s.blocks) running)
+      ∙ ap (λ (k : List ℕ). trailer_puts (memory s) (course_of s.file s.blocks r) (supplied_sum given) k place) left
 
   -- what it leaves in memory
-  pub memory_is : (w : Work) → IsWork (shape s.file) spell w → Represents s w → step_memory (memory s) given.checksum ≡ memory_of (shape s.file) spell (next s.file w given Advance).0
-  memory_is w work rep = ap (λ (m : Memory). step_memory m given.checksum) rep ∙ sym (change_law (shape s.file) spell w given Advance work)
+  pub memory_is : (w : Work) → IsWork (shape s.file) spell w → Represents s w → step_memory (memory s) (supplied_sum given) ≡ memory_of (shape s.file) spell (next s.file w given Advance).0
+  memory_is w work rep = ap (λ (m : Memory). step_memory m (supplied_sum given)) rep ∙ sym (change_law (shape s.file) spell w given Advance work)
 
   -- ---- a call with these device calls, which spare the header ring
 
   module _ (t : State) (events : List Event) (progress : Progress) (same_file : t.file ≡ s.file) (live : t.live ≡ true) (same_headers : t.headers ≡ s.headers)
-      (does : AreCalls given Advance s events) (puts : Makes given Advance s events) (leaves : (w : Work) → IsWork (shape s.file) spell w → Represents s w → memory t ≡ step_memory (memory s) given.checksum)
+      (does : AreCalls given Advance s events) (puts : Makes given Advance s events) (leaves : (w : Work) → IsWork (shape s.file) spell w → Represents s w → memory t ≡ step_memory (memory s) (supplied_sum given))
       (answers : (w : Work) → Represents s w → (next s.file w given Advance).1 ≡ ToAdvance (Ok progress))
-      (makes : (w : Work) → Represents s w → OfStep (shape s.file) spell (StandsIn (format s.file) events) w given.checksum w.running)
+      (makes : (w : Work) → Represents s w → OfStep (shape s.file) spell (StandsIn (format s.file) events) w (supplied_sum given) w.running)
       (spares : (g : Grade) (w : Work) (a b : Told) → IsKept g s w a.log → Some b ≡ after_all events (Some a) → ShowsRing s.file.layout s.file.cluster (now b.log) s.headers) where
     stands_at : (w : Work) → IsWork (shape s.file) spell w → Represents s w → Represents t (next s.file w given Advance).0
     stands_at w work rep =

@@ -7,7 +7,7 @@ use Rattle.df_layout.specs.declared.damage.Finding.{Finding}
 use Rattle.df_theory.specs.Units
 use Rattle.df_units.specs.Meaning.{number_of}
 use Rattle.df_format.specs.declared.reference.Reference.{Reference}
-use Rattle.df_model.specs.Commands.{Answer, Command, Given, ToAppend, ToBegin, ToRelease, ToReply, ToScrub, ToWriteBlock, Scrub}
+use Rattle.df_model.specs.Commands.{Answer, Command, Given, Scrub, ToAppend, ToBegin, ToRelease, ToReply, ToScrub, ToWriteBlock, supplied_block, supplied_message, supplied_verdict}
 use Rattle.df_model.specs.declared.answers.Receipt.{Receipt}
 use Rattle.df_model.specs.declared.errors.AppendError.{AppendError}
 use Rattle.df_model.specs.declared.errors.BeginError.{BeginError}
@@ -71,7 +71,7 @@ Serves command s t old new answer = (given : Given) → IsSupplied s old command
 
 -- where the disk doesn't tell what it shows, what a read was supplied with is what it found
 abbrev pub Gives : Option Told → Option (Result Units.Message Class) → Given → Type 0
-Gives None (Some found) given = given.message ≡ found
+Gives None (Some found) given = supplied_message given ≡ found
 Gives told found given = Unit {0}
 
 -- the read is served, and does nothing to the disk
@@ -80,7 +80,7 @@ ServesRead command s t told found answer = (given : Given) → IsSupplied s told
 
 -- so it is with a block that is read
 abbrev pub GivesBlock : Option Told → Option (Result Units.Block Class) → Given → Type 0
-GivesBlock None (Some found) given = given.block ≡ found
+GivesBlock None (Some found) given = supplied_block given ≡ found
 GivesBlock told found given = Unit {0}
 
 abbrev pub ServesBlockRead : Command → (s t : State) → Option Told → Option (Result Units.Block Class) → Option Answer → Type 0
@@ -88,7 +88,7 @@ ServesBlockRead command s t told found answer = (given : Given) → IsSupplied s
 
 -- and with the verdict of a check
 abbrev pub GivesVerdict : Option Told → Result Scrubbed Failed → Given → Type 0
-GivesVerdict None (Ok scrubbed) given = given.verdict ≡ verdict_in scrubbed
+GivesVerdict None (Ok scrubbed) given = supplied_verdict given ≡ verdict_in scrubbed
 GivesVerdict told result given = Unit {0}
 
 abbrev pub ServesScrub : (s t : State) → Option Told → Result Scrubbed Failed → Type 0

@@ -11,6 +11,7 @@ use Rattle.df_theory.specs.View.{View}
 use Rattle.df_theory.specs.Holds.{Held, Stands}
 use Rattle.df_theory.specs.Device.{IsSafeDisk, NoChanceOf}
 use Rattle.df_model.specs.Commands.{Answer, Command, Given}
+use Rattle.df_model.specs.Views.{SomeKeeps}
 use Rattle.df_model.specs.Work.{Work, kept}
 use Rattle.df_rooms.specs.declared.file.DataFile.{DataFile}
 use Rattle.df_rooms.specs.State.{State, shape}
@@ -33,10 +34,10 @@ abbrev pub answers_of : DataFile → Work → List Act → List Answer
 answers_of file w [] = []
 answers_of file w (a ∷ acts) = (next file w a.given a.command).1 ∷ answers_of file (next file w a.given a.command).0 acts
 
--- the image has the view; of a whole file with each block that it references
+-- the image has a view that keeps this one; of a whole file with each block that it references
 abbrev pub HoldsFor : Grade → Shape → Units → View → Type 0
-HoldsFor Firm sh image v = Held sh image v
-HoldsFor Whole sh image v = Held sh image v × Stands image v
+HoldsFor Firm sh image v = SomeKeeps v (Held sh image)
+HoldsFor Whole sh image v = SomeKeeps v (λ u. Held sh image u × Stands image u)
 
 -- the image has the view of this state
 abbrev pub HasView : DataFile → Grade → Work → Image → Type 0

@@ -6,8 +6,8 @@ use Rattle.df_format.specs.Spelling.{spelling_rest}
 use Rattle.df_format.specs.Super.{covered_bytes}
 use Rattle.df_format.specs.declared.header.Header.{Header}
 use Rattle.df_theory.specs.Units.{AnyUnit, BlockPlace, Place, PreparePlace, ReplyPlace, or_else}
-use Rattle.df_model.specs.Codec.{IsChecksum}
-use Rattle.df_model.specs.Commands.{Advance, Answer, Append, Begin, Command, ReadBlock, ReadPrepare, ReadReply, Recent, Release, Reply, Scrub, WriteBlock}
+use Rattle.df_model.specs.Codec.{AreChecksums, IsChecksum}
+use Rattle.df_model.specs.Commands.{Advance, Answer, Append, Begin, Command, ReadBlock, ReadPrepare, ReadReply, Recent, Release, Reply, Scrub, WriteBlock, supplied_sums}
 use Rattle.df_model.specs.Making.{block_of, content_of, next_address, place_of_reply, prepare_of, reply_of, trailer_block}
 use Rattle.df_model.specs.Memory.{Course, Memory, memory_of}
 use Rattle.df_model.specs.Sense.{IsWork}
@@ -48,6 +48,19 @@ module _ (file : DataFile) (m : Memory) where
   given_small Scrub = omega arith
   given_small Recent = omega arith
 
+  supplied_small : (shown : Shown) (c : Command) → AreChecksums (supplied_sums (supplied (codec file) shown m c))
+  supplied_small shown (Append client request body) = (given_small (Append client request body), tt)
+  supplied_small shown (Reply op body) = (given_small (Reply op body), tt)
+  supplied_small shown (WriteBlock kind body) = (given_small (WriteBlock kind body), tt)
+  supplied_small shown (Release address) = tt
+  supplied_small shown (Begin root) = tt
+  supplied_small shown Advance = (given_small Advance, tt)
+  supplied_small shown (ReadPrepare op) = tt
+  supplied_small shown (ReadReply client) = tt
+  supplied_small shown (ReadBlock address) = tt
+  supplied_small shown Scrub = tt
+  supplied_small shown Recent = tt
+
 -- ---- what is shown then
 
 module _ (file : DataFile) (one other : Shown) (m : Memory) (c : Command) (agree : AgreeShown file.layout one other) where
@@ -76,7 +89,7 @@ result_agrees file one other w (c ∷ cs) agree work range =
     let m = memory_of (shape file) (spelling file) w in
     let same = next_agrees file one other agree w work c in
     let later : IsWork (shape file) (spelling file) (over (shape file) (codec file) one w c).0 =
-    sense_law (shape file) (spelling file) w (supplied (codec file) one m c) c (record { checksum = given_small file m c; fields = range.0 }) work in
+    sense_law (shape file) (spelling file) w (supplied (codec file) one m c) c (record { checksums = supplied_small file m one c; fields = range.0 }) work in
     let rest = result_agrees file (shown_after (codec file) one m c) (shown_after (codec file) other m c) (over (shape file) (codec file) one w c).0 cs (agrees_then file one other m c agree) later range.1 in
     (λ i. (same i).1 ∷ rest i)
     ∙ ap (λ (x : Work × Answer). (over (shape file) (codec file) other w c).1 ∷ result (shape file) (codec file) (shown_after (codec file) other m c) x.0 cs) same

@@ -6,7 +6,7 @@ use Rattle.df_theory.specs.Units.{AnyUnit, BlockPlace, CopyPlace, HeaderPlace, P
 use Rattle.df_theory.specs.View.{PassesTests}
 use Rattle.df_units.specs.Bytes.{unit_at}
 use Rattle.df_units.specs.Wanted.{class_at}
-use Rattle.df_model.specs.Commands.{Advance, Answer, Append, Begin, Command, Given, ReadBlock, ReadPrepare, ReadReply, Recent, Release, Reply, Scrub, WriteBlock}
+use Rattle.df_model.specs.Commands.{Advance, Answer, Append, Begin, Command, Given, ReadBlock, ReadPrepare, ReadReply, Recent, Release, Reply, Scrub, WriteBlock, supplied_sum}
 use Rattle.df_model.specs.Memory.{Memory, memory_of}
 use Rattle.df_model.specs.Supply.{Shown, checksum_given, next as over, puts_of, shown_after}
 use Rattle.df_model.specs.Work.{Work}
@@ -78,23 +78,23 @@ idle_sum : (s : State) (sum : ℕ) (o : Option RunningState) → s.running ≡ o
 idle_sum s sum None running is none = is
 idle_sum s sum (Some r) running is none = let no = sym (ap (course_in s.file s.blocks) running) ∙ none in absurd (cc)
 
-no_sum : (s : State) (told : Option Told) (given : Given) (command : Command) → IsSupplied s told command given → NoSum (memory s) given.checksum command
+no_sum : (s : State) (told : Option Told) (given : Given) (command : Command) → IsSupplied s told command given → NoSum (memory s) (supplied_sum given) command
 no_sum s told given (Append client request body) is = tt
 no_sum s told given (Reply op body) is = tt
 no_sum s told given (WriteBlock kind body) is = tt
-no_sum s told given (Release address) is = is
-no_sum s told given (Begin root) is = is
-no_sum s told given Advance is = idle_sum s given.checksum s.running refl is
-no_sum s told given (ReadPrepare op) is = is.0
-no_sum s told given (ReadReply client) is = is.0
-no_sum s told given (ReadBlock address) is = is.0
-no_sum s told given Scrub is = is.0
-no_sum s told given Recent is = is
+no_sum s told given (Release address) is = ap supplied_sum is
+no_sum s told given (Begin root) is = ap supplied_sum is
+no_sum s told given Advance is = idle_sum s (supplied_sum given) s.running refl (ap supplied_sum is)
+no_sum s told given (ReadPrepare op) is = ap supplied_sum is.0
+no_sum s told given (ReadReply client) is = ap supplied_sum is.0
+no_sum s told given (ReadBlock address) is = ap supplied_sum is.0
+no_sum s told given Scrub is = ap supplied_sum is.0
+no_sum s told given Recent is = ap supplied_sum is
 
 pub supplied_is_result : SuppliedIsResult
 supplied_is_result s w t command given rep supplied sum =
     next_is (shape s.file) (codec s.file) (shown_of s.file t.shown) w given command
-    (subst (λ (m : Memory). IsSum (codec s.file) m given.checksum command) rep sum)
+    (subst (λ (m : Memory). IsSum (codec s.file) m (supplied_sum given) command) rep sum)
     (subst (λ (m : Memory). IsFoundIn (shown_of s.file t.shown) m given command) rep (found_in s t given command supplied))
 
 -- ---- a call
@@ -113,17 +113,17 @@ module _ (given : Given) (command : Command) (s u : State) (t : Told) (new : Opt
   abbrev m : Memory
   m = memory_of (shape s.file) (spelling s.file) w
 
-  leaves : LeavesShown s.file (memory s) given.checksum command t.shown later
+  leaves : LeavesShown s.file (memory s) (supplied_sum given) command t.shown later
   leaves = call.leaves t.shown whole
 
-  sum : IsSum (codec s.file) (memory s) given.checksum command
-  sum = sum_made s.file (memory s) given.checksum t.shown later command (of_file s w k) (no_sum s (Some t) given command call.supplied) leaves (call.copies w k t.shown whole)
+  sum : IsSum (codec s.file) (memory s) (supplied_sum given) command
+  sum = sum_made s.file (memory s) (supplied_sum given) t.shown later command (of_file s w k) (no_sum s (Some t) given command call.supplied) leaves (call.copies w k t.shown whole)
 
   next_here : next s.file w given command ≡ over (shape s.file) (codec s.file) shown w command
   next_here = supplied_is_result s w t command given k.1 call.supplied sum ∙ next_agrees s.file (shown_of s.file t.shown) shown agree w k.0 command
 
   agrees_then : AgreeShown s.file.layout (shown_of s.file later) (shown_after (codec s.file) shown m command)
-  agrees_then = subst (λ (x : Memory). AgreeShown s.file.layout (shown_of s.file later) (shown_after (codec s.file) shown x command)) k.1 (shown_agrees s.file (memory s) given.checksum command t.shown later shown leaves sum agree)
+  agrees_then = subst (λ (x : Memory). AgreeShown s.file.layout (shown_of s.file later) (shown_after (codec s.file) shown x command)) k.1 (shown_agrees s.file (memory s) (supplied_sum given) command t.shown later shown leaves sum agree)
 
   goes : (answer ≡ (over (shape s.file) (codec s.file) shown w command).1) × Keeps Firm u (over (shape s.file) (codec s.file) shown w command).0 None
   goes = subst (λ (x : Work × Answer). (answer ≡ x.1) × Keeps Firm u x.0 None) next_here (call.answers Firm w k)

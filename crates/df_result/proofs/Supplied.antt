@@ -5,7 +5,7 @@ use Rattle.df_theory.specs.Units.{Block, BlockPlace, BlockUnit, Message, Prepare
 use Rattle.df_theory.specs.Shape.{Shape}
 use Rattle.df_theory.specs.UnitLog.{put_one}
 use Rattle.df_model.specs.After.{after_check, after_step_of, outcome, prepare_answer, lookup_answer, read_answer, to_check, with_live, with_prepare, with_reply}
-use Rattle.df_model.specs.Commands.{Advance, Answer, Append, Begin, Command, Given, ReadBlock, ReadPrepare, ReadReply, Recent, Release, Reply, Scrub, ToAdvance, ToAppend, ToReadBlock, ToReadPrepare, ToReadReply, ToReply, ToScrub, ToWriteBlock, WriteBlock, after, as_answer}
+use Rattle.df_model.specs.Commands.{Advance, Answer, Append, Begin, Command, Given, ReadBlock, ReadPrepare, ReadReply, Recent, Release, Reply, Scrub, ToAdvance, ToAppend, ToReadBlock, ToReadPrepare, ToReadReply, ToReply, ToScrub, ToWriteBlock, WriteBlock, after, as_answer, supplied_sum}
 use Rattle.df_model.specs.Making.{block_of, next_address, place_of_reply, prepare_of, reply_of}
 use Rattle.df_model.specs.Memory.{Memory, memory_of}
 use Rattle.df_model.specs.Refusals.{append_refusals, block_refusals, first_refusal, reply_refusals}
@@ -45,15 +45,15 @@ module _ (sh : Shape) (codec : Codec) (shown : Shown) (w : Work) (given : Given)
   abbrev m : Memory
   m = memory_of sh codec.spell w
 
-  pub next_is : (c : Command) → IsSum codec m given.checksum c → IsFoundIn shown m given c → after sh codec.spell w given c ≡ next sh codec shown w c
+  pub next_is : (c : Command) → IsSum codec m (supplied_sum given) c → IsFoundIn shown m given c → after sh codec.spell w given c ≡ next sh codec shown w c
   next_is (Append client request body) is found =
-      by_refusal (λ (o : Option AppendError) (n : ℕ). as_answer ToAppend (outcome o w (with_prepare w (prepare_of m n client request body)) (m.head + 1, n))) (first_refusal (append_refusals m client request body)) given.checksum
+      by_refusal (λ (o : Option AppendError) (n : ℕ). as_answer ToAppend (outcome o w (with_prepare w (prepare_of m n client request body)) (m.head + 1, n))) (first_refusal (append_refusals m client request body)) (supplied_sum given)
       (checksum_given codec m (Append client request body)) (λ e. refl) is
   next_is (Reply op body) is found =
-      by_refusal (λ (o : Option ReplyError) (n : ℕ). as_answer ToReply (outcome o w (with_reply w (place_of_reply m) (reply_of m n body)) n)) (first_refusal (reply_refusals m op body)) given.checksum (checksum_given codec m (Reply op body))
+      by_refusal (λ (o : Option ReplyError) (n : ℕ). as_answer ToReply (outcome o w (with_reply w (place_of_reply m) (reply_of m n body)) n)) (first_refusal (reply_refusals m op body)) (supplied_sum given) (checksum_given codec m (Reply op body))
       (λ e. refl) is
   next_is (WriteBlock kind body) is found =
-      by_refusal (λ (o : Option BlockError) (n : ℕ). as_answer ToWriteBlock (outcome o w (with_live w (next_address m) (Some n)) (next_address m, n))) (first_refusal (block_refusals m kind body)) given.checksum
+      by_refusal (λ (o : Option BlockError) (n : ℕ). as_answer ToWriteBlock (outcome o w (with_live w (next_address m) (Some n)) (next_address m, n))) (first_refusal (block_refusals m kind body)) (supplied_sum given)
       (checksum_given codec m (WriteBlock kind body)) (λ e. refl) is
   next_is (Release address) is found = refl
   next_is (Begin root) is found = refl

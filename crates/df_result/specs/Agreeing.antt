@@ -3,7 +3,7 @@ use Rattle.std.specs.Prelude.{◌≡◌, ℕ, None}
 use Rattle.df_layout.specs.declared.layout.Layout.{Layout}
 use Rattle.df_theory.specs.Units.{Place}
 use Rattle.df_model.specs.After.{to_check}
-use Rattle.df_model.specs.Commands.{Advance, Append, Command, Given, ReadBlock, ReadPrepare, ReadReply, Reply, Scrub, WriteBlock}
+use Rattle.df_model.specs.Commands.{Advance, Append, Command, Given, ReadBlock, ReadPrepare, ReadReply, Reply, Scrub, WriteBlock, supplied_block, supplied_message, supplied_verdict}
 use Rattle.df_model.specs.Memory.{Memory}
 use Rattle.df_model.specs.Refusals.{append_refusals, block_refusals, first_refusal, reply_refusals}
 use Rattle.df_model.specs.Result.{AgreeReads}
@@ -27,8 +27,8 @@ IsSum codec m sum command = sum ≡ 0
 
 -- what a read finds, or a check, is what is shown
 abbrev pub IsFoundIn : Shown → Memory → Given → Command → Type 0
-IsFoundIn shown m given (ReadPrepare op) = given.message ≡ message_given shown m (ReadPrepare op)
-IsFoundIn shown m given (ReadReply client) = given.message ≡ message_given shown m (ReadReply client)
-IsFoundIn shown m given (ReadBlock address) = given.block ≡ block_read shown m (ReadBlock address)
-IsFoundIn shown m given Scrub = given.verdict ≡ first_check shown (to_check m)
+IsFoundIn shown m given (ReadPrepare op) = supplied_message given ≡ message_given shown m (ReadPrepare op)
+IsFoundIn shown m given (ReadReply client) = supplied_message given ≡ message_given shown m (ReadReply client)
+IsFoundIn shown m given (ReadBlock address) = supplied_block given ≡ block_read shown m (ReadBlock address)
+IsFoundIn shown m given Scrub = supplied_verdict given ≡ first_check shown (to_check m)
 IsFoundIn shown m given command = Unit {0}

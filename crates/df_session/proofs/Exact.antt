@@ -1,5 +1,5 @@
 -- What follows from a call that is exact: what the disk then tells, whether a checkpoint runs behind it, and what its answer is in the machine's words.
-use Rattle.std.proofs.Common.{◌≡◌, ℕ, Bool, List, [], Option, Some, None, refl, sym, ap, subst, Result, Ok, Err}
+use Rattle.std.proofs.Common.{◌≡◌, ℕ, Bool, List, [], ◌∷◌, Option, Some, None, refl, sym, ap, subst, Result, Ok, Err}
 use Rattle.df_base.specs.Log.{Event}
 use Rattle.df_base.specs.Causes.{Blamed, IsBlamed}
 use Rattle.df_disk.specs.Adds.{AddsPart, after_all}
@@ -7,13 +7,11 @@ use Rattle.df_disk.specs.Told.{Told}
 use Rattle.df_format.specs.declared.reference.Reference.{Reference}
 use Rattle.df_model.specs.Called.{command_of}
 use Rattle.df_layout.specs.declared.damage.Class.{Class}
-use Rattle.df_layout.specs.declared.damage.Class.TheVariants.{Blank}
 use Rattle.df_layout.specs.declared.places.Place.{Place}
-use Rattle.df_model.specs.Commands.{Advance, Append, Begin, Command, Given, ReadBlock, ReadPrepare, ReadReply, Recent, Release, Reply, Scrub, WriteBlock}
+use Rattle.df_model.specs.Commands.{Advance, Append, Begin, Command, ForAdvance, ForAppend, ForBegin, ForRelease, ForReply, ForWriteBlock, ReadBlock, ReadPrepare, ReadReply, Recent, Release, Reply, Scrub, WriteBlock}
 use Rattle.df_model.specs.declared.answers.Progress.{Progress}
 use Rattle.df_model.specs.declared.answers.Progress.TheVariants.{Done, Working}
 use Rattle.df_model.specs.declared.answers.Receipt.{Receipt}
-use Rattle.df_model.specs.declared.answers.Verdict.TheVariants.{Sound}
 use Rattle.df_model.specs.declared.commands.Answer.{Answer}
 use Rattle.df_model.specs.declared.commands.Answer.TheVariants as answers
 use Rattle.df_model.specs.declared.commands.Command.{Command as Asked}
@@ -119,10 +117,6 @@ pub record Called (command : Command) (s t : Replica) (old new : Option Told) (b
 pub for_command : {x y : Asked} {s t : Replica} {old new : Option Told} {before now : ℕ} {answer : Answer} → x ≡ y → Called (command_of y) s t old new before now answer → Called (command_of x) s t old new before now answer
 for_command {x} {y} {s} {t} {old} {new} {before} {now} {answer} is called = subst (λ (c : Asked). Called (command_of c) s t old new before now answer) (sym is) called
 
--- what a call is rightly supplied with
-abbrev supply : (checksum : ℕ) → Given
-supply checksum = record { checksum = checksum; message = Err Blank; block = Err Blank; verdict = Sound }
-
 cause_of : {T E : Type 0} (is_fault : E → Bool) (before now : ℕ) (r : Result T E) → IsBlamed is_fault before now r → Blamed (blames is_fault r) before now
 cause_of is_fault before now (Ok x) is = is
 cause_of is_fault before now (Err e) is = is
@@ -133,7 +127,7 @@ module _ (s t : Replica) (old new : Option Told) (before now : ℕ) where
   append_called client request body r is serves blamed = record {
     exact = (r, refl, is);
     makes =
-        made (Append client request body) (supply (number_of (next_unit s client request body).header.checksum)) s t old new (machine_answer (answers.Append r)) refl
+        made (Append client request body) (ForAppend (number_of (next_unit s client request body).header.checksum ∷ [])) s t old new (machine_answer (answers.Append r)) refl
         serves (append_moves s t old new client request body r is).0;
     cause = cause_of is_append_fault before now r blamed;
   }
@@ -143,7 +137,7 @@ module _ (s t : Replica) (old new : Option Told) (before now : ℕ) where
   reply_called op body r is serves blamed = record {
     exact = (r, refl, is);
     makes =
-        made (Reply op body) (supply (number_of (next_reply s body).header.checksum)) s t old new (machine_answer (answers.Reply r)) refl
+        made (Reply op body) (ForReply (number_of (next_reply s body).header.checksum ∷ [])) s t old new (machine_answer (answers.Reply r)) refl
         serves (reply_moves s t old new op body r is).0;
     cause = cause_of is_reply_fault before now r blamed;
   }
@@ -153,7 +147,7 @@ module _ (s t : Replica) (old new : Option Told) (before now : ℕ) where
   write_called kind body r is serves blamed = record {
     exact = (r, refl, is);
     makes =
-        made (WriteBlock kind body) (supply (number_of (next_block s kind body).header.checksum)) s t old new (machine_answer (answers.WriteBlock r)) refl
+        made (WriteBlock kind body) (ForWriteBlock (number_of (next_block s kind body).header.checksum ∷ [])) s t old new (machine_answer (answers.WriteBlock r)) refl
         serves (write_moves s t old new kind body r is).0;
     cause = cause_of is_block_fault before now r blamed;
   }
@@ -162,7 +156,7 @@ module _ (s t : Replica) (old new : Option Told) (before now : ℕ) where
   step_called r is serves blamed = record {
     exact = (r, refl, is);
     makes =
-        made Advance (supply (made_by s s.running)) s t old new (machine_answer (answers.Advance r)) refl serves
+        made Advance (ForAdvance (made_by s s.running ∷ [])) s t old new (machine_answer (answers.Advance r)) refl serves
         (step_told s t old new r is);
     cause = cause_of is_step_fault before now r blamed;
   }
@@ -172,14 +166,14 @@ module _ (s t : Replica) (told : Option Told) (faults : ℕ) where
   pub release_called : (address : ℕ) (r : Result (Unit {0}) NotLive) → IsRelease address s t r → Serves (Release address) s t told told (release_answer r) → Called (Release address) s t told told faults faults (answers.Release r)
   release_called address r is serves = record {
     exact = (r, refl, is, refl);
-    makes = made (Release address) (supply 0) s t told told (machine_answer (answers.Release r)) refl serves ([], refl);
+    makes = made (Release address) ForRelease s t told told (machine_answer (answers.Release r)) refl serves ([], refl);
     cause = refl;
   }
 
   pub begin_called : (root : List ℕ) (r : Result ℕ BeginError) → IsBegin root s t r → Serves (Begin root) s t told told (begin_answer r) → Called (Begin root) s t told told faults faults (answers.Begin r)
   begin_called root r is serves = record {
     exact = (r, refl, is, refl);
-    makes = made (Begin root) (supply 0) s t told told (machine_answer (answers.Begin r)) refl serves ([], refl);
+    makes = made (Begin root) ForBegin s t told told (machine_answer (answers.Begin r)) refl serves ([], refl);
     cause = refl;
   }
 

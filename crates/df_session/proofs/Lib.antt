@@ -1,6 +1,7 @@
 mod Untouched
 mod Joins
 mod Exact
+mod InWords
 mod Kept
 mod Resulted
 mod Acknowledged

@@ -1,5 +1,5 @@
 -- The calls that commands ask for: which have an answer of their own, what each does, and what it answers in the machine's words.
-use Rattle.std.specs.Prelude.{◌≡◌, ℕ, Bool, true, false, List, Option, Some, None, Result, Ok, Err}
+use Rattle.std.specs.Prelude.{◌≡◌, ℕ, Bool, false, List, Option, Some, None, Result, Ok, Err}
 use Rattle.df_disk.specs.Told.{Told}
 use Rattle.df_format.specs.declared.reference.Reference.{Reference}
 use Rattle.df_model.specs.Commands.{Advance, Answer as Answered, Append, Begin, Command, ReadBlock, ReadPrepare, ReadReply, Recent, Release, Reply, Scrub, ToAdvance, ToReadBlock, ToReadPrepare, ToReadReply, ToScrub, WriteBlock}
@@ -13,7 +13,6 @@ use Rattle.df_model.specs.declared.errors.BlockError.{BlockError}
 use Rattle.df_model.specs.declared.errors.NotLive.{NotLive}
 use Rattle.df_model.specs.declared.errors.ReplyError.{ReplyError}
 use Rattle.df_model.specs.declared.errors.StepError.{StepError}
-use Rattle.df_model.specs.declared.errors.StepError.TheVariants as step
 use Rattle.df_model.specs.Faults.{is_append_fault, is_block_fault, is_lookup_fault, is_prepare_fault, is_read_fault, is_reply_fault, is_step_fault}
 use Rattle.df_replica.specs.Answering.{answer_of, as_append, as_reply, as_write_block, begin_answer, is_step_unanswered, release_answer}
 use Rattle.df_replica.specs.Appending.{IsAppend}
@@ -79,8 +78,3 @@ machine_answer (answers.ReadReply (Err e)) = answer_of is_lookup_fault ToReadRep
 machine_answer (answers.ReadBlock (Err e)) = answer_of is_read_fault ToReadBlock (Err e)
 machine_answer (answers.Scrub scrubbed) = Some (ToScrub scrubbed)
 machine_answer answer = None
-
--- it is that of a step that found the superblock damaged
-abbrev pub is_damaged : Answer → Bool
-is_damaged (answers.Advance (Err (step.Damaged place class))) = true
-is_damaged answer = false

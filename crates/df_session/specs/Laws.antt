@@ -9,10 +9,9 @@ use Rattle.df_theory.specs.View.{View}
 use Rattle.df_units.specs.Bytes.{unit_at}
 use Rattle.df_model.specs.Commands.{Answer}
 use Rattle.df_model.specs.Supply.{Shown}
-use Rattle.df_model.specs.Work.{Work, opened}
-use Rattle.df_replica.specs.Below.{DataFile, IsOpened, State as Replica, shape, told_after}
+use Rattle.df_replica.specs.Below.{IsOpened, State as Replica, shape, told_after}
 use Rattle.df_replica.specs.Following.{MayOpen}
-use Rattle.df_replica.specs.Opened.{Mends, MendsAll}
+use Rattle.df_replica.specs.Opened.{Mends, MendsAll, first_state}
 use Rattle.df_replica.specs.Reading.{shown_of}
 use Rattle.df_replica.specs.Serving.{Grade, IsKept, StandsFor}
 use Rattle.df_replica.specs.Session.{Act, answers_of}
@@ -23,26 +22,22 @@ use Rattle.df_session.specs.Links.{CallsMade, EndsCalls, events_made}
 use Rattle.df_session.specs.Resulting.{AnswersResult}
 use Rattle.df_session.specs.Sparing.{SparesBlocks}
 
--- the state that the machine begins with over what was shown, where this view is found
-abbrev pub first_of : DataFile → Told → View → Work
-first_of file t view = opened (shape file) (unit_at file.layout file.cluster t.shown) view
-
 -- The calls were made on a file that was found in what the disk showed, and mended. On whatever image: the answers are the machine's, and a function of what was shown; what is
 -- told is what the calls added; no call writes a sector of a block that is held, but a step those of the running trailer's next. By each log that shows what was shown, and by which
 -- the file may be opened, the told one or one that is begun anew there: the file is kept at the open, at the end all that was answered is there, and so it is at each moment from its
 -- answer on.
 pub record CallsKeep (t : Told) (s : Replica) (mended : Option Told) (mending : Mends s.file (Some (did Sync t)) mended) (c : CallsMade) : Type 0 where
-  pub answered : (view : View) → IsFound (shape s.file) (unit_at s.file.layout s.file.cluster t.shown) view → c.answers ≡ answers_of s.file (first_of s.file t view) c.acts
+  pub answered : (view : View) → IsFound (shape s.file) (unit_at s.file.layout s.file.cluster t.shown) view → c.answers ≡ answers_of s.file (first_state s.file t view) c.acts
   pub result : (view : View) (shown : Shown) → IsFound (shape s.file) (unit_at s.file.layout s.file.cluster t.shown) view → AgreeShown s.file.layout (shown_of s.file t.shown) shown
-      → AnswersResult s.file shown (first_of s.file t view) c.acts c.answers
+      → AnswersResult s.file shown (first_state s.file t view) c.acts c.answers
   pub adds : c.new ≡ after_all (events_made c) mended
   pub kept : (g : Grade) (view : View) (base : Told) → base.shown ≡ t.shown → MayOpen s.file view base → StandsFor g (unit_at s.file.layout s.file.cluster t.shown) view
-      → IsKept g s (first_of s.file t view) (told_after mending.events (did Sync base)).log
+      → IsKept g s (first_state s.file t view) (told_after mending.events (did Sync base)).log
   pub keeps : (g : Grade) (view : View) (base : Told) → base.shown ≡ t.shown → MayOpen s.file view base → StandsFor g (unit_at s.file.layout s.file.cluster t.shown) view
-      → KeepsFile s.file g (first_of s.file t view) base c.acts c.answers c.failed (over mending.events (events_made c) base)
+      → KeepsFile s.file g (first_state s.file t view) base c.acts c.answers c.failed (over mending.events (events_made c) base)
   pub acknowledged : (g : Grade) (view : View) (base : Told) → base.shown ≡ t.shown → MayOpen s.file view base → StandsFor g (unit_at s.file.layout s.file.cluster t.shown) view
-      → KeepsAnswered s.file g (first_of s.file t view) (over mending.events [] base) c
-  pub spares : (view : View) → IsFound (shape s.file) (unit_at s.file.layout s.file.cluster t.shown) view → SparesBlocks s.file (first_of s.file t view) c
+      → KeepsAnswered s.file g (first_state s.file t view) (over mending.events [] base) c
+  pub spares : (view : View) → IsFound (shape s.file) (unit_at s.file.layout s.file.cluster t.shown) view → SparesBlocks s.file (first_state s.file t view) c
 
 -- these calls, made on what an open found and mended
 abbrev pub made_on : (s : Replica) (mended : Option Told) (to : Replica) (new : Option Told) (acts : List Act) (answers : List Answer) (failed : Option Act) → EndsCalls s to mended new acts answers failed → CallsMade

@@ -1,4 +1,5 @@
 pub mod Links
+pub mod Found
 pub mod Calls
 pub mod Endings
 pub mod Keeping

@@ -7,7 +7,7 @@ use Rattle.df_replica.specs.Below.{State as Replica}
 use Rattle.df_replica.specs.Lending.{GivesOwn}
 use Rattle.df_replica.specs.Serving.{next}
 use Rattle.df_replica.specs.Session.{Act}
-use Rattle.df_session.specs.Links.{AreCalls, EndsCalls}
+use Rattle.df_session.specs.Links.{AreCalls, CallsMade, EndsCalls}
 
 -- each of these calls that is a read and Ok gives what is its own, over whatever is shown to it without chance, in the state of the machine that the calls before it lead to
 abbrev pub GiveOwn : (s : Replica) → (old : Option Told) → Work → (acts : List Act) → (answers : List Answer) → (t : Replica) → (new : Option Told) → AreCalls s old acts answers t new → Type 0
@@ -19,3 +19,7 @@ GiveOwn s old w (a ∷ acts) (x ∷ answers) t new are = GivesOwn s old w a.comm
 abbrev pub AllGiveOwn : (s t : Replica) → (old new : Option Told) → Work → (acts : List Act) → (answers : List Answer) → (failed : Option Act) → EndsCalls s t old new acts answers failed → Type 0
 AllGiveOwn s t old new w acts answers None ends = GiveOwn s old w acts answers t new ends
 AllGiveOwn s t old new w acts answers (Some a) ends = GiveOwn s old w acts answers ends.0 ends.1 ends.2
+
+-- so does each of these calls, from this state of the machine on
+abbrev pub ReadsOwn : CallsMade → Work → Type 0
+ReadsOwn c w = AllGiveOwn c.from c.to c.old c.new w c.acts c.answers c.failed c.calls

@@ -10,7 +10,7 @@ use df_model::{Answer, Command};
 use df_replica::Replica;
 
 /// Makes the call that a command asks for. What it reads is lent by the call itself, so no read is made here.
-pub fn call<D: Disk>(disk: &mut D, replica: &mut Replica, command: Command) -> Answer
+pub(crate) fn call<D: Disk>(disk: &mut D, replica: &mut Replica, command: Command) -> Answer
     requires live { replica.old.live ≡ true }
     requires answer { HasAnswer (command_of command) }
     ensures exact { IsExact (command_of command.entry) replica.old replica.new (D.told disk.old) (D.told disk.new) result }

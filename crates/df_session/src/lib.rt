@@ -3,7 +3,8 @@
 #![tactic(auto)]
 
 mod calls;
+mod hearing;
 mod keeping;
 
-pub use calls::call;
+pub use hearing::{Fault, hear, make};
 pub use keeping::calls_on_an_open_file_keep_it;

@@ -1,29 +1,28 @@
 -- What a call comes to for a session, by what it answered and by what was printed of it.
-use Rattle.std.proofs.Common.{◌≡◌, ℕ, Bool, true, false, List, Option, Some, None, inl, inr, refl, sym, subst, Result, Ok, Err}
-use Rattle.df_base.specs.Causes.{Blamed, Rose}
-use Rattle.df_disk.specs.Told as told
+use Rattle.std.proofs.Common.{◌≡◌, ℕ, List, Option, Some, None, inl, inr, refl, sym, subst, Result, Ok, Err}
+use Rattle.df_base.specs.Causes.{IsBlamed, Rose}
 use Rattle.df_disk.specs.Told.{Told}
-use Rattle.df_inspect.specs.Answers.{text_of}
 use Rattle.df_inspect.specs.Prints.{Prints}
 use Rattle.df_layout.specs.declared.damage.Class.{Class}
 use Rattle.df_layout.specs.declared.places.Place.{Place}
 use Rattle.df_model.specs.Commands.{Answer, Command}
 use Rattle.df_model.specs.declared.commands.Answer.{Answer as Called}
-use Rattle.df_model.specs.declared.commands.Answer.TheVariants as answers
-use Rattle.df_model.specs.declared.errors.StepError.TheVariants as step
 use Rattle.df_replica.specs.Below.{State as Replica}
 use Rattle.df_script_model.specs.Script.{answer_text}
 use Rattle.df_script_model.specs.Texts.{damaged_text}
-use Rattle.df_session.specs.Calls.{LendsNothing, is_damaged, is_fault, machine_answer}
+use Rattle.df_session.specs.Endings.{IsDamaged, MakesTo, is_disk}
 use Rattle.df_session.specs.Links.{Makes}
+use Rattle.df_session.specs.declared.hearing.Fault.{Fault}
+use Rattle.df_session.specs.declared.hearing.Fault.TheVariants.{Disk, Damaged}
+use Rattle.df_top.specs.Outside.{PrintsLine}
 use Rattle.df_top.specs.Step.{Answers}
-use Rattle.df_session.specs.Endings.{IsDamaged}
 use Rattle.df_top.specs.Session.{IsDamagedLine}
-use Rattle.df_top.specs.Turning.{BlamesIfEnds, IsLastPrinted, IsPrinted, Tells, TellsAs, printed_turn}
+use Rattle.df_top.specs.Turning.{BlamesIfEnds, IsPrinted, Tells, printed_turn}
 use Rattle.df_top.specs.declared.turns.Turn.{Turn}
 use Rattle.df_top.specs.declared.turns.Turn.TheVariants.{GoesOn, Ends}
-use Rattle.df_top.proofs.InWords.{InWords, in_words}
-use Rattle.df_top.specs.declared.status.Status.TheVariants.{Done, Found, Words, Script, Refused, DiskFault, ReadFault, WriteFault, Memory}
+use Rattle.df_top.specs.declared.status.Status.{Status}
+use Rattle.df_top.specs.declared.status.Status.TheVariants.{Refused, DiskFault, WriteFault}
+use Rattle.df_top.proofs.SameWords.{same_words}
 
 -- ---- what is printed
 
@@ -33,9 +32,6 @@ prints_turn text old new (Err e) prints = prints.part
 
 pub not_fault : (text : List ℕ) (old new : Option (List ℕ)) (turn : Turn) → IsPrinted text old new turn → turn ≡ Ends DiskFault → ⊥
 not_fault text old new turn printed is = subst (λ (u : Turn). IsPrinted text old new u) is printed
-
-last_not_fault : (text : List ℕ) (old new : Option (List ℕ)) (turn : Turn) → IsLastPrinted text old new turn → turn ≡ Ends DiskFault → ⊥
-last_not_fault text old new turn printed is = subst (λ (u : Turn). IsLastPrinted text old new u) is printed
 
 -- ---- a call
 
@@ -51,17 +47,9 @@ module _ (command : Command) (s t : Replica) (old new : Option Told) (written to
   failed_is makes turn is = subst (λ (u : Turn). Answers command s t old new written took u) (sym is.0) (makes, is.1)
 
   -- it is a step that is damaged, and its line was printed
-  pub damaged_is : (line : List ℕ) → Makes command s t old new None → IsDamagedLine command new line → (turn : Turn) → IsLastPrinted line written took turn → Answers command s t old new written took turn
-  damaged_is line makes damaged (Ends Refused) printed = (line, makes, damaged, printed)
-  damaged_is line makes damaged (Ends WriteFault) printed = inr (line, makes, damaged, printed)
-  damaged_is line makes damaged GoesOn printed = absurd printed
-  damaged_is line makes damaged (Ends Done) printed = absurd printed
-  damaged_is line makes damaged (Ends Found) printed = absurd printed
-  damaged_is line makes damaged (Ends Words) printed = absurd printed
-  damaged_is line makes damaged (Ends Script) printed = absurd printed
-  damaged_is line makes damaged (Ends DiskFault) printed = absurd printed
-  damaged_is line makes damaged (Ends ReadFault) printed = absurd printed
-  damaged_is line makes damaged (Ends Memory) printed = absurd printed
+  pub damaged_is : (line : List ℕ) → Makes command s t old new None → IsDamagedLine command new line → (status : Status) → PrintsLine line Refused written took status → Answers command s t old new written took (Ends status)
+  damaged_is line makes damaged status (inl printed) = subst (λ (q : Status). Answers command s t old new written took (Ends q)) (sym printed.0) (line, makes, damaged, printed.1)
+  damaged_is line makes damaged status (inr printed) = subst (λ (q : Status). Answers command s t old new written took (Ends q)) (sym printed.0) (inr (line, makes, damaged, printed.1))
 
 -- ---- causes
 
@@ -80,6 +68,24 @@ damaged_line command told place class is = record { place = place; class = class
 
 -- ---- what a call comes to
 
+-- a failing disk has no line
+pub told_fault : (command : Command) (written took : Option (List ℕ)) (turn : Turn) → Tells command (Err Disk) written took turn → (turn ≡ Ends DiskFault) × (took ≡ written)
+told_fault command written took GoesOn tells = absurd tells
+told_fault command written took (Ends status) tells = (λ i. Ends (tells.0 i), tells.1)
+
+line_not_fault : (line : List ℕ) (old new : Option (List ℕ)) (status : Status) → PrintsLine line Refused old new status → Ends status ≡ Ends DiskFault → ⊥
+line_not_fault line old new status (inl printed) is = cc (printed.0, is)
+line_not_fault line old new status (inr printed) is = cc (printed.0, is)
+
+-- a step that is damaged ends the session by its line
+comes_damaged : (command : Command) (s t : Replica) (old new : Option Told) (written took : Option (List ℕ)) (before now : ℕ) (place : Place) (class : Class) → Makes command s t old new None → IsDamaged command new place class → now ≡ before
+    → (turn : Turn) → Tells command (Err (Damaged place class)) written took turn → Answers command s t old new written took turn × BlamesIfEnds DiskFault before now turn
+comes_damaged command s t old new written took before now place class makes damaged same GoesOn tells = absurd tells
+comes_damaged command s t old new written took before now place class makes damaged same (Ends status) tells = (
+  damaged_is command s t old new written took (damaged_text place class) makes (damaged_line command new place class damaged) status tells,
+  disk_same before now (Ends status) same (line_not_fault (damaged_text place class) written took status tells),
+)
+
 module _ (command : Command) (s t : Replica) (old new : Option Told) (written took : Option (List ℕ)) (before now : ℕ) (turn : Turn) where
   abbrev pub Comes : Type 0
   Comes = Answers command s t old new written took turn × BlamesIfEnds DiskFault before now turn
@@ -93,22 +99,8 @@ module _ (command : Command) (s t : Replica) (old new : Option Told) (written to
   pub comes_failed : Makes command s t old new None → (turn ≡ Ends DiskFault) × (took ≡ written) → Rose before now → Comes
   comes_failed makes ended rose = (failed_is command s t old new written took makes turn ended, disk_rose before now turn ended.0 rose)
 
-  pub comes_damaged : (line : List ℕ) → Makes command s t old new None → IsDamagedLine command new line → now ≡ before → IsLastPrinted line written took turn → Comes
-  comes_damaged line makes damaged same printed = (
-    damaged_is command s t old new written took line makes damaged turn printed,
-    disk_same before now turn same (last_not_fault line written took turn printed),
-  )
-
-  -- its answer was told
-  module _ (a : Called) (makes : Makes command s t old new (machine_answer a)) (lends : LendsNothing a)
-      (damaged : (place : Place) (class : Class) → a ≡ answers.Advance (Err (step.Damaged place class)) → IsDamagedLine command new (damaged_text place class)) where
-    comes_as : (fault damages : Bool) → InWords fault damages command a → Blamed fault before now → TellsAs fault damages (text_of command a) written took turn → Comes
-    comes_as true damages none blamed tells = comes_failed (subst (λ (x : Option Answer). Makes command s t old new x) none makes) tells blamed.1
-    comes_as false true found same tells =
-        comes_damaged (text_of command a) (subst (λ (x : Option Answer). Makes command s t old new x) found.3 makes)
-        (subst (λ (x : Called). IsDamagedLine command new (text_of command x)) (sym found.2) (damaged found.0 found.1 found.2)) same tells
-    comes_as false false found same tells =
-        comes_answered found.0 (subst (λ (x : Option Answer). Makes command s t old new x) found.1 makes) same (subst (λ (l : List ℕ). IsPrinted l written took turn) found.2 tells)
-
-    pub comes_told : Blamed (is_fault a) before now → Tells command a written took turn → Comes
-    comes_told blamed tells = comes_as (is_fault a) (is_damaged a) (in_words command a lends) blamed tells
+  -- what was heard of its answer was told
+  pub comes_told : (r : Result Called Fault) → MakesTo command s t old new r → IsBlamed is_disk before now r → Tells command r written took turn → Comes
+  comes_told (Ok a) gives same tells = comes_answered gives.told gives.makes same (subst (λ (l : List ℕ). IsPrinted l written took turn) (same_words command gives.told a gives.in_words).0 tells)
+  comes_told (Err Disk) makes blamed tells = comes_failed makes.0 (told_fault command written took turn tells) blamed.1
+  comes_told (Err (Damaged place class)) makes same tells = comes_damaged command s t old new written took before now place class makes.0 makes.1 same turn tells

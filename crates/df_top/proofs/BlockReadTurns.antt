@@ -10,9 +10,8 @@ use Rattle.df_inspect.specs.Messages.{shown_block}
 use Rattle.df_inspect.specs.Prints.{Prints}
 use Rattle.df_theory.specs.Units.{Block}
 use Rattle.df_units.specs.Meaning.{block_of}
-use Rattle.df_model.specs.Commands.{Answer, Given, ReadBlock, ToReadBlock}
+use Rattle.df_model.specs.Commands.{Answer, ForReadBlock, Given, ReadBlock, ToReadBlock}
 use Rattle.df_model.specs.declared.commands.Answer.TheVariants as answers
-use Rattle.df_model.specs.declared.answers.Verdict.TheVariants.{Sound}
 use Rattle.df_model.specs.declared.reading.ReadError.{ReadError}
 use Rattle.df_model.specs.declared.reading.ReadError.TheVariants as read
 use Rattle.df_model.specs.Faults.{is_read_fault}
@@ -23,11 +22,11 @@ use Rattle.df_replica.specs.Serving.{IsCall}
 use Rattle.df_replica.specs.Stopping.{left_by}
 use Rattle.df_script_model.specs.Texts.{block_text}
 use Rattle.df_session.specs.Links.{Makes}
-use Rattle.df_top.specs.Step.{Answers}
+use Rattle.df_session.specs.Endings.{heard}
 use Rattle.df_top.specs.Turning.{IsPrinted, Tells, printed_turn}
 use Rattle.df_top.specs.declared.turns.Turn.{Turn}
 use Rattle.df_top.proofs.ReadTurns.{ends_as}
-use Rattle.df_top.proofs.Answered.{Comes, comes_answered, comes_told, prints_turn}
+use Rattle.df_top.proofs.Answered.{Comes, comes_answered, comes_failed, prints_turn, told_fault}
 
 -- ---- what a read is rightly supplied with
 
@@ -37,7 +36,7 @@ block_for s address None (Some found) = found
 block_for s address None None = Err Blank
 
 abbrev supply : Replica → (address : ℕ) → Option Told → Option (Result Block Class) → Given
-supply s address told found = record { checksum = 0; message = Err Blank; block = block_for s address told found; verdict = Sound }
+supply s address told found = ForReadBlock (block_for s address told found)
 
 found_by : (s : Replica) (address : ℕ) (told : Option Told) (found : Option (Result Block Class)) → IsBlockFound s address told (block_for s address told found)
 found_by s address (Some t) found = refl
@@ -77,17 +76,15 @@ module _ (address : ℕ) (s t : Replica) (old new : Option Told) (same : new ≡
     pub block_shown : (b : Block) → ServesBlockRead (ReadBlock address) s t old (what_block (Ok b)) (answer_of is_read_fault ToReadBlock (Ok b)) → now ≡ before → IsPrinted (block_text address b) written took turn → Reads
     block_shown b serves still printed = comes_answered (ReadBlock address) s t old new written took before now turn (ToReadBlock (Ok b)) (makes (Some (Ok b)) (Some (ToReadBlock (Ok b))) serves) still printed
 
-    pub block_refused : (e : ReadError) → ServesBlockRead (ReadBlock address) s t old (what_block (Err e)) (answer_of is_read_fault ToReadBlock (Err e)) → IsBlamed {T = Block} is_read_fault before now (Err e) → Tells (ReadBlock address) (answers.ReadBlock (Err e)) written took turn → Reads
-    block_refused read.DiskFault serves blamed tells =
-        comes_told (ReadBlock address) s t old new written took before now turn (answers.ReadBlock (Err read.DiskFault)) (makes None None serves) tt (λ place class no. absurd (cc)) blamed tells
-    block_refused read.NotLive serves still tells =
-        comes_told (ReadBlock address) s t old new written took before now turn (answers.ReadBlock (Err read.NotLive)) (makes None (Some (ToReadBlock (Err read.NotLive))) serves) tt (λ place class no. absurd (cc)) still tells
+    pub block_refused : (e : ReadError) → ServesBlockRead (ReadBlock address) s t old (what_block (Err e)) (answer_of is_read_fault ToReadBlock (Err e)) → IsBlamed {T = Block} is_read_fault before now (Err e) → Tells (ReadBlock address) (heard (answers.ReadBlock (Err e))) written took turn → Reads
+    block_refused read.DiskFault serves blamed tells = comes_failed (ReadBlock address) s t old new written took before now turn (makes None None serves) (told_fault (ReadBlock address) written took turn tells) blamed.1
+    block_refused read.NotLive serves still tells = comes_answered (ReadBlock address) s t old new written took before now turn (ToReadBlock (Err read.NotLive)) (makes None (Some (ToReadBlock (Err read.NotLive))) serves) still tells
     block_refused (read.Damaged a b) serves still tells =
-        comes_told (ReadBlock address) s t old new written took before now turn (answers.ReadBlock (Err (read.Damaged a b))) (makes (Some (Err b)) (Some (ToReadBlock (Err (read.Damaged a b)))) serves) tt (λ place class no. absurd (cc)) still tells
+        comes_answered (ReadBlock address) s t old new written took before now turn (ToReadBlock (Err (read.Damaged a b))) (makes (Some (Err b)) (Some (ToReadBlock (Err (read.Damaged a b)))) serves) still tells
 
 -- a read that lends nothing, where the result says what it leaves
 pub block_ends : {A : Type 0} (s t : Replica) (r : Result A ReadError) (e : ReadError) (old new : Option Told) (same : new ≡ old) (written took : Option (List ℕ)) (before now : ℕ) (turn : Turn) (address : ℕ) → t ≡ left_by is_read_fault s r → r ≡ Err e
-    → ServesBlockRead (ReadBlock address) s (left_by {T = A} is_read_fault s (Err e)) old (what_block (Err e)) (answer_of is_read_fault ToReadBlock (Err e)) → IsBlamed {T = Block} is_read_fault before now (Err e) → Tells (ReadBlock address) (answers.ReadBlock (Err e)) written took turn
-    → Answers (ReadBlock address) s t old new written took turn
+    → ServesBlockRead (ReadBlock address) s (left_by {T = A} is_read_fault s (Err e)) old (what_block (Err e)) (answer_of is_read_fault ToReadBlock (Err e)) → IsBlamed {T = Block} is_read_fault before now (Err e) → Tells (ReadBlock address) (heard (answers.ReadBlock (Err e))) written took turn
+    → Comes (ReadBlock address) s t old new written took before now turn
 block_ends {A} s t r e old new same written took before now turn address leaves is serves blamed tells =
-    ends_as (ReadBlock address) is_read_fault s t r e old new written took turn leaves is (block_refused address s (left_by {T = A} is_read_fault s (Err e)) old new same written took before now turn e serves blamed tells).0
+    ends_as (ReadBlock address) is_read_fault s t r e old new written took before now turn leaves is (block_refused address s (left_by {T = A} is_read_fault s (Err e)) old new same written took before now turn e serves blamed tells)

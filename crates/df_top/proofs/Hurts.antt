@@ -17,11 +17,13 @@ use Rattle.df_replica.proofs.Laws.{call_is_own, call_is_the_one, found_keeps, op
 use Rattle.df_theory.specs.Found.{IsFound}
 use Rattle.df_theory.specs.View.{View}
 use Rattle.df_units.specs.Bytes.{unit_at}
+use Rattle.df_session.specs.Found.{FoundFile}
 use Rattle.df_session.specs.Owning.{AllGiveOwn, GiveOwn}
-use Rattle.df_top.specs.Hurting.{IsOfHurt, ReadsOwn, RefusesCopies, RunsOverHurt, ServesHurt, ServesOverHurt}
+use Rattle.df_top.specs.Acknowledging.{run_calls, script_calls}
+use Rattle.df_top.specs.Hurting.{ComesOfHurt, RefusesCopies, RunsOverHurt, ServesHurt, ServesOverHurt, WordReadsOwn}
 use Rattle.df_top.specs.Opening.{RefusesFile}
 use Rattle.df_top.specs.Outside.{Outside}
-use Rattle.df_top.specs.Run.{Does, RefusesSuperblock, Runs, ServesIn, ServesOwn, ServesScript}
+use Rattle.df_top.specs.Run.{ComesTo, Does, RefusesSuperblock, Runs, ServesIn, ServesOwn, Works}
 use Rattle.df_session.specs.Links.{AreCalls, Calls, EndsCalls}
 use Rattle.df_top.specs.declared.mode.Mode.{Mode}
 use Rattle.df_top.specs.declared.mode.Mode.TheVariants.{Format, Run, Recover, Inspect, Scrub, Workload}
@@ -72,31 +74,35 @@ module _ (file : DataFile) (view : View) (t : Told) (may : MayBeHurt file view t
     refuses : (r : RefusesFile file.layout t old new status) → RefusesHurt file view t r.error
     refuses r = answer_is_of_hurt file view t (Err r.error) may r.is.why r.is.other
 
-    served : (serves : ServesScript file.layout t old new status) → ReadsOwn file view t file.layout old new status serves
-    served serves =
-        let finds : FindsHad file view t serves.replica = answer_is_of_hurt file view t (Ok serves.replica) may serves.is_opened in
-        (finds, ends_give _ _ _ _ _ _ _ _ (stands serves.replica serves.is_opened finds) (written serves.replica finds serves.mended (serves.mending.events, serves.mending.told)) serves.session.calls)
+    -- the reads of calls on what was found
+    reads_own : (found : FoundFile file.layout t) (finds : FindsHad file view t found.replica) (to : Replica) (now : Option Told) (acts : List Act) (xs : List Answer) (failed : Option Act) → (calls : EndsCalls found.replica to found.mended now acts xs failed)
+        → AllGiveOwn found.replica to found.mended now (opened (shape file) (unit_at file.layout file.cluster t.shown) finds.found) acts xs failed calls
+    reads_own found finds to now acts xs failed calls =
+        ends_give (opened (shape file) (unit_at file.layout file.cluster t.shown) finds.found) found.replica to found.mended now acts xs failed (stands found.replica found.is_opened finds)
+        (written found.replica finds found.mended (found.mending.events, found.mending.told)) calls
 
-    of_hurt : (mode : Mode) → (does : Does mode file.layout t old new status) → IsOfHurt file view t file.layout mode old new status does
-    of_hurt (Format layout cluster) does = does
-    of_hurt Run (inl r) = refuses r
-    of_hurt Run (inr (inl fails)) = tt
-    of_hurt Run (inr (inr serves)) = served serves
-    of_hurt Recover (inl r) = refuses r
-    of_hurt Recover (inr (inl fails)) = tt
-    of_hurt Recover (inr (inr recovers)) = answer_is_of_hurt file view t (Ok recovers.replica) may recovers.is_opened
-    of_hurt Inspect (inl r) = refuses r
-    of_hurt Inspect (inr (inl fails)) = tt
-    of_hurt Inspect (inr (inr inspects)) = answer_is_of_hurt file view t (Ok inspects.survey.state) may inspects.is_opened
-    of_hurt Scrub (inl r) = refuses r
-    of_hurt Scrub (inr (inl fails)) = tt
-    of_hurt Scrub (inr (inr scrubs)) = answer_is_of_hurt file view t (Ok scrubs.replica) may scrubs.is_opened
-    of_hurt (Workload seed count) (inl r) = refuses r
-    of_hurt (Workload seed count) (inr (inl fails)) = tt
-    of_hurt (Workload seed count) (inr (inr works)) = answer_is_of_hurt file view t (Ok works.replica) may works.is_opened
+    word_reads : (mode : Mode) (found : FoundFile file.layout t) (works : Works mode file.layout t found old new status) (finds : FindsHad file view t found.replica)
+        → WordReadsOwn mode file.layout t found old new status works (opened (shape file) (unit_at file.layout file.cluster t.shown) finds.found)
+    word_reads (Format layout cluster) found works finds = absurd works
+    word_reads Run found serves finds =
+        let c = script_calls serves.session in
+        reads_own found finds c.to c.new c.acts c.answers c.failed c.calls
+    word_reads Recover found works finds = tt
+    word_reads Inspect found works finds = tt
+    word_reads Scrub found works finds = tt
+    word_reads (Workload seed count) found works finds =
+        let c = run_calls works.worked in
+        reads_own found finds c.to c.new c.acts c.answers c.failed c.calls
+
+    comes_of_hurt : (mode : Mode) (comes : ComesTo mode file.layout t old new status) → ComesOfHurt file view t file.layout mode old new status comes
+    comes_of_hurt mode (inl r) = refuses r
+    comes_of_hurt mode (inr (inl fails)) = tt
+    comes_of_hurt mode (inr (inr works)) =
+        let finds : FindsHad file view t works.0.replica = answer_is_of_hurt file view t (Ok works.0.replica) may works.0.is_opened in
+        (finds, word_reads mode works.0 works.1 finds)
 
     serves_hurt : (mode : Mode) → Does mode file.layout t old new status → ServesHurt file view t mode old new status
-    serves_hurt mode does = record { does = does; of_hurt = of_hurt mode does }
+    serves_hurt mode does = record { does = does; of_hurt = comes_of_hurt mode does.1 }
 
     -- ---- the superblock
 

@@ -4,7 +4,7 @@ mod Words
 mod Written
 mod Progress
 mod LineEnds
-mod InWords
+mod SameWords
 mod Answered
 mod BlockReadTurns
 mod ScrubTurns

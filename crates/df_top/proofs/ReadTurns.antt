@@ -1,7 +1,7 @@
 -- A read of a prepare or of a reply, and what is printed of it.
 use Rattle.std.proofs.Common.{◌≡◌, ℕ, Bool, List, [], Option, Some, None, refl, sym, ◌∙◌, ap, subst, Result, Ok, Err}
 use Rattle.std.specs.Prelude.{codes}
-use Rattle.df_base.specs.Causes.{Blamed, IsBlamed}
+use Rattle.df_base.specs.Causes.{IsBlamed}
 use Rattle.df_disk.specs.Told.{Told}
 use Rattle.df_layout.specs.declared.damage.Class.{Class}
 use Rattle.df_layout.specs.declared.damage.Class.TheVariants.{Blank}
@@ -11,12 +11,8 @@ use Rattle.df_inspect.specs.Messages.{shown_text}
 use Rattle.df_inspect.specs.Prints.{Prints}
 use Rattle.df_theory.specs.Units.{Message}
 use Rattle.df_units.specs.Meaning.{message_of}
-use Rattle.df_model.specs.Commands.{Answer, Command, Given, ReadPrepare, ReadReply, ToReadPrepare, ToReadReply}
-use Rattle.df_layout.specs.declared.places.Place.{Place}
-use Rattle.df_model.specs.declared.commands.Answer.{Answer as Called}
+use Rattle.df_model.specs.Commands.{Answer, Command, ForReadPrepare, ForReadReply, Given, ReadPrepare, ReadReply, ToReadPrepare, ToReadReply, supplied_message}
 use Rattle.df_model.specs.declared.commands.Answer.TheVariants as answers
-use Rattle.df_model.specs.declared.errors.StepError.TheVariants as step
-use Rattle.df_model.specs.declared.answers.Verdict.TheVariants.{Sound}
 use Rattle.df_model.specs.declared.reading.LookupError.{LookupError}
 use Rattle.df_model.specs.declared.reading.LookupError.TheVariants as lookup
 use Rattle.df_model.specs.declared.reading.PrepareError.{PrepareError}
@@ -28,15 +24,13 @@ use Rattle.df_replica.specs.Lookups.{reply_found}
 use Rattle.df_replica.specs.Reading.{IsFoundBy, message_at, prepare_found}
 use Rattle.df_replica.specs.Serving.{IsCall}
 use Rattle.df_replica.specs.Stopping.{left_by}
-use Rattle.df_script_model.specs.Texts.{damaged_text, message_text}
+use Rattle.df_script_model.specs.Texts.{message_text}
 use Rattle.df_replica.specs.Supply.{IsSupplied}
-use Rattle.df_session.specs.Calls.{LendsNothing, is_fault, machine_answer}
-use Rattle.df_top.specs.Session.{IsDamagedLine}
+use Rattle.df_session.specs.Endings.{heard}
 use Rattle.df_session.specs.Links.{Makes}
-use Rattle.df_top.specs.Step.{Answers}
 use Rattle.df_top.specs.Turning.{IsPrinted, Tells, printed_turn}
 use Rattle.df_top.specs.declared.turns.Turn.{Turn}
-use Rattle.df_top.proofs.Answered.{Comes, comes_answered, comes_told, prints_turn}
+use Rattle.df_top.proofs.Answered.{Comes, comes_answered, comes_failed, prints_turn, told_fault}
 
 -- ---- what a read is rightly supplied with
 
@@ -45,19 +39,20 @@ message_for s command (Some t) found = message_at s command t.shown
 message_for s command None (Some found) = found
 message_for s command None None = Err Blank
 
-abbrev supply : Replica → Command → Option Told → Option (Result Message Class) → Given
-supply s command told found = record { checksum = 0; message = message_for s command told found; block = Err Blank; verdict = Sound }
+-- in the command's own case
+abbrev supply : (Result Message Class → Given) → Replica → Command → Option Told → Option (Result Message Class) → Given
+supply form s command told found = form (message_for s command told found)
 
 found_by : (s : Replica) (command : Command) (told : Option Told) (found : Option (Result Message Class)) → IsFoundBy s command told (message_for s command told found)
 found_by s command (Some t) found = refl
 found_by s command None (Some found) = tt
 found_by s command None None = tt
 
-gives : (s : Replica) (command : Command) (told : Option Told) (found : Option (Result Message Class)) → Gives told found (supply s command told found)
-gives s command (Some t) (Some found) = tt
-gives s command (Some t) None = tt
-gives s command None (Some found) = refl
-gives s command None None = tt
+gives : (form : Result Message Class → Given) (own : (m : Result Message Class) → supplied_message (form m) ≡ m) (s : Replica) (command : Command) (told : Option Told) (found : Option (Result Message Class)) → Gives told found (supply form s command told found)
+gives form own s command (Some t) (Some found) = tt
+gives form own s command (Some t) None = tt
+gives form own s command None (Some found) = own found
+gives form own s command None None = tt
 
 -- what was printed of a unit's header and body is the unit's text
 pub shown_turn : {T E : Type 0} (word : List ℕ) (u : Shown) (h : Header) (b : List ℕ) (written took : Option (List ℕ)) (r : Result T E) (turn : Turn) → h ≡ u.header → b ≡ u.body → turn ≡ printed_turn r → Prints (shown_text word h b) written took r
@@ -68,71 +63,68 @@ shown_turn word u h b written took r turn h_is b_is turn_is prints =
 
 module _ (s t : Replica) (old new : Option Told) (same : new ≡ old) where
   -- what was found serves the command, where that is what it is rightly supplied with
-  makes : (command : Command) (found : Option (Result Message Class)) (answer : Option Answer) → IsSupplied s old command (supply s command old found) → ServesRead command s t old found answer → Makes command s t old new answer
-  makes command found answer supplied serves = record {
-    act = record { command = command; given = supply s command old found };
+  makes : (form : Result Message Class → Given) (own : (m : Result Message Class) → supplied_message (form m) ≡ m) (command : Command) (found : Option (Result Message Class)) (answer : Option Answer)
+      → IsSupplied s old command (supply form s command old found) → ServesRead command s t old found answer → Makes command s t old new answer
+  makes form own command found answer supplied serves = record {
+    act = record { command = command; given = supply form s command old found };
     is = refl;
     calls = record {
       call =
-          subst (λ (o : Option Told). IsCall (supply s command old found) command s t old o answer) (sym same) (serves (supply s command old found) supplied (gives s command old found));
+          subst (λ (o : Option Told). IsCall (supply form s command old found) command s t old o answer) (sym same) (serves (supply form s command old found) supplied (gives form own s command old found));
       told = ([], same);
     };
   }
 
   makes_prepare : (op : ℕ) (found : Option (Result Message Class)) (answer : Option Answer) → ServesRead (ReadPrepare op) s t old found answer → Makes (ReadPrepare op) s t old new answer
-  makes_prepare op found answer serves = makes (ReadPrepare op) found answer (refl, found_by s (ReadPrepare op) old found) serves
+  makes_prepare op found answer serves = makes ForReadPrepare (λ m. refl) (ReadPrepare op) found answer (refl, found_by s (ReadPrepare op) old found) serves
 
   makes_reply : (client : ℕ) (found : Option (Result Message Class)) (answer : Option Answer) → ServesRead (ReadReply client) s t old found answer → Makes (ReadReply client) s t old new answer
-  makes_reply client found answer serves = makes (ReadReply client) found answer (refl, found_by s (ReadReply client) old found) serves
+  makes_reply client found answer serves = makes ForReadReply (λ m. refl) (ReadReply client) found answer (refl, found_by s (ReadReply client) old found) serves
 
   module _ (written took : Option (List ℕ)) (before now : ℕ) (turn : Turn) where
     abbrev Reads : Command → Type 0
     Reads command = Comes command s t old new written took before now turn
-
-    told : (command : Command) (a : Called) → LendsNothing a → Makes command s t old new (machine_answer a) → ((place : Place) (class : Class) → a ≡ answers.Advance (Err (step.Damaged place class)) → IsDamagedLine command new (damaged_text place class))
-        → Blamed (is_fault a) before now → Tells command a written took turn → Reads command
-    told command a lends makes damaged blamed tells = comes_told command s t old new written took before now turn a makes lends damaged blamed tells
 
     -- a prepare
     module _ (op : ℕ) where
       pub prepare_shown : (m : Message) → ServesRead (ReadPrepare op) s t old (prepare_found (Ok m)) (answer_of is_prepare_fault ToReadPrepare (Ok m)) → now ≡ before → IsPrinted (message_text (codes "prepare") m) written took turn → Reads (ReadPrepare op)
       prepare_shown m serves still printed = comes_answered (ReadPrepare op) s t old new written took before now turn (ToReadPrepare (Ok m)) (makes_prepare op (Some (Ok m)) (Some (ToReadPrepare (Ok m))) serves) still printed
 
-      pub prepare_refused : (e : PrepareError) → ServesRead (ReadPrepare op) s t old (prepare_found (Err e)) (answer_of is_prepare_fault ToReadPrepare (Err e)) → IsBlamed {T = Message} is_prepare_fault before now (Err e) → Tells (ReadPrepare op) (answers.ReadPrepare (Err e)) written took turn → Reads (ReadPrepare op)
-      prepare_refused prepare.DiskFault serves blamed tells = told (ReadPrepare op) (answers.ReadPrepare (Err prepare.DiskFault)) tt (makes_prepare op None None serves) (λ place class no. absurd (cc)) blamed tells
+      pub prepare_refused : (e : PrepareError) → ServesRead (ReadPrepare op) s t old (prepare_found (Err e)) (answer_of is_prepare_fault ToReadPrepare (Err e)) → IsBlamed {T = Message} is_prepare_fault before now (Err e) → Tells (ReadPrepare op) (heard (answers.ReadPrepare (Err e))) written took turn → Reads (ReadPrepare op)
+      prepare_refused prepare.DiskFault serves blamed tells = comes_failed (ReadPrepare op) s t old new written took before now turn (makes_prepare op None None serves) (told_fault (ReadPrepare op) written took turn tells) blamed.1
       prepare_refused (prepare.NotKept a b) serves still tells =
-          told (ReadPrepare op) (answers.ReadPrepare (Err (prepare.NotKept a b))) tt (makes_prepare op None (Some (ToReadPrepare (Err (prepare.NotKept a b)))) serves) (λ place class no. absurd (cc)) still tells
+          comes_answered (ReadPrepare op) s t old new written took before now turn (ToReadPrepare (Err (prepare.NotKept a b))) (makes_prepare op None (Some (ToReadPrepare (Err (prepare.NotKept a b)))) serves) still tells
       prepare_refused (prepare.Damaged a b) serves still tells =
-          told (ReadPrepare op) (answers.ReadPrepare (Err (prepare.Damaged a b))) tt (makes_prepare op (Some (Err b)) (Some (ToReadPrepare (Err (prepare.Damaged a b)))) serves) (λ place class no. absurd (cc)) still tells
+          comes_answered (ReadPrepare op) s t old new written took before now turn (ToReadPrepare (Err (prepare.Damaged a b))) (makes_prepare op (Some (Err b)) (Some (ToReadPrepare (Err (prepare.Damaged a b)))) serves) still tells
 
     -- a reply
     module _ (client : ℕ) where
       pub reply_shown : (m : Message) → ServesRead (ReadReply client) s t old (reply_found (Ok m)) (answer_of is_lookup_fault ToReadReply (Ok m)) → now ≡ before → IsPrinted (message_text (codes "reply") m) written took turn → Reads (ReadReply client)
       reply_shown m serves still printed = comes_answered (ReadReply client) s t old new written took before now turn (ToReadReply (Ok m)) (makes_reply client (Some (Ok m)) (Some (ToReadReply (Ok m))) serves) still printed
 
-      pub reply_refused : (e : LookupError) → ServesRead (ReadReply client) s t old (reply_found (Err e)) (answer_of is_lookup_fault ToReadReply (Err e)) → IsBlamed {T = Message} is_lookup_fault before now (Err e) → Tells (ReadReply client) (answers.ReadReply (Err e)) written took turn → Reads (ReadReply client)
-      reply_refused lookup.DiskFault serves blamed tells = told (ReadReply client) (answers.ReadReply (Err lookup.DiskFault)) tt (makes_reply client None None serves) (λ place class no. absurd (cc)) blamed tells
-      reply_refused lookup.NoClient serves still tells = told (ReadReply client) (answers.ReadReply (Err lookup.NoClient)) tt (makes_reply client None (Some (ToReadReply (Err lookup.NoClient))) serves) (λ place class no. absurd (cc)) still tells
+      pub reply_refused : (e : LookupError) → ServesRead (ReadReply client) s t old (reply_found (Err e)) (answer_of is_lookup_fault ToReadReply (Err e)) → IsBlamed {T = Message} is_lookup_fault before now (Err e) → Tells (ReadReply client) (heard (answers.ReadReply (Err e))) written took turn → Reads (ReadReply client)
+      reply_refused lookup.DiskFault serves blamed tells = comes_failed (ReadReply client) s t old new written took before now turn (makes_reply client None None serves) (told_fault (ReadReply client) written took turn tells) blamed.1
+      reply_refused lookup.NoClient serves still tells = comes_answered (ReadReply client) s t old new written took before now turn (ToReadReply (Err lookup.NoClient)) (makes_reply client None (Some (ToReadReply (Err lookup.NoClient))) serves) still tells
       reply_refused (lookup.ReplyPending a) serves still tells =
-          told (ReadReply client) (answers.ReadReply (Err (lookup.ReplyPending a))) tt (makes_reply client None (Some (ToReadReply (Err (lookup.ReplyPending a)))) serves) (λ place class no. absurd (cc)) still tells
+          comes_answered (ReadReply client) s t old new written took before now turn (ToReadReply (Err (lookup.ReplyPending a))) (makes_reply client None (Some (ToReadReply (Err (lookup.ReplyPending a)))) serves) still tells
       reply_refused (lookup.Damaged a b) serves still tells =
-          told (ReadReply client) (answers.ReadReply (Err (lookup.Damaged a b))) tt (makes_reply client (Some (Err b)) (Some (ToReadReply (Err (lookup.Damaged a b)))) serves) (λ place class no. absurd (cc)) still tells
+          comes_answered (ReadReply client) s t old new written took before now turn (ToReadReply (Err (lookup.Damaged a b))) (makes_reply client (Some (Err b)) (Some (ToReadReply (Err (lookup.Damaged a b)))) serves) still tells
 
 -- ---- a read that lends nothing, where the result says what it leaves
 
-pub ends_as : {A E : Type 0} (command : Command) (is_fault : E → Bool) (s t : Replica) (r : Result A E) (e : E) (old new : Option Told) (written took : Option (List ℕ)) (turn : Turn) → t ≡ left_by is_fault s r → r ≡ Err e
-    → Answers command s (left_by {T = A} is_fault s (Err e)) old new written took turn → Answers command s t old new written took turn
-ends_as {A} {E} command is_fault s t r e old new written took turn leaves is answers =
-    subst (λ (u : Replica). Answers command s u old new written took turn) (sym (leaves ∙ ap (λ (x : Result A E). left_by is_fault s x) is)) answers
+pub ends_as : {A E : Type 0} (command : Command) (is_fault : E → Bool) (s t : Replica) (r : Result A E) (e : E) (old new : Option Told) (written took : Option (List ℕ)) (before now : ℕ) (turn : Turn) → t ≡ left_by is_fault s r → r ≡ Err e
+    → Comes command s (left_by {T = A} is_fault s (Err e)) old new written took before now turn → Comes command s t old new written took before now turn
+ends_as {A} {E} command is_fault s t r e old new written took before now turn leaves is answers =
+    subst (λ (u : Replica). Comes command s u old new written took before now turn) (sym (leaves ∙ ap (λ (x : Result A E). left_by is_fault s x) is)) answers
 
 pub prepare_ends : {A : Type 0} (s t : Replica) (r : Result A PrepareError) (e : PrepareError) (old new : Option Told) (same : new ≡ old) (written took : Option (List ℕ)) (before now : ℕ) (turn : Turn) (op : ℕ) → t ≡ left_by is_prepare_fault s r → r ≡ Err e
-    → ServesRead (ReadPrepare op) s (left_by {T = A} is_prepare_fault s (Err e)) old (prepare_found (Err e)) (answer_of is_prepare_fault ToReadPrepare (Err e)) → IsBlamed {T = Message} is_prepare_fault before now (Err e) → Tells (ReadPrepare op) (answers.ReadPrepare (Err e)) written took turn
-    → Answers (ReadPrepare op) s t old new written took turn
+    → ServesRead (ReadPrepare op) s (left_by {T = A} is_prepare_fault s (Err e)) old (prepare_found (Err e)) (answer_of is_prepare_fault ToReadPrepare (Err e)) → IsBlamed {T = Message} is_prepare_fault before now (Err e) → Tells (ReadPrepare op) (heard (answers.ReadPrepare (Err e))) written took turn
+    → Comes (ReadPrepare op) s t old new written took before now turn
 prepare_ends {A} s t r e old new same written took before now turn op leaves is serves blamed tells =
-    ends_as (ReadPrepare op) is_prepare_fault s t r e old new written took turn leaves is (prepare_refused s (left_by {T = A} is_prepare_fault s (Err e)) old new same written took before now turn op e serves blamed tells).0
+    ends_as (ReadPrepare op) is_prepare_fault s t r e old new written took before now turn leaves is (prepare_refused s (left_by {T = A} is_prepare_fault s (Err e)) old new same written took before now turn op e serves blamed tells)
 
 pub reply_ends : {A : Type 0} (s t : Replica) (r : Result A LookupError) (e : LookupError) (old new : Option Told) (same : new ≡ old) (written took : Option (List ℕ)) (before now : ℕ) (turn : Turn) (client : ℕ) → t ≡ left_by is_lookup_fault s r → r ≡ Err e
-    → ServesRead (ReadReply client) s (left_by {T = A} is_lookup_fault s (Err e)) old (reply_found (Err e)) (answer_of is_lookup_fault ToReadReply (Err e)) → IsBlamed {T = Message} is_lookup_fault before now (Err e) → Tells (ReadReply client) (answers.ReadReply (Err e)) written took turn
-    → Answers (ReadReply client) s t old new written took turn
+    → ServesRead (ReadReply client) s (left_by {T = A} is_lookup_fault s (Err e)) old (reply_found (Err e)) (answer_of is_lookup_fault ToReadReply (Err e)) → IsBlamed {T = Message} is_lookup_fault before now (Err e) → Tells (ReadReply client) (heard (answers.ReadReply (Err e))) written took turn
+    → Comes (ReadReply client) s t old new written took before now turn
 reply_ends {A} s t r e old new same written took before now turn client leaves is serves blamed tells =
-    ends_as (ReadReply client) is_lookup_fault s t r e old new written took turn leaves is (reply_refused s (left_by {T = A} is_lookup_fault s (Err e)) old new same written took before now turn client e serves blamed tells).0
+    ends_as (ReadReply client) is_lookup_fault s t r e old new written took before now turn leaves is (reply_refused s (left_by {T = A} is_lookup_fault s (Err e)) old new same written took before now turn client e serves blamed tells)

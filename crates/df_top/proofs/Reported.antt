@@ -1,5 +1,5 @@
 -- A file that is reported: what a survey found of it, the summary of what was opened, or a tour over it; and one that is refused.
-use Rattle.std.proofs.Common.{◌≡◌, ◌⊎◌, inl, inr, ℕ, true, List, [], ◌∷◌, Option, Some, None, refl, sym, ◌∙◌, ap, subst, Ok, Err}
+use Rattle.std.proofs.Common.{◌≡◌, inr, ℕ, true, List, [], ◌∷◌, Option, Some, None, refl, sym, ◌∙◌, ap, subst, Ok, Err}
 use Rattle.df_base.specs.Image.{Image, IsImage}
 use Rattle.df_base.specs.Log.{Sync}
 use Rattle.df_disk.specs.Adds.{AddsPart}
@@ -7,36 +7,34 @@ use Rattle.df_disk.specs.Told.{Told, after, did}
 use Rattle.df_inspect.specs.Reports.{inspection_text, summary_text}
 use Rattle.df_layout.specs.declared.damage.Mend.{Mend}
 use Rattle.df_layout.specs.declared.layout.Layout.{Layout}
-use Rattle.df_theory.specs.View.{View}
-use Rattle.df_units.specs.Bytes.{unit_at}
 use Rattle.df_model.specs.Memory.{Memory, referenced_of}
 use Rattle.df_model.specs.Reading.{IsTour}
-use Rattle.df_model.specs.Work.{first_tour, opened}
+use Rattle.df_model.specs.Work.{first_tour}
 use Rattle.df_model.proofs.Laws.{tour_law}
 use Rattle.df_model.specs.declared.answers.Summary.{Summary}
 use Rattle.df_model.specs.declared.errors.OpenError.{OpenError}
 use Rattle.df_model.specs.declared.errors.OpenError.TheVariants as opens
-use Rattle.df_replica.specs.Below.{Syncs, IsOpened, State as Replica, shape, told_after}
+use Rattle.df_replica.specs.Below.{DataFile, Syncs, IsOpened, State as Replica, shape, told_after}
 use Rattle.df_sessions.specs.declared.session.Session.{Session}
-use Rattle.df_replica.specs.Following.{MayOpen}
 use Rattle.df_replica.specs.Leaving.{SparesReads}
-use Rattle.df_replica.specs.Opened.{MendsAll}
+use Rattle.df_replica.specs.Opened.{Mends, MendsAll}
 use Rattle.df_replica.specs.Reading.{shown_of}
 use Rattle.df_replica.specs.Replica.{Survey, summary_of}
 use Rattle.df_replica.specs.Scrubbing.{IsMachineTour, at_start}
-use Rattle.df_replica.specs.Serving.{Grade, StandsFor}
 use Rattle.df_replica.specs.Surveying.{TellsMends, TellsSurvey}
 use Rattle.df_replica.proofs.Laws.{added_is_told, shown_after}
-use Rattle.df_session.specs.Keeping.{KeepsFile}
-use Rattle.df_top.specs.Opening.{RefusesFile}
+use Rattle.df_session.specs.Found.{FoundFile, no_calls}
+use Rattle.df_session.specs.Laws.{CallsKeep}
 use Rattle.df_top.specs.Outside.{Outside, PrintsLine}
 use Rattle.df_top.specs.Refusing.{PrintsError}
-use Rattle.df_top.specs.Reporting.{FailsToSurvey, Inspects, Recovers, report_of, status_of}
+use Rattle.df_top.specs.Reporting.{Inspects, Recovers, report_of, status_of}
+use Rattle.df_top.specs.Run.{ComesTo}
 use Rattle.df_top.specs.Scrubs.{PrintsTour, ScrubsFile}
+use Rattle.df_top.specs.declared.mode.Mode.TheVariants.{Inspect}
 use Rattle.df_top.specs.declared.status.Status.{Status}
 use Rattle.df_top.specs.declared.status.Status.TheVariants.{Done}
-use Rattle.df_session.proofs.Laws.{keeps_over, opened_over}
-use Rattle.df_top.proofs.Served.{by_fault, refuses}
+use Rattle.df_session.proofs.Laws.{calls_keep}
+use Rattle.df_top.proofs.Served.{by_fault, not_opened}
 
 -- ---- the barrier
 
@@ -70,28 +68,38 @@ same_summary P a b same has = subst (λ (x : Summary). P (summary_text x)) same 
 
 -- ---- inspect
 
-module _ (layout : Layout) (t : Told) (old new : Outside) (status : Status) (whole : IsImage t.shown) (told : old.told ≡ Some t) (unread : new.left ≡ old.left) where
-  pub inspects : (s : Survey) → TellsSurvey layout old.told (Ok s.state) → TellsMends layout old.told s → new.told ≡ after Sync old.told
-      → PrintsLine (report_of s) (status_of s.mends) old.written new.written status → Inspects layout t old new status
-  inspects s answer mends barrier prints = record {
-    survey = s;
-    is_opened = (subst (λ (o : Option Told). TellsSurvey layout o (Ok s.state)) told answer) whole;
-    mendable = (subst (λ (o : Option Told). TellsMends layout o s) told mends) whole;
-    prints = prints;
-    unread = unread;
-    barrier = barrier ∙ ap (after Sync) told;
-  }
+-- what adds nothing mends nothing
+mends_none : (file : DataFile) (told : Option Told) → Mends file told told
+mends_none file told = record {
+  events = [];
+  told = refl;
+  within = tt;
+  spares = λ image is. record { whole = is; units = record { prepare = λ k. refl; reply = λ k. refl; block = λ k. refl }; classes = λ place read. refl };
+}
 
-  pub not_surveyed : (P : Type 0) (e : OpenError) → TellsSurvey layout old.told (Err e) → Syncs {T = Replica} old.told new.told (Err e) → PrintsError e old.written new.written status
-      → RefusesFile layout t old new status ⊎ FailsToSurvey t old new status ⊎ P
-  not_surveyed P e answer syncs prints =
-      by_fault (λ x. RefusesFile layout t old new status ⊎ FailsToSurvey t old new status ⊎ P) e
-      (λ is. inr (inl (record {
-        fault = (prints.fault is).0;
-        silent = record { written = (prints.fault is).1; unread = unread };
-        disk = subst (λ (o : Option Told). AddsPart (Sync ∷ []) o new.told) told (syncs_failed old.told new.told e is syncs);
-      })))
-      (λ no. inl (refuses layout t old new status e no whole told answer unread (syncs_once old.told new.told e no syncs) prints))
+module _ (layout : Layout) (t : Told) (old new : Outside) (status : Status) (whole : IsImage t.shown) (told : old.told ≡ Some t) (unread : new.left ≡ old.left) where
+  abbrev looked_at : (s : Survey) → IsOpened layout t.shown s.state → FoundFile layout t
+  looked_at s is_opened = record { replica = s.state; is_opened = is_opened; mended = Some (did Sync t); mending = mends_none s.state.file (Some (did Sync t)) }
+
+  pub inspects : (s : Survey) → TellsSurvey layout old.told (Ok s.state) → TellsMends layout old.told s → new.told ≡ after Sync old.told
+      → PrintsLine (report_of s) (status_of s.mends) old.written new.written status → (found : FoundFile layout t) × Inspects layout t found old new status
+  inspects s answer mends barrier prints = (
+    looked_at s ((subst (λ (o : Option Told). TellsSurvey layout o (Ok s.state)) told answer) whole),
+    record {
+      survey = s;
+      of = refl;
+      mendable = (subst (λ (o : Option Told). TellsMends layout o s) told mends) whole;
+      prints = prints;
+      unread = unread;
+      unmended = refl;
+      barrier = barrier ∙ ap (after Sync) told;
+    },
+  )
+
+  pub not_surveyed : (e : OpenError) → TellsSurvey layout old.told (Err e) → Syncs {T = Replica} old.told new.told (Err e) → PrintsError e old.written new.written status → ComesTo Inspect layout t old new status
+  not_surveyed e answer syncs prints =
+      not_opened Inspect layout t old new status e whole told answer unread (λ no. syncs_once old.told new.told e no syncs)
+      (λ image is. subst (λ (o : Option Told). AddsPart (Sync ∷ []) o new.told) told (syncs_failed old.told new.told e is syncs)) prints
 
 -- ---- recover and scrub
 
@@ -101,16 +109,16 @@ machine_tour s image codec w work rep =
     subst (λ (xs : List (ℕ × ℕ)). IsTour (shape s.file) codec (shown_of s.file image) (at_start w) xs) (sym (ap referenced_of rep))
     (tour_law (shape s.file) codec (shown_of s.file image) (at_start w) refl work.few)
 
-module _ (layout : Layout) (t : Told) (old new : Outside) (status : Status) (s : Replica) (told : old.told ≡ Some t) (unread : new.left ≡ old.left) (live : s.live ≡ true) (is_opened : IsOpened layout t.shown s)
+module _ (layout : Layout) (t : Told) (old new : Outside) (status : Status) (s : Replica) (whole : IsImage t.shown) (told : old.told ≡ Some t) (unread : new.left ≡ old.left) (live : s.live ≡ true) (is_opened : IsOpened layout t.shown s)
     (over : MendsAll t s new.told) where
-  keeps : (g : Grade) (view : View) (base : Told) → base.shown ≡ t.shown → MayOpen s.file view base → StandsFor g (unit_at s.file.layout s.file.cluster t.shown) view
-      → KeepsFile s.file g (opened (shape s.file) (unit_at s.file.layout s.file.cluster t.shown) view) base [] [] None (Some (told_after over.mending.events (did Sync base)))
-  keeps g view base same may stands =
-      let n : Told = told_after over.mending.events (did Sync base) in
-      keeps_over g s (opened (shape s.file) (unit_at s.file.layout s.file.cluster t.shown) view) base n live (opened_over t s new.told over g view base same may stands) s (Some n) (Some n) [] [] None (refl, refl)
+  abbrev found : FoundFile layout t
+  found = record { replica = s; is_opened = is_opened; mended = new.told; mending = over.mending }
 
-  pub recovers : PrintsLine (summary_text (summary_of s)) Done old.written new.written status → Recovers layout t old new status
-  recovers prints = record { replica = s; is_opened = is_opened; prints = prints; unread = unread; mending = over.mending; keeps = keeps }
+  calls : CallsKeep t found.replica found.mended found.mending (no_calls found)
+  calls = calls_keep t s new.told over s new.told [] [] None (refl, refl) whole live (subst (λ (l : Layout). IsOpened l t.shown s) (sym is_opened.of) is_opened)
+
+  pub recovers : PrintsLine (summary_text (summary_of s)) Done old.written new.written status → (found : FoundFile layout t) × Recovers layout t found old new status
+  recovers prints = (found, record { prints = prints; unread = unread; told = refl; calls = calls })
 
   -- its tour is at the start
   first : s.tour ≡ first_tour
@@ -123,19 +131,20 @@ module _ (layout : Layout) (t : Told) (old new : Outside) (status : Status) (s :
   told_then : new.told ≡ Some after_mending
   told_then = over.mending.told ∙ added_is_told over.mending.events (did Sync t)
 
-  spared : IsImage t.shown → SparesReads s.file t.shown after_mending.shown
-  spared whole = subst (SparesReads s.file t.shown) (sym (shown_after over.mending.events (did Sync t))) (over.mending.spares t.shown whole)
+  spared : SparesReads s.file t.shown after_mending.shown
+  spared = subst (SparesReads s.file t.shown) (sym (shown_after over.mending.events (did Sync t))) (over.mending.spares t.shown whole)
 
-  pub scrubs : IsImage t.shown → ((n : Told) → new.told ≡ Some n → s.tour ≡ first_tour → PrintsTour s n.shown old.written new.written status) → ScrubsFile layout t old new status
-  scrubs whole tours = record {
-    replica = s;
-    is_opened = is_opened;
-    after = after_mending;
-    told = told_then;
-    prints = tours after_mending told_then first;
-    machine = machine_tour s after_mending.shown;
-    unread = unread;
-    mending = over.mending;
-    keeps = keeps;
-    spares = spared whole;
-  }
+  pub scrubs : ((n : Told) → new.told ≡ Some n → s.tour ≡ first_tour → PrintsTour s n.shown old.written new.written status) → (found : FoundFile layout t) × ScrubsFile layout t found old new status
+  scrubs tours = (
+    found,
+    record {
+      after = after_mending;
+      is_mended = told_then;
+      told = told_then;
+      prints = tours after_mending told_then first;
+      machine = machine_tour s after_mending.shown;
+      unread = unread;
+      calls = calls;
+      spares = spared;
+    },
+  )

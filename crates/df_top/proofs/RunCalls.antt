@@ -1,9 +1,7 @@
 -- What each call of a generated run comes to, by what the run hears of its answer.
-use Rattle.std.proofs.Common.{◌≡◌, ◌<◌, ℕ, Bool, true, false, List, [], ◌∷◌, length, Option, Some, None, if◌then◌else◌, refl, sym, ◌∙◌, ap, subst, Result, Ok, Err, arith}
-use Rattle.df_base.specs.Causes.{Blamed, IsBlamed}
+use Rattle.std.proofs.Common.{◌≡◌, ◌<◌, ℕ, Bool, true, List, [], ◌∷◌, length, Option, Some, None, refl, sym, ap, subst, Result, Ok, Err, arith}
+use Rattle.std.proofs.lemmas.Option.{none-some}
 use Rattle.df_disk.specs.Told.{Told}
-use Rattle.df_layout.specs.declared.damage.Class.{Class}
-use Rattle.df_layout.specs.declared.places.Place.{Place}
 use Rattle.df_model.specs.Commands.{Advance, Answer as Answered, Append, Begin, Command, ReadBlock, ReadPrepare, ReadReply, Recent, Release, Reply, Scrub, WriteBlock}
 use Rattle.df_model.specs.declared.answers.Progress.{Progress}
 use Rattle.df_model.specs.declared.answers.Progress.TheVariants.{Done, Working}
@@ -17,38 +15,13 @@ use Rattle.df_replica.specs.Beginning.{IsBegin}
 use Rattle.df_replica.specs.Below.{RunningState, State as Replica}
 use Rattle.df_replica.specs.Blocks.{IsRelease}
 use Rattle.df_replica.specs.Stepping.{IsStep, OfRunning, advanced, finished}
-use Rattle.df_script_model.specs.Texts.{damaged_text}
+use Rattle.df_workload.specs.Hearing.{outcome_in}
 use Rattle.df_workload.specs.declared.outcome.Outcome.{Outcome}
-use Rattle.df_session.specs.Calls.{IsExact, is_damaged, is_fault, machine_answer}
-use Rattle.df_top.specs.Session.{IsDamagedLine}
-use Rattle.df_session.specs.Links.{Makes}
-use Rattle.df_top.specs.Works.{IsRunning, MakesTo, RunsOn, StepsOn, heard, is_disk, outcome_in}
-use Rattle.df_top.specs.declared.works.Fault.{Fault}
-use Rattle.df_top.specs.declared.works.Fault.TheVariants.{Damaged, Disk}
-use Rattle.df_session.proofs.Laws.{append_moves, exact_damaged, exact_lends, on_running, reply_moves, write_moves}
-use Rattle.df_top.proofs.Answered.{damaged_line}
-use Rattle.df_top.proofs.InWords.{InWords, in_words}
-
--- ---- what is heard
-
--- the call was made and this much was heard of it, and who is to blame
-abbrev Heard : Command → (s t : Replica) → (old new : Option Told) → (before now : ℕ) → Result Outcome Fault → Type 0
-Heard command s t old new before now r = MakesTo command s t old new r × IsBlamed is_disk before now r
-
-module _ (command : Command) (s t : Replica) (old new : Option Told) (before now : ℕ) (a : Answer) (makes : Makes command s t old new (machine_answer a))
-    (damaged : (place : Place) (class : Class) → a ≡ answers.Advance (Err (step.Damaged place class)) → IsDamagedLine command new (damaged_text place class)) where
-  unless_fault : (fault : Bool) → is_fault a ≡ fault → heard a ≡ (if fault then Err Disk else outcome_in a)
-  unless_fault fault is = ap (λ (b : Bool). if b then Err Disk else outcome_in a) is
-
-  heard_as : (fault damages : Bool) → is_fault a ≡ fault → InWords fault damages command a → Blamed fault before now → Heard command s t old new before now (heard a)
-  heard_as true damages is none blamed =
-      subst (λ (r : Result Outcome Fault). Heard command s t old new before now r) (sym (unless_fault true is)) (subst (λ (x : Option Answered). Makes command s t old new x) none makes, blamed)
-  heard_as false true is found same =
-      subst (λ (r : Result Outcome Fault). Heard command s t old new before now r) (sym (unless_fault false is ∙ ap outcome_in found.2))
-      ((subst (λ (x : Option Answered). Makes command s t old new x) found.3 makes, damaged found.0 found.1 found.2), same)
-  heard_as false false is found same =
-      subst (λ (r : Result Outcome Fault). Heard command s t old new before now r) (sym (unless_fault false is ∙ found.3))
-      ((found.0, subst (λ (x : Option Answered). Makes command s t old new x) found.1 makes, refl), same)
+use Rattle.df_session.specs.Calls.{IsExact, machine_answer}
+use Rattle.df_session.specs.Endings.{GivesAnswer}
+use Rattle.df_top.specs.Works.{HearsOf, IsRunning, RunsOn, StepsOn}
+use Rattle.df_session.proofs.Laws.{append_moves, on_running, reply_moves, write_moves}
+use Rattle.df_top.proofs.SameWords.{same_words}
 
 -- ---- a running checkpoint
 
@@ -60,27 +33,23 @@ same_running : (s t : Replica) → t ≡ s → t.running ≡ s.running
 same_running s t is = ap (λ (r : Replica). r.running) is
 
 module _ (s t : Replica) (same : t.running ≡ s.running) where
-  append_on : (client request : ℕ) (body : List ℕ) (r : Result Outcome Fault) → RunsOn (Append client request body) s t r
-  append_on client request body (Ok outcome) = stays s t same
-  append_on client request body (Err e) = tt
+  append_on : (client request : ℕ) (body : List ℕ) (o : Outcome) → RunsOn (Append client request body) s t (Ok o)
+  append_on client request body o = stays s t same
 
-  reply_on : (op : ℕ) (body : List ℕ) (r : Result Outcome Fault) → RunsOn (Reply op body) s t r
-  reply_on op body (Ok outcome) = stays s t same
-  reply_on op body (Err e) = tt
+  reply_on : (op : ℕ) (body : List ℕ) (o : Outcome) → RunsOn (Reply op body) s t (Ok o)
+  reply_on op body o = stays s t same
 
-  write_on : (kind : ℕ) (body : List ℕ) (r : Result Outcome Fault) → RunsOn (WriteBlock kind body) s t r
-  write_on kind body (Ok outcome) = stays s t same
-  write_on kind body (Err e) = tt
+  write_on : (kind : ℕ) (body : List ℕ) (o : Outcome) → RunsOn (WriteBlock kind body) s t (Ok o)
+  write_on kind body o = stays s t same
 
-  release_on : (address : ℕ) (r : Result Outcome Fault) → RunsOn (Release address) s t r
-  release_on address (Ok outcome) = stays s t same
-  release_on address (Err e) = tt
+  release_on : (address : ℕ) (o : Outcome) → RunsOn (Release address) s t (Ok o)
+  release_on address o = stays s t same
 
 release_running : (s t : Replica) (address : ℕ) (r : Result (Unit {0}) NotLive) → IsRelease address s t r → t.running ≡ s.running
 release_running s t address (Ok done) is = ap (λ (r : Replica). r.running) is.1
 release_running s t address (Err e) is = same_running s t is.1
 
-begin_on : (s t : Replica) (root : List ℕ) (r : Result ℕ BeginError) → IsBegin root s t r → RunsOn (Begin root) s t (heard (answers.Begin r))
+begin_on : (s t : Replica) (root : List ℕ) (r : Result ℕ BeginError) → IsBegin root s t r → RunsOn (Begin root) s t (Ok (outcome_in (answers.Begin r)))
 begin_on s t root (Ok blocks) is = λ flag had set. subst (λ (r : Replica). IsRunning r) (sym is.2) tt
 begin_on s t root (Err e) is = stays s t (same_running s t is.1)
 
@@ -107,50 +76,50 @@ none_left s t None is = absurd is
 none_left s t (Some r) is = ap (λ (u : Replica). u.blocks.left) is
 
 module _ (s t : Replica) (old new : Option Told) where
-  step_on : (r : Result Progress StepError) → IsStep s t old new r → RunsOn Advance s t (heard (answers.Advance r))
-  step_on (Ok (Working left)) is = λ flag had set. runs_on s t s.running (on_running s.running (λ r i. i.2) is)
-  step_on (Ok (Done sequence)) is = λ flag had set. absurd (cc)
-  step_on (Err step.NotRunning) is = stays s t (same_running s t is.1)
-  step_on (Err (step.Damaged place class)) is = tt
-  step_on (Err step.DiskFault) is = tt
+  step_on : (r : Result Progress StepError) → IsStep s t old new r → (x : Answered) → machine_answer (answers.Advance r) ≡ Some x → RunsOn Advance s t (Ok (outcome_in (answers.Advance r)))
+  step_on (Ok (Working left)) is x said = λ flag had set. runs_on s t s.running (on_running s.running (λ r i. i.2) is)
+  step_on (Ok (Done sequence)) is x said = λ flag had set. absurd (cc)
+  step_on (Err step.NotRunning) is x said = stays s t (same_running s t is.1)
+  step_on (Err (step.Damaged place class)) is x said = absurd (none-some x said)
+  step_on (Err step.DiskFault) is x said = absurd (none-some x said)
 
-  step_steps : (r : Result Progress StepError) → IsStep s t old new r → StepsOn s t (heard (answers.Advance r))
-  step_steps (Ok (Working left)) is = fewer s t s.running (on_running s.running (λ r i. (i.0, i.2)) is)
-  step_steps (Ok (Done sequence)) is = none_left s t s.running (on_running s.running (λ r i. i.2) is)
-  step_steps (Err step.NotRunning) is = not_running s is.0
-  step_steps (Err (step.Damaged place class)) is = tt
-  step_steps (Err step.DiskFault) is = tt
+  step_steps : (r : Result Progress StepError) → IsStep s t old new r → (x : Answered) → machine_answer (answers.Advance r) ≡ Some x → StepsOn s t (Ok (outcome_in (answers.Advance r)))
+  step_steps (Ok (Working left)) is x said = fewer s t s.running (on_running s.running (λ r i. (i.0, i.2)) is)
+  step_steps (Ok (Done sequence)) is x said = none_left s t s.running (on_running s.running (λ r i. i.2) is)
+  step_steps (Err step.NotRunning) is x said = not_running s is.0
+  step_steps (Err (step.Damaged place class)) is x said = absurd (none-some x said)
+  step_steps (Err step.DiskFault) is x said = absurd (none-some x said)
 
 -- ---- any call
 
--- what a call comes to
-pub record Call (command : Command) (s t : Replica) (old new : Option Told) (before now : ℕ) (result : Result Outcome Fault) : Type 0 where
-  pub makes : MakesTo command s t old new result
-  pub runs : RunsOn command s t result
-  pub steps : command ≡ Advance → StepsOn s t result
-  pub disk : IsBlamed is_disk before now result
+-- what a call that was answered comes to, by what the run hears of it
+pub record Call (command : Command) (s t : Replica) (old new : Option Told) (outcome : Outcome) : Type 0 where
+  pub makes : HearsOf command s t old new (Ok outcome)
+  pub runs : RunsOn command s t (Ok outcome)
+  pub steps : command ≡ Advance → StepsOn s t (Ok outcome)
 
-module _ (s t : Replica) (old new : Option Told) (a : Answer) where
-  exact_on : (command : Command) → IsExact command s t old new a → RunsOn command s t (heard a)
-  exact_on (Append client request body) is = append_on s t (append_moves s t old new client request body is.0 is.2).1 client request body (heard a)
-  exact_on (Reply op body) is = reply_on s t (reply_moves s t old new op body is.0 is.2).1 op body (heard a)
-  exact_on (WriteBlock kind body) is = write_on s t (write_moves s t old new kind body is.0 is.2).1 kind body (heard a)
-  exact_on (Release address) is = release_on s t (release_running s t address is.0 is.2) address (heard a)
-  exact_on (Begin root) is = subst (λ (x : Answer). RunsOn (Begin root) s t (heard x)) (sym is.1) (begin_on s t root is.0 is.2)
-  exact_on Advance is = subst (λ (x : Answer). RunsOn Advance s t (heard x)) (sym is.1) (step_on s t old new is.0 is.2)
+module _ (s t : Replica) (old new : Option Told) (a : Answer) (x : Answered) (said : machine_answer a ≡ Some x) where
+  exact_on : (command : Command) → IsExact command s t old new a → RunsOn command s t (Ok (outcome_in a))
+  exact_on (Append client request body) is = append_on s t (append_moves s t old new client request body is.0 is.2).1 client request body (outcome_in a)
+  exact_on (Reply op body) is = reply_on s t (reply_moves s t old new op body is.0 is.2).1 op body (outcome_in a)
+  exact_on (WriteBlock kind body) is = write_on s t (write_moves s t old new kind body is.0 is.2).1 kind body (outcome_in a)
+  exact_on (Release address) is = release_on s t (release_running s t address is.0 is.2) address (outcome_in a)
+  exact_on (Begin root) is = subst (λ (y : Answer). RunsOn (Begin root) s t (Ok (outcome_in y))) (sym is.1) (begin_on s t root is.0 is.2)
+  exact_on Advance is = subst (λ (y : Answer). RunsOn Advance s t (Ok (outcome_in y))) (sym is.1) (step_on s t old new is.0 is.2 x (subst (λ (y : Answer). machine_answer y ≡ Some x) is.1 said))
   exact_on (ReadPrepare op) is = absurd is
   exact_on (ReadReply client) is = absurd is
   exact_on (ReadBlock address) is = absurd is
   exact_on Scrub is = absurd is
   exact_on Recent is = absurd is
 
-  exact_steps : (command : Command) → IsExact command s t old new a → command ≡ Advance → StepsOn s t (heard a)
+  exact_steps : (command : Command) → IsExact command s t old new a → command ≡ Advance → StepsOn s t (Ok (outcome_in a))
   exact_steps command exact is =
       let step = subst (λ (c : Command). IsExact c s t old new a) is exact in
-      subst (λ (x : Answer). StepsOn s t (heard x)) (sym step.1) (step_steps s t old new step.0 step.2)
+      subst (λ (y : Answer). StepsOn s t (Ok (outcome_in y))) (sym step.1) (step_steps s t old new step.0 step.2 x (subst (λ (y : Answer). machine_answer y ≡ Some x) step.1 said))
 
-  pub heard_call : (before now : ℕ) (command : Command) → IsExact command s t old new a → Makes command s t old new (machine_answer a) → Blamed (is_fault a) before now → Call command s t old new before now (heard a)
-  heard_call before now command exact makes blamed =
-      let both =
-      heard_as command s t old new before now a makes (λ place class is. damaged_line command new place class (exact_damaged s t old new a command exact place class is)) (is_fault a) (is_damaged a) refl (in_words command a (exact_lends s t old new a command exact)) blamed in
-      record { makes = both.0; runs = exact_on command exact; steps = exact_steps command exact; disk = both.1 }
+pub heard_call : (command : Command) (s t : Replica) (old new : Option Told) (a : Answer) → GivesAnswer command s t old new a → Call command s t old new (outcome_in a)
+heard_call command s t old new a gives = record {
+  makes = (gives.told, gives.makes, (same_words command gives.told a gives.in_words).1);
+  runs = exact_on s t old new a gives.told gives.in_words command gives.exact;
+  steps = exact_steps s t old new a gives.told gives.in_words command gives.exact;
+}

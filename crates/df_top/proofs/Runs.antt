@@ -15,13 +15,14 @@ use Rattle.df_workload.specs.declared.outcome.Outcome.{Outcome}
 use Rattle.df_workload.specs.declared.outcome.Outcome.TheVariants.{Refused, Accepted, Wrote, Finished}
 use Rattle.df_workload.specs.declared.state.State.{State as Run}
 use Rattle.df_workload.proofs.Laws.{follows_more, runs_so}
+use Rattle.df_session.specs.Endings.{EndsBy}
 use Rattle.df_session.specs.Links.{command_in}
-use Rattle.df_top.specs.Session.{IsDamagedLine}
-use Rattle.df_top.specs.Works.{Comes, Fails, IsRunning, MakesTo, PrintsRun, RunsOn, StepsOn, Worked, Works, Writes, steps_left}
-use Rattle.df_top.specs.declared.works.Fault.{Fault}
-use Rattle.df_top.specs.declared.works.Fault.TheVariants.{Disk, Damaged}
+use Rattle.df_session.specs.declared.hearing.Fault.{Fault}
+use Rattle.df_session.specs.declared.hearing.Fault.TheVariants.{Disk, Damaged}
+use Rattle.df_top.specs.Works.{Comes, Fails, HearsOf, IsRunning, PrintsRun, RunsOn, StepsOn, Worked, Works, Writes, steps_left}
 use Rattle.df_top.specs.declared.status.Status.{Status}
 use Rattle.df_session.proofs.Laws.{calls_join}
+use Rattle.df_top.proofs.Answered.{damaged_line}
 
 -- ---- joined
 
@@ -44,26 +45,25 @@ module _ (begun : Run) (s : Replica) (old : Option Told) (mid : Run) (u : Replic
   }
 
 module _ (begun : Run) (s : Replica) (old : Option Told) (mid : Run) (u : Replica) (between : Option Told) (run : Run) (t : Replica) (new : Option Told) (one : Works begun s old mid u between) where
-  fails_more : (Holds : Act → Type 0) → Fails mid u between run t new Holds → Fails begun s old run t new Holds
-  fails_more Holds f = record {
+  fails_more : (fault : Fault) → Fails mid u between run t new fault → Fails begun s old run t new fault
+  fails_more fault f = record {
     replica = f.replica;
     told = f.told;
     works = works_more begun s old mid u between run f.replica f.told one f.works;
     act = f.act;
     call = f.call;
     asked = f.asked;
-    holds = f.holds;
+    ends = f.ends;
   }
 
   pub comes_more : {T : Type 0} (r : Result T Fault) → Comes mid u between run t new r → Comes begun s old run t new r
   comes_more (Ok x) two = works_more begun s old mid u between run t new one two
-  comes_more (Err Disk) f = fails_more (λ a. Unit {0}) f
-  comes_more (Err (Damaged place class)) f = fails_more (λ a. IsDamagedLine a.command new (damaged_text place class)) f
+  comes_more (Err fault) f = fails_more fault f
 
 -- ---- one call
 
 module _ (run : Run) (s t : Replica) (old new : Option Told) (command : Command) (is : asks run ≡ Some command) where
-  pub made_works : (o : Outcome) → MakesTo command s t old new (Ok o) → Works run s old (told o run) t new
+  pub made_works : (o : Outcome) → HearsOf command s t old new (Ok o) → Works run s old (told o run) t new
   made_works o made = record {
     acts = made.1.act ∷ [];
     answers = made.0 ∷ [];
@@ -71,30 +71,21 @@ module _ (run : Run) (s t : Replica) (old new : Option Told) (command : Command)
     follows = (is ∙ ap (λ (c : Command). Option.Some c) (sym made.1.is), ap (λ (o : Outcome). told o run) made.2);
   }
 
-  pub made_live : (o : Outcome) → MakesTo command s t old new (Ok o) → t.live ≡ true
+  pub made_live : (o : Outcome) → HearsOf command s t old new (Ok o) → t.live ≡ true
   made_live o made = made.1.calls.call.live
 
   pub made_runs : (o : Outcome) → RunsOn command s t (Ok o) → (run.running ≡ true → IsRunning s) → (told o run).running ≡ true → IsRunning t
   made_runs o runs had set = runs run.running had (sym (runs_so run.point o run command is) ∙ set)
 
-  pub made_fails : (T : Type 0) (e : Fault) → MakesTo command s t old new (Err e) → Comes {T = T} run s old run t new (Err e)
-  made_fails T Disk made = record {
-    replica = s;
-    told = old;
-    works = works_none run s old;
-    act = made.act;
-    call = made.calls;
-    asked = is ∙ ap (λ (c : Command). Option.Some c) (sym made.is);
-    holds = tt;
-  }
-  made_fails T (Damaged place class) made = record {
+  pub made_fails : (T : Type 0) (fault : Fault) → HearsOf command s t old new (Err fault) → Comes {T = T} run s old run t new (Err fault)
+  made_fails T fault made = record {
     replica = s;
     told = old;
     works = works_none run s old;
     act = made.0.act;
     call = made.0.calls;
     asked = is ∙ ap (λ (c : Command). Option.Some c) (sym made.0.is);
-    holds = subst (λ (c : Command). IsDamagedLine c new (damaged_text place class)) (sym made.0.is) made.1;
+    ends = subst (λ (c : Command). EndsBy fault c new) (sym made.0.is) made.1;
   }
 
 -- ---- the last steps
@@ -125,7 +116,7 @@ module _ (begun : Run) (s : Replica) (old : Option Told) (run : Run) (t : Replic
   abbrev whole : Works begun s old run t new → asks run ≡ None → Worked begun s old run t new
   whole works over = record { acts = works.acts; answers = works.answers; failed = None; calls = works.calls; follows = works.follows; asked = over }
 
-  abbrev cut : {Holds : Act → Type 0} → Fails begun s old run t new Holds → Worked begun s old run t new
+  abbrev cut : {fault : Fault} → Fails begun s old run t new fault → Worked begun s old run t new
   cut f = record {
     acts = f.works.acts;
     answers = f.works.answers;
@@ -143,8 +134,8 @@ module _ (begun : Run) (s : Replica) (old : Option Told) (run : Run) (t : Replic
     ends_run (Ok x) works over (inl printed) = record { worked = whole works over; writes = subst (λ (q : Status). Writes run t new None written took q) (sym printed.0) printed.1 }
     ends_run (Ok x) works over (inr printed) = record { worked = whole works over; writes = subst (λ (q : Status). Writes run t new None written took q) (sym printed.0) printed.1 }
     ends_run (Err Disk) f over printed = record { worked = cut f; writes = subst (λ (q : Status). Writes run t new (Some f.act) written took q) (sym printed.0) printed.1 }
-    ends_run (Err (Damaged place class)) f over (inl printed) = record { worked = cut f; writes = subst (λ (q : Status). Writes run t new (Some f.act) written took q) (sym printed.0) (damaged_text place class, f.holds, printed.1) }
-    ends_run (Err (Damaged place class)) f over (inr printed) = record { worked = cut f; writes = subst (λ (q : Status). Writes run t new (Some f.act) written took q) (sym printed.0) (damaged_text place class, f.holds, printed.1) }
+    ends_run (Err (Damaged place class)) f over (inl printed) = record { worked = cut f; writes = subst (λ (q : Status). Writes run t new (Some f.act) written took q) (sym printed.0) (damaged_text place class, damaged_line f.act.command new place class f.ends, printed.1) }
+    ends_run (Err (Damaged place class)) f over (inr printed) = record { worked = cut f; writes = subst (λ (q : Status). Writes run t new (Some f.act) written took q) (sym printed.0) (damaged_text place class, damaged_line f.act.command new place class f.ends, printed.1) }
 
 -- what is asked for is one command
 one_asked : (run : Run) (a b : Command) → asks run ≡ Some a → asks run ≡ Some b → a ≡ b

@@ -13,12 +13,13 @@ use Rattle.df_theory.specs.View.{View}
 use Rattle.df_replica.specs.Following.{MayOpen}
 use Rattle.df_replica.specs.Session.{Act}
 use Rattle.df_replica.proofs.Laws.{safe_is_not_refused}
+use Rattle.df_session.specs.Found.{FoundFile}
 use Rattle.df_top.specs.Completeness.{IsCarriedOut, IsWhole, NoneFailed, SafeIsRun, SafeIsServed}
 use Rattle.df_top.specs.Opening.{RefusesFile}
 use Rattle.df_top.specs.Outside.{Faults, HasCauses, Outside}
 use Rattle.df_top.specs.Reporting.{status_of}
 use Rattle.df_top.specs.Scrubs.{failing_blocks, tour_status}
-use Rattle.df_top.specs.Run.{Does, DidNothing, RefusesSuperblock, ServesOwn, ServesScript, script_budget}
+use Rattle.df_top.specs.Run.{ComesTo, Does, DidNothing, RefusesSuperblock, ServesOwn, ServesScript, Works, script_budget}
 use Rattle.df_top.specs.Lines.{Turned, said_in}
 use Rattle.df_top.specs.Session.{EndsWith, act_of, said_of}
 use Rattle.df_workload.specs.declared.state.State.{State as Generated}
@@ -97,8 +98,8 @@ module _ (file : DataFile) (view : View) (t : Told) (old new : Outside) (before 
   no_refusal : RefusesFile file.layout t old new status → ⊥
   no_refusal refuses = refuses.is.other (answers.1.answered refuses.error refuses.is.why)
 
-  served : ServesScript file.layout t old new status → IsCarriedOut Run file.layout old.left status
-  served serves = elim (session_ends 0 old serves.last.outside serves.session.turns (act_of serves.session.failing) serves.session.cut status serves.session.written) [
+  served : (found : FoundFile file.layout t) → ServesScript file.layout t found old new status → IsCarriedOut Run file.layout old.left status
+  served found serves = elim (session_ends 0 old serves.last.outside serves.session.turns (act_of serves.session.failing) serves.session.cut status serves.session.written) [
     | AtEnd done ↦ inl done
     | AtLine script cut ↦
         inr (record {
@@ -121,33 +122,31 @@ module _ (file : DataFile) (view : View) (t : Told) (old new : Outside) (before 
     | inr (inr (inr fault)) ↦ absurd (no_sink fault)
   ]
 
-  done : (mode : Mode) → Does mode file.layout t old new status → IsCarriedOut mode file.layout old.left status
-  done (Format shape cluster) does = does
-  done Run (inl refuses) = absurd (no_refusal refuses)
-  done Run (inr (inl fails)) = absurd (no_disk fails.fault)
-  done Run (inr (inr serves)) = served serves
-  done Recover (inl refuses) = absurd (no_refusal refuses)
-  done Recover (inr (inl fails)) = absurd (no_disk fails.fault)
-  done Recover (inr (inr recovers)) = elim recovers.prints [
+  carried : (mode : Mode) (found : FoundFile file.layout t) → Works mode file.layout t found old new status → IsCarriedOut mode file.layout old.left status
+  carried (Format shape cluster) found works = works
+  carried Run found serves = served found serves
+  carried Recover found recovers = elim recovers.prints [
     | inl printed ↦ printed.0
     | inr part ↦ absurd (no_sink part.0)
   ]
-  done Inspect (inl refuses) = absurd (no_refusal refuses)
-  done Inspect (inr (inl fails)) = absurd (no_disk fails.fault)
-  done Inspect (inr (inr inspects)) = elim inspects.prints [
+  carried Inspect found inspects = elim inspects.prints [
     | inl printed ↦ listed inspects.survey.mends status printed.0
     | inr part ↦ absurd (no_sink part.0)
   ]
-  done Scrub (inl refuses) = absurd (no_refusal refuses)
-  done Scrub (inr (inl fails)) = absurd (no_disk fails.fault)
-  done Scrub (inr (inr scrubs)) = elim scrubs.prints [
-    | inl (inl printed) ↦ counted (length (failing_blocks scrubs.replica scrubs.after.shown)) status printed.0
+  carried Scrub found scrubs = elim scrubs.prints [
+    | inl (inl printed) ↦ counted (length (failing_blocks found.replica scrubs.after.shown)) status printed.0
     | inl (inr part) ↦ absurd (no_sink part.0)
     | inr stops ↦ absurd (no_disk stops.fault)
   ]
-  done (Workload seed count) (inl refuses) = absurd (no_refusal refuses)
-  done (Workload seed count) (inr (inl fails)) = absurd (no_disk fails.fault)
-  done (Workload seed count) (inr (inr works)) = worked works.run works.last new.told works.worked.failed old.written new.written works.written works.undamaged
+  carried (Workload seed count) found works = worked works.run works.last new.told works.worked.failed old.written new.written works.written works.undamaged
+
+  came : (mode : Mode) → ComesTo mode file.layout t old new status → IsCarriedOut mode file.layout old.left status
+  came mode (inl refuses) = absurd (no_refusal refuses)
+  came mode (inr (inl fails)) = absurd (no_disk fails.fault)
+  came mode (inr (inr works)) = carried mode works.0 works.1
+
+  done : (mode : Mode) → Does mode file.layout t old new status → IsCarriedOut mode file.layout old.left status
+  done mode does = came mode does.1
 
   ran : (mode : Mode) → DidNothing old new status ⊎ RefusesSuperblock t old new status ⊎ ServesOwn mode t old new status → (status ≡ Memory) ⊎ IsCarriedOut mode file.layout old.left status
   ran mode (inl nothing) = elim nothing.why [

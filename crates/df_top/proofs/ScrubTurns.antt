@@ -4,9 +4,8 @@ use Rattle.std.specs.Prelude.{zero, suc, slice_get, slice_set}
 use Rattle.df_base.specs.declared.Failed.{Failed}
 use Rattle.df_disk.specs.Told.{Told}
 use Rattle.df_inspect.specs.Prints.{Prints}
-use Rattle.df_layout.specs.declared.damage.Class.TheVariants.{Blank}
 use Rattle.df_layout.specs.declared.damage.Finding.{Finding}
-use Rattle.df_model.specs.Commands.{Given, Recent, Scrub, ToRecent, ToScrub}
+use Rattle.df_model.specs.Commands.{ForRecent, ForScrub, Given, Recent, Scrub, ToRecent, ToScrub}
 use Rattle.df_model.specs.declared.answers.Scrubbed.{Scrubbed}
 use Rattle.df_model.specs.declared.commands.Answer.TheVariants as answers
 use Rattle.df_model.specs.declared.answers.Verdict.{Verdict}
@@ -32,7 +31,7 @@ verdict_for s None (Ok scrubbed) = verdict_in scrubbed
 verdict_for s None (Err e) = Sound
 
 abbrev supply : Replica → Option Told → Result Scrubbed Failed → Given
-supply s told r = record { checksum = 0; message = Err Blank; block = Err Blank; verdict = verdict_for s told r }
+supply s told r = ForScrub (verdict_for s told r)
 
 found_by : (s : Replica) (told : Option Told) (r : Result Scrubbed Failed) → IsCheckFound s told (verdict_for s told r)
 found_by s (Some t) r = refl
@@ -56,7 +55,7 @@ module _ (s t : Replica) (old new : Option Told) (same : new ≡ old) where
     };
   }
 
-  pub scrub_done : (written took : Option (List ℕ)) (before now : ℕ) (turn : Turn) (x : Scrubbed) → ServesScrub s t old (Ok x) → now ≡ before → Tells Scrub (answers.Scrub x) written took turn → Comes Scrub s t old new written took before now turn
+  pub scrub_done : (written took : Option (List ℕ)) (before now : ℕ) (turn : Turn) (x : Scrubbed) → ServesScrub s t old (Ok x) → now ≡ before → Tells Scrub (Ok (answers.Scrub x)) written took turn → Comes Scrub s t old new written took before now turn
   scrub_done written took before now turn x serves still tells = comes_answered Scrub s t old new written took before now turn (ToScrub x) (makes (Ok x) serves) still tells
 
 -- ---- the ring
@@ -89,6 +88,5 @@ take_more (x ∷ xs) (suc n) =
 pub ring_printed : (s : Replica) (told : Option Told) (written took : Option (List ℕ)) → Serves Recent s s told told (Some (ToRecent s.findings)) → {T E : Type 0} (r : Result T E) → Prints (recent_text s.findings) written took r
     → Answers Recent s s told told written took (printed_turn r)
 ring_printed s told written took serves r prints =
-    let given : Given = record { checksum = 0; message = Err Blank; block = Err Blank; verdict = Sound } in
-    printed_is Recent s s told told written took (ToRecent s.findings) (made Recent given s s told told (Some (ToRecent s.findings)) refl serves ([], refl)) (printed_turn r)
+    printed_is Recent s s told told written took (ToRecent s.findings) (made Recent ForRecent s s told told (Some (ToRecent s.findings)) refl serves ([], refl)) (printed_turn r)
     (prints_turn (recent_text s.findings) written took r prints)

@@ -1,5 +1,5 @@
 -- A file that was opened is served, and one that wasn't is refused.
-use Rattle.std.proofs.Common.{◌≡◌, ◌⊎◌, inl, inr, ℕ, Bool, true, List, [], Option, Some, None, refl, sym, ◌∙◌, ap, subst, Err}
+use Rattle.std.proofs.Common.{◌≡◌, inl, inr, ℕ, Bool, true, List, [], Option, Some, None, refl, sym, ◌∙◌, ap, subst, Err}
 use Rattle.std.proofs.lemmas.Option.{none-some}
 use Rattle.df_base.specs.Image.{IsImage}
 use Rattle.df_base.specs.Log.{Sync}
@@ -13,19 +13,21 @@ use Rattle.df_model.specs.Work.{opened}
 use Rattle.df_model.specs.declared.errors.OpenError.{OpenError}
 use Rattle.df_model.specs.declared.errors.OpenError.TheVariants as opens
 use Rattle.df_replica.specs.Below.{State as Replica, shape, IsOpened}
-use Rattle.df_replica.specs.Opened.{MendsAll, StopsOpening, ToldBy}
+use Rattle.df_replica.specs.Opened.{MendsAll, ToldBy}
 use Rattle.df_replica.specs.Surveying.{TellsSurvey}
 use Rattle.df_replica.proofs.Laws.{found_keeps}
+use Rattle.df_session.specs.Found.{FoundFile}
 use Rattle.df_session.specs.Laws.{CallsKeep}
 use Rattle.df_session.proofs.Laws.{calls_keep, ends_told}
 use Rattle.df_top.specs.Acknowledging.{script_calls}
-use Rattle.df_top.specs.Opening.{FailsToOpen, RefusesFile}
+use Rattle.df_top.specs.Opening.{FailsToFind, RefusesFile, StopsBefore}
 use Rattle.df_top.specs.Outside.{Outside}
 use Rattle.df_top.specs.Refusing.{PrintsError}
-use Rattle.df_top.specs.Run.{ServesScript, start}
+use Rattle.df_top.specs.Run.{ComesTo, ServesScript, start}
 use Rattle.df_replica.specs.Session.{Act}
 use Rattle.df_top.specs.Lines.{Turned, all_acts, all_answers}
 use Rattle.df_top.specs.Session.{Ended, EndsWith, State, act_of, state}
+use Rattle.df_top.specs.declared.mode.Mode.{Mode}
 use Rattle.df_top.specs.declared.session.Session.{Session}
 use Rattle.df_top.specs.declared.status.Status.{Status}
 use Rattle.df_top.specs.declared.status.Status.TheVariants.{Refused}
@@ -64,6 +66,9 @@ refused_never n old new turns (Some a) cut u is ends = none-some u (sym ends.2.s
 module _ (layout : Layout) (t : Told) (old new : Outside) (status : Status) (s : Replica) (mended : Option Told) (whole : IsImage t.shown) (told : old.told ≡ Some t) (live : s.live ≡ true) (of : s.file.layout ≡ layout) (is_opened : IsOpened layout t.shown s)
     (over : MendsAll t s mended)
     (last : State) (last_is : last.outside ≡ new) (ended : Ended (line_bound layout) (start mended old s) last status) where
+  abbrev found : FoundFile layout t
+  found = record { replica = s; is_opened = is_opened; mended = mended; mending = over.mending }
+
   last_told : last.outside.told ≡ new.told
   last_told = ap (λ (o : Outside). o.told) last_is
 
@@ -87,25 +92,24 @@ module _ (layout : Layout) (t : Told) (old new : Outside) (status : Status) (s :
       refused_never origin.lines origin.outside last.outside ended.turns (act_of ended.failing) ended.cut tells_on.0 tells_on.1
       (subst (λ (x : Status). EndsWith origin.lines origin.outside last.outside ended.turns (act_of ended.failing) ended.cut x) is ended.written)
 
-  calls : CallsKeep t s mended over.mending (script_calls ended)
+  calls : CallsKeep t found.replica found.mended found.mending (script_calls ended)
   calls = calls_keep t s mended over last.replica last.outside.told (all_acts ended.turns) (all_answers ended.turns) (act_of ended.failing) ended.calls whole live opened_here
 
-  pub serves : ServesScript layout t old new status
-  serves = record {
-    replica = s;
-    is_opened = is_opened;
-    mended = mended;
-    mending = over.mending;
+  serves_here : ServesScript layout t found old new status
+  serves_here = record {
     last = last;
     last_is = last_is;
     session = ended;
-    result = λ view shown found agree.
-        opened_prints s t mended over whole (opened (shape s.file) (unit_at s.file.layout s.file.cluster t.shown) view) (found_keeps s t.shown view whole opened_here found) last.replica last.outside.told (act_of ended.failing) shown agree ended.turns
+    result = λ view shown there agree.
+        opened_prints s t mended over whole (opened (shape s.file) (unit_at s.file.layout s.file.cluster t.shown) view) (found_keeps s t.shown view whole opened_here there) last.replica last.outside.told (act_of ended.failing) shown agree ended.turns
         ended.are ended.calls;
     adds = sym last_told ∙ calls.adds;
     calls = calls;
     undamaged = undamaged;
   }
+
+  pub serves : (found : FoundFile layout t) × ServesScript layout t found old new status
+  serves = (found, serves_here)
 
 -- ---- it isn't
 
@@ -118,8 +122,8 @@ refuses layout t old new status e other whole told answer unread barrier prints 
   barrier = barrier ∙ ap (after Sync) told;
 }
 
-pub fails : (layout : Layout) (t : Told) (old new : Outside) (status : Status) (e : OpenError) → e ≡ opens.DiskFault → StopsOpening layout t new.told → new.left ≡ old.left → PrintsError e old.written new.written status → FailsToOpen layout t old new status
-fails layout t old new status e is stops unread prints = record { fault = (prints.fault is).0; silent = record { written = (prints.fault is).1; unread = unread }; disk = stops }
+pub fails : (mode : Mode) (layout : Layout) (t : Told) (old new : Outside) (status : Status) (e : OpenError) → e ≡ opens.DiskFault → StopsBefore mode layout t new.told → new.left ≡ old.left → PrintsError e old.written new.written status → FailsToFind mode layout t old new status
+fails mode layout t old new status e is stops unread prints = record { fault = (prints.fault is).0; silent = record { written = (prints.fault is).1; unread = unread }; disk = stops }
 
 -- a refusal is the disk's failure or another one
 pub by_fault : (P : OpenError → Type 0) (e : OpenError) → (e ≡ opens.DiskFault → P e) → ((e ≡ opens.DiskFault → ⊥) → P e) → P e
@@ -131,9 +135,10 @@ by_fault P (opens.BadField a b) fault other = other (λ no. cc)
 by_fault P (opens.LayoutDiffers a b) fault other = other (λ no. cc)
 by_fault P (opens.Damaged a b) fault other = other (λ no. cc)
 
-pub not_opened : (P : Type 0) (layout : Layout) (t : Told) (old new : Outside) (status : Status) (e : OpenError) → IsImage t.shown → old.told ≡ Some t → TellsSurvey layout old.told (Err e) → new.left ≡ old.left → ((e ≡ opens.DiskFault → ⊥) → new.told ≡ after Sync old.told)
-    → (IsImage t.shown → e ≡ opens.DiskFault → StopsOpening layout t new.told) → PrintsError e old.written new.written status → RefusesFile layout t old new status ⊎ FailsToOpen layout t old new status ⊎ P
-not_opened P layout t old new status e whole told answer unread barrier stops prints =
-    by_fault (λ x. RefusesFile layout t old new status ⊎ FailsToOpen layout t old new status ⊎ P) e
-    (λ is. inr (inl (fails layout t old new status e is (stops whole is) unread prints)))
+-- so no word is carried out
+pub not_opened : (mode : Mode) (layout : Layout) (t : Told) (old new : Outside) (status : Status) (e : OpenError) → IsImage t.shown → old.told ≡ Some t → TellsSurvey layout old.told (Err e) → new.left ≡ old.left → ((e ≡ opens.DiskFault → ⊥) → new.told ≡ after Sync old.told)
+    → (IsImage t.shown → e ≡ opens.DiskFault → StopsBefore mode layout t new.told) → PrintsError e old.written new.written status → ComesTo mode layout t old new status
+not_opened mode layout t old new status e whole told answer unread barrier stops prints =
+    by_fault (λ x. ComesTo mode layout t old new status) e
+    (λ is. inr (inl (fails mode layout t old new status e is (stops whole is) unread prints)))
     (λ no. inl (refuses layout t old new status e no whole told answer unread (barrier no) prints))

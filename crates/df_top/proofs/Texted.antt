@@ -25,6 +25,7 @@ use Rattle.df_replica.specs.Below.{DataFile, IsOpened, State as Replica, shape}
 use Rattle.df_replica.specs.Reading.{shown_of}
 use Rattle.df_replica.proofs.Laws.{one_super, same_file}
 use Rattle.df_session.specs.Below.{AgreeShown}
+use Rattle.df_session.specs.Found.{FoundFile}
 use Rattle.df_top.specs.Lines.{Turned, all_text, printed, said_in}
 use Rattle.df_top.specs.OneText.{IsThrough, OneText, ShowSame, TextIsResult, status_by, text_by}
 use Rattle.df_top.specs.Outside.{Outside}
@@ -106,17 +107,17 @@ module _ (bound : ℕ) (text : List ℕ) (turns : List Turned) (old new : Outsid
   through failing cut WriteFault begins ends wrote is = absurd is
   through failing cut Found begins ends wrote is = absurd is
 
-module _ (layout : Layout) (t : Told) (old new : Outside) (status : Status) (serves : ServesScript layout t old new status) (text : List ℕ) (left : old.left ≡ Some text) (is : IsThrough status) where
+module _ (layout : Layout) (t : Told) (old new : Outside) (status : Status) (opening : FoundFile layout t) (serves : ServesScript layout t opening old new status) (text : List ℕ) (left : old.left ≡ Some text) (is : IsThrough status) where
   abbrev file : DataFile
-  file = serves.replica.file
+  file = opening.replica.file
 
   abbrev turns : List Turned
   turns = serves.session.turns
 
-  by : IsThroughBy (line_bound layout) script_budget text turns (start serves.mended old serves.replica).outside serves.last.outside status
+  by : IsThroughBy (line_bound layout) script_budget text turns (start opening.mended old opening.replica).outside serves.last.outside status
   by =
       let ended = serves.session.text text left in
-      through (line_bound layout) text turns (start serves.mended old serves.replica).outside serves.last.outside script_budget ended.0 ended.1 serves.session.failing serves.session.cut status ended.2 ended.3 serves.session.written is
+      through (line_bound layout) text turns (start opening.mended old opening.replica).outside serves.last.outside script_budget ended.0 ended.1 serves.session.failing serves.session.cut status ended.2 ended.3 serves.session.written is
 
   -- its script
   pub script_of : IsScript (line_bound layout) script_budget text (map said_in turns)
@@ -164,9 +165,9 @@ pub agree_self : (layout : Layout) (shown : Shown) → AgreeShown layout shown s
 agree_self layout shown = record { units = record { prepare = λ k. refl; reply = λ k. refl; block = λ k. refl }; classes = λ place read none. refl }
 
 pub text_is_result : TextIsResult
-text_is_result layout t old new status serves view text says script found left is =
-    let file = serves.replica.file in
-    prints_over layout t old new status serves text left is view (shown_of file t.shown) says script found (agree_self file.layout (shown_of file t.shown))
+text_is_result layout t old new status opening serves view text says script found left is =
+    let file = opening.replica.file in
+    prints_over layout t old new status opening serves text left is view (shown_of file t.shown) says script found (agree_self file.layout (shown_of file t.shown))
 
 -- ---- two images that show the same
 
@@ -213,17 +214,17 @@ pub found_here : (layout : Layout) (image : Image) (s : Replica) (is : IsOpened 
 found_here layout image s is = subst (λ (l : Layout). IsFound (shape s.file) (unit_at l s.file.cluster image) is.view) (sym is.of) is.found
 
 pub one_text : OneText
-one_text layout t u old new before now status ending text one other same left also is are =
-    let s = one.replica in
-    let r = other.replica in
-    let script = script_of layout u before now ending other text also are in
+one_text layout t u old new before now status ending text here there one other same left also is are =
+    let s = here.replica in
+    let r = there.replica in
+    let script = script_of layout u before now ending there other text also are in
     let says : List Said = map said_in other.session.turns in
-    let first = prints_over layout t old new status one text left is one.is_opened.view (shown_of s.file u.shown) says script (found_here layout t.shown s one.is_opened) (agree_there layout t.shown u.shown same s.file one.is_opened.of) in
-    let second = prints_over layout u before now ending other text also are other.is_opened.view (shown_of r.file u.shown) says script (found_here layout u.shown r other.is_opened) (agree_self r.file.layout (shown_of r.file u.shown)) in
-    let line = one_line layout t.shown u.shown same s r one.is_opened other.is_opened says in (
+    let first = prints_over layout t old new status here one text left is here.is_opened.view (shown_of s.file u.shown) says script (found_here layout t.shown s here.is_opened) (agree_there layout t.shown u.shown same s.file here.is_opened.of) in
+    let second = prints_over layout u before now ending there other text also are there.is_opened.view (shown_of r.file u.shown) says script (found_here layout u.shown r there.is_opened) (agree_self r.file.layout (shown_of r.file u.shown)) in
+    let line = one_line layout t.shown u.shown same s r here.is_opened there.is_opened says in (
       first.0 ∙ sym second.0,
       (
-        text_by script.ends (length says) (text_over r.file (shown_of r.file u.shown) (opened (shape r.file) (unit_at r.file.layout r.file.cluster u.shown) other.is_opened.view) says),
+        text_by script.ends (length says) (text_over r.file (shown_of r.file u.shown) (opened (shape r.file) (unit_at r.file.layout r.file.cluster u.shown) there.is_opened.view) says),
         subst (λ (l : List ℕ). Appends old.written new.written (text_by script.ends (length says) l)) line first.1,
         second.1,
       ),

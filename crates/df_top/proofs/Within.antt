@@ -1,5 +1,5 @@
 -- Whatever a word adds lies within the zones of the file.
-use Rattle.std.proofs.Common.{◌≡◌, ◌<◌, inl, inr, ℕ, List, [], ◌∷◌, Option, Some, None, refl, ◌∙◌, ap, subst, Result, Ok, Err}
+use Rattle.std.proofs.Common.{◌≡◌, ◌<◌, inl, inr, ℕ, List, [], ◌∷◌, Option, Some, None, refl, sym, ◌∙◌, ap, subst, Result, Ok, Err}
 use Rattle.df_base.specs.Log.{Sync}
 use Rattle.df_disk.specs.Told.{Told, did}
 use Rattle.df_layout.specs.declared.layout.Layout.{Layout}
@@ -16,12 +16,13 @@ use Rattle.df_replica.specs.Making.{making_events, making_steps}
 use Rattle.df_replica.specs.Opened.{Mends, StopsOpening}
 use Rattle.df_replica.specs.Serving.{IsCall}
 use Rattle.df_replica.specs.Session.{Act}
-use Rattle.df_session.specs.Links.{AreCalls, CallsMade, EndsCalls}
+use Rattle.df_session.specs.Found.{FoundFile}
+use Rattle.df_session.specs.Links.{AreCalls, EndsCalls}
 use Rattle.df_top.specs.Acknowledging.{run_calls, script_calls}
+use Rattle.df_top.specs.Opening.{StopsBefore}
 use Rattle.df_top.specs.Outside.{Outside}
-use Rattle.df_top.specs.Run.{Does, Runs, ServesScript}
+use Rattle.df_top.specs.Run.{ComesTo, Does, Runs, Works}
 use Rattle.df_top.specs.Within.{WritesOwn}
-use Rattle.df_top.specs.Working.{WorksThrough}
 use Rattle.df_top.specs.declared.mode.Mode.{Mode}
 use Rattle.df_top.specs.declared.mode.Mode.TheVariants.{Format, Run, Recover, Inspect, Scrub, Workload}
 use Rattle.df_top.specs.declared.status.Status.{Status}
@@ -48,9 +49,6 @@ module _ (file : DataFile) where
       let before = calls_within s old acts answers calls.0 calls.1 same calls.2 in
       then_within file.layout old calls.1 new before.0 (call_within a calls.0 t calls.1 new None before.1 calls.3.call)
 
-  made_within : (c : CallsMade) → c.from.file ≡ file → AddsWithin file.layout c.old c.new
-  made_within c same = ends_within c.from c.to c.old c.new c.acts c.answers c.failed same c.calls
-
 -- ---- a word on a file
 
 module _ (layout : Layout) (t : Told) where
@@ -73,34 +71,44 @@ module _ (layout : Layout) (t : Told) where
   session_within : (file : DataFile) (mended new : Option Told) → file.layout ≡ layout → Mends file (Some (did Sync t)) mended → AddsWithin file.layout mended new → AddsWithin layout (Some t) new
   session_within file mended new of mends added = then_within layout (Some t) mended new (mends_within file mended of mends) (subst (λ (l : Layout). AddsWithin l mended new) of added)
 
-module _ (layout : Layout) (t : Told) (old new : Outside) (status : Status) where
-  script_within : ServesScript layout t old new status → AddsWithin layout (Some t) new.told
-  script_within serves =
-      let added = made_within serves.replica.file (script_calls serves.session) refl in
-      session_within layout t serves.replica.file serves.mended new.told serves.is_opened.of serves.mending
-      (subst (λ (o : Outside). AddsWithin serves.replica.file.layout serves.mended o.told) serves.last_is added)
+  -- where the disk failed before the file was found
+  before_within : (mode : Mode) (new : Option Told) → StopsBefore mode layout t new → AddsWithin layout (Some t) new
+  before_within (Format shape cluster) new stops = stops_within new stops
+  before_within Run new stops = stops_within new stops
+  before_within Recover new stops = stops_within new stops
+  before_within Inspect new stops = part_within layout (Sync ∷ []) (Some t) new (tt, tt) stops
+  before_within Scrub new stops = stops_within new stops
+  before_within (Workload seed count) new stops = stops_within new stops
 
-  works_within : (seed count : ℕ) → WorksThrough seed count layout t old new status → AddsWithin layout (Some t) new.told
-  works_within seed count works =
-      session_within layout t works.replica.file works.mended new.told works.is_opened.of works.mending (made_within works.replica.file (run_calls works.worked) refl)
+  -- what was found is mended, and nothing more
+  found_within : (found : FoundFile layout t) (new : Option Told) → new ≡ found.mended → AddsWithin layout (Some t) new
+  found_within found new same = mends_within found.replica.file new found.is_opened.of (subst (λ (o : Option Told). Mends found.replica.file (Some (did Sync t)) o) (sym same) found.mending)
+
+  -- and calls are made on it
+  calls_within_found : (found : FoundFile layout t) (to : Replica) (new : Option Told) (acts : List Act) (answers : List Answer) (failed : Option Act) → EndsCalls found.replica to found.mended new acts answers failed → AddsWithin layout (Some t) new
+  calls_within_found found to new acts answers failed calls =
+      session_within found.replica.file found.mended new found.is_opened.of found.mending (ends_within found.replica.file found.replica to found.mended new acts answers failed refl calls)
+
+module _ (layout : Layout) (t : Told) (old new : Outside) (status : Status) where
+  works_within : (mode : Mode) (found : FoundFile layout t) → Works mode layout t found old new status → AddsWithin layout (Some t) new.told
+  works_within (Format shape cluster) found works = absurd works
+  works_within Run found serves =
+      let c = script_calls serves.session in
+      subst (λ (o : Outside). AddsWithin layout (Some t) o.told) serves.last_is (calls_within_found layout t found c.to c.new c.acts c.answers c.failed c.calls)
+  works_within Recover found recovers = found_within layout t found new.told recovers.told
+  works_within Inspect found inspects = barrier_within layout t new.told inspects.barrier
+  works_within Scrub found scrubs = found_within layout t found new.told (scrubs.told ∙ sym scrubs.is_mended)
+  works_within (Workload seed count) found works =
+      let c = run_calls works.worked in
+      calls_within_found layout t found c.to c.new c.acts c.answers c.failed c.calls
+
+  comes_within : (mode : Mode) → ComesTo mode layout t old new status → AddsWithin layout (Some t) new.told
+  comes_within mode (inl refuses) = barrier_within layout t new.told refuses.barrier
+  comes_within mode (inr (inl fails)) = before_within layout t mode new.told fails.disk
+  comes_within mode (inr (inr works)) = works_within mode works.0 works.1
 
   pub does_within : (mode : Mode) → Does mode layout t old new status → AddsWithin layout (Some t) new.told
-  does_within (Format shape cluster) does = absurd does
-  does_within Run (inl refuses) = barrier_within layout t new.told refuses.barrier
-  does_within Run (inr (inl fails)) = stops_within layout t new.told fails.disk
-  does_within Run (inr (inr serves)) = script_within serves
-  does_within Recover (inl refuses) = barrier_within layout t new.told refuses.barrier
-  does_within Recover (inr (inl fails)) = stops_within layout t new.told fails.disk
-  does_within Recover (inr (inr recovers)) = mends_within layout t recovers.replica.file new.told recovers.is_opened.of recovers.mending
-  does_within Inspect (inl refuses) = barrier_within layout t new.told refuses.barrier
-  does_within Inspect (inr (inl fails)) = part_within layout (Sync ∷ []) (Some t) new.told (tt, tt) fails.disk
-  does_within Inspect (inr (inr inspects)) = barrier_within layout t new.told inspects.barrier
-  does_within Scrub (inl refuses) = barrier_within layout t new.told refuses.barrier
-  does_within Scrub (inr (inl fails)) = stops_within layout t new.told fails.disk
-  does_within Scrub (inr (inr scrubs)) = mends_within layout t scrubs.replica.file new.told scrubs.is_opened.of scrubs.mending
-  does_within (Workload seed count) (inl refuses) = barrier_within layout t new.told refuses.barrier
-  does_within (Workload seed count) (inr (inl fails)) = stops_within layout t new.told fails.disk
-  does_within (Workload seed count) (inr (inr works)) = works_within seed count works
+  does_within mode does = comes_within mode does.1
 
 -- in rooms of its own
 pub runs_within : (mode : Mode) (old new : Outside) (status : Status) → Runs mode old new status → WritesOwn old.told new.told

@@ -18,14 +18,17 @@ use Rattle.df_replica.specs.Opened.{MendsAll, ToldBy}
 use Rattle.df_replica.specs.Session.{Act}
 use Rattle.df_workload.specs.Rounds.{start}
 use Rattle.df_workload.specs.declared.state.State.{State as Run}
+use Rattle.df_session.specs.Endings.{is_disk}
+use Rattle.df_session.specs.Found.{FoundFile}
 use Rattle.df_session.specs.Laws.{CallsKeep}
+use Rattle.df_session.specs.declared.hearing.Fault.{Fault}
+use Rattle.df_session.specs.declared.hearing.Fault.TheVariants.{Disk, Damaged}
 use Rattle.df_session.proofs.Laws.{calls_keep, ends_told}
 use Rattle.df_top.specs.Acknowledging.{run_calls}
-use Rattle.df_top.specs.Outside.{Blames, HasCauses, Outside, PrintsLine}
+use Rattle.df_top.specs.Outside.{Blames, HasCauses, Outside, PrintsLine, status_or}
+use Rattle.df_top.specs.Refusing.{PrintsFault}
 use Rattle.df_top.specs.Working.{WorksThrough}
-use Rattle.df_top.specs.Works.{PrintsFault, PrintsRun, Writes, is_disk, status_or, workload_of}
-use Rattle.df_top.specs.declared.works.Fault.{Fault}
-use Rattle.df_top.specs.declared.works.Fault.TheVariants.{Disk, Damaged}
+use Rattle.df_top.specs.Works.{PrintsRun, Writes, workload_of}
 use Rattle.df_top.specs.declared.status.Status.{Status}
 use Rattle.df_top.specs.declared.status.Status.TheVariants.{Done, Words, Refused, DiskFault, ReadFault, WriteFault, Memory}
 use Rattle.df_top.proofs.Causes.{calm_done, calm_refused, disk_blame, line_ends, never_printed, no_blame}
@@ -90,6 +93,9 @@ damaged_never run t told (Some a) old new u is writes = none-some u (sym writes.
 module _ (seed count : ℕ) (layout : Layout) (t : Told) (old new : Outside) (status : Status) (s : Replica) (mended : Option Told) (image : IsImage t.shown) (told : old.told ≡ Some t) (unread : new.left ≡ old.left) (live : s.live ≡ true)
     (of : s.file.layout ≡ layout) (is_opened : IsOpened layout t.shown s) (over : MendsAll t s mended)
     (run : Run) (last : Replica) (ended : EndsRun (start seed count layout.clients) s mended run last new.told old.written new.written status) where
+  abbrev found : FoundFile layout t
+  found = record { replica = s; is_opened = is_opened; mended = mended; mending = over.mending }
+
   abbrev synced : ToldBy (Some (did Sync t)) mended
   synced = (over.mending.events, over.mending.told)
 
@@ -109,20 +115,8 @@ module _ (seed count : ℕ) (layout : Layout) (t : Told) (old new : Outside) (st
       damaged_never run last new.told ended.worked.failed old.written new.written tells_on.0 tells_on.1
       (subst (λ (x : Status). Writes run last new.told ended.worked.failed old.written new.written x) is ended.writes)
 
-  calls : CallsKeep t s mended over.mending (run_calls ended.worked)
+  calls : CallsKeep t found.replica found.mended found.mending (run_calls ended.worked)
   calls = calls_keep t s mended over last new.told ended.worked.acts ended.worked.answers ended.worked.failed ended.worked.calls image live opened_here
 
-  pub works_through : WorksThrough seed count layout t old new status
-  works_through = record {
-    replica = s;
-    is_opened = is_opened;
-    unread = unread;
-    mended = mended;
-    run = run;
-    last = last;
-    worked = ended.worked;
-    written = ended.writes;
-    mending = over.mending;
-    calls = calls;
-    undamaged = undamaged;
-  }
+  pub works_through : (found : FoundFile layout t) × WorksThrough seed count layout t found old new status
+  works_through = (found, record { unread = unread; run = run; last = last; worked = ended.worked; written = ended.writes; calls = calls; undamaged = undamaged })

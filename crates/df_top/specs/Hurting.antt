@@ -5,43 +5,35 @@ use Rattle.df_disk.specs.Told.{Told}
 use Rattle.df_layout.specs.declared.layout.Layout.{Layout}
 use Rattle.df_theory.specs.View.{View}
 use Rattle.df_units.specs.Bytes.{unit_at}
-use Rattle.df_model.specs.Work.{opened}
+use Rattle.df_model.specs.Work.{Work, opened}
 use Rattle.df_replica.specs.Below.{DataFile, shape, FindsHad, IsNeedless, RefusesHurt, IsAtRest, MayBeHurt, HasTwoCopies, IsHurtFile, MayBeOfDamage}
-use Rattle.df_session.specs.Owning.{AllGiveOwn}
+use Rattle.df_session.specs.Found.{FoundFile}
+use Rattle.df_session.specs.Owning.{ReadsOwn}
+use Rattle.df_top.specs.Acknowledging.{run_calls, script_calls}
 use Rattle.df_top.specs.Outside.{Outside}
-use Rattle.df_top.specs.Run.{DidNothing, Does, RefusesSuperblock, ServesScript}
+use Rattle.df_top.specs.Run.{ComesTo, DidNothing, Does, RefusesSuperblock, Works}
 use Rattle.df_top.specs.declared.mode.Mode.{Mode}
-use Rattle.df_top.specs.declared.mode.Mode.TheVariants.{Format, Run, Recover, Inspect, Scrub, Workload}
+use Rattle.df_top.specs.declared.mode.Mode.TheVariants.{Run, Workload}
 use Rattle.df_top.specs.declared.status.Status.{Status}
-
--- ---- reads
-
--- from the state that was found on: it is one that the file had, and each read of the session gives what is its own
-abbrev pub ReadsOwn : DataFile → View → (t : Told) → (layout : Layout) → (old new : Outside) → (status : Status) → ServesScript layout t old new status → Type 0
-ReadsOwn file view t layout old new status serves =
-    (finds : FindsHad file view t serves.replica) × AllGiveOwn _ _ _ _ (opened (shape file) (unit_at file.layout file.cluster t.shown) finds.found) _ _ _ serves.session.calls
 
 -- ---- a word
 
--- what a word does is of damage: the state that is found is one that the file had, a refusal has its cause in a sector that is hurt, and the reads of a script give what is the
--- state's own
-abbrev pub IsOfHurt : DataFile → View → (t : Told) → (layout : Layout) → (mode : Mode) → (old new : Outside) → (status : Status) → Does mode layout t old new status → Type 0
-IsOfHurt file view t layout (Format shape cluster) old new status does = ⊥
-IsOfHurt file view t layout Run old new status (inl refuses) = RefusesHurt file view t refuses.error
-IsOfHurt file view t layout Run old new status (inr (inl fails)) = Unit {0}
-IsOfHurt file view t layout Run old new status (inr (inr serves)) = ReadsOwn file view t layout old new status serves
-IsOfHurt file view t layout Recover old new status (inl refuses) = RefusesHurt file view t refuses.error
-IsOfHurt file view t layout Recover old new status (inr (inl fails)) = Unit {0}
-IsOfHurt file view t layout Recover old new status (inr (inr recovers)) = FindsHad file view t recovers.replica
-IsOfHurt file view t layout Inspect old new status (inl refuses) = RefusesHurt file view t refuses.error
-IsOfHurt file view t layout Inspect old new status (inr (inl fails)) = Unit {0}
-IsOfHurt file view t layout Inspect old new status (inr (inr inspects)) = FindsHad file view t inspects.survey.state
-IsOfHurt file view t layout Scrub old new status (inl refuses) = RefusesHurt file view t refuses.error
-IsOfHurt file view t layout Scrub old new status (inr (inl fails)) = Unit {0}
-IsOfHurt file view t layout Scrub old new status (inr (inr scrubs)) = FindsHad file view t scrubs.replica
-IsOfHurt file view t layout (Workload seed count) old new status (inl refuses) = RefusesHurt file view t refuses.error
-IsOfHurt file view t layout (Workload seed count) old new status (inr (inl fails)) = Unit {0}
-IsOfHurt file view t layout (Workload seed count) old new status (inr (inr works)) = FindsHad file view t works.replica
+-- the reads of a word's calls give what is the state's own
+abbrev pub WordReadsOwn : (mode : Mode) → (layout : Layout) → (t : Told) → (found : FoundFile layout t) → (old new : Outside) → (status : Status) → Works mode layout t found old new status → Work → Type 0
+WordReadsOwn Run layout t found old new status serves w = ReadsOwn (script_calls serves.session) w
+WordReadsOwn (Workload seed count) layout t found old new status works w = ReadsOwn (run_calls works.worked) w
+WordReadsOwn mode layout t found old new status works w = Unit {0}
+
+-- what becomes of the file is of damage: a refusal has its cause in a sector that is hurt, and the state that is found is one that the file had, from which on the reads give what is
+-- their own
+abbrev pub ComesOfHurt : (file : DataFile) → (view : View) → (t : Told) → (layout : Layout) → (mode : Mode) → (old new : Outside) → (status : Status) → ComesTo mode layout t old new status → Type 0
+ComesOfHurt file view t layout mode old new status (inl refuses) = RefusesHurt file view t refuses.error
+ComesOfHurt file view t layout mode old new status (inr (inl fails)) = Unit {0}
+ComesOfHurt file view t layout mode old new status (inr (inr works)) =
+    (finds : FindsHad file view t works.0.replica) × WordReadsOwn mode layout t works.0 old new status works.1 (opened (shape file) (unit_at file.layout file.cluster t.shown) finds.found)
+
+abbrev pub IsOfHurt : (file : DataFile) → (view : View) → (t : Told) → (layout : Layout) → (mode : Mode) → (old new : Outside) → (status : Status) → Does mode layout t old new status → Type 0
+IsOfHurt file view t layout mode old new status does = ComesOfHurt file view t layout mode old new status does.1
 
 -- it does something, and whatever it does is that
 pub record ServesHurt (file : DataFile) (view : View) (t : Told) (mode : Mode) (old new : Outside) (status : Status) : Type 0 where

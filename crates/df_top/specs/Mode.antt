@@ -1,8 +1,9 @@
 -- What the words of the command line ask for.
-use Rattle.std.specs.Prelude.{◌≡◌, ◌⊎◌, ◌<◌, ◌≤◌, ◌^◌, ℕ, List, [], ◌∷◌, ◌++◌, codes, decimal}
+use Rattle.std.specs.Prelude.{◌≡◌, ◌⊎◌, ◌<◌, ◌≤◌, ◌^◌, ℕ, List, [], ◌∷◌, ◌++◌, codes, decimal, Option, Some, None}
 use Rattle.df_layout.specs.declared.layout.Layout.{Layout}
 use Rattle.df_top.specs.declared.mode.Mode.{Mode}
 use Rattle.df_top.specs.declared.mode.Mode.TheVariants.{Format, Run, Recover, Inspect, Scrub, Workload}
+use Rattle.df_top.specs.declared.mode.NewFile.{NewFile}
 
 -- the layout has these five numbers
 pub record HasNumbers (layout : Layout) (a b c d e : ℕ) : Type 0 where
@@ -54,7 +55,18 @@ abbrev pub IsOfFile : Mode → Type 0
 IsOfFile (Format layout cluster) = ⊥
 IsOfFile mode = Unit {0}
 
--- the words ask for such a thing
+-- it can be carried out on one: a generated run has a round at least, and no more rounds than the words may ask for
+abbrev pub IsRunnable : Mode → Type 0
+IsRunnable (Format layout cluster) = ⊥
+IsRunnable (Workload seed count) = (1 ≤ count) × (count ≤ 1000000)
+IsRunnable mode = Unit {0}
+
+-- the file that is to be made, where a making is asked for
+abbrev pub new_file : Mode → Option NewFile
+new_file (Format layout cluster) = Some (record { layout = layout; cluster = cluster })
+new_file mode = None
+
+-- the words ask for what works on a file that is there
 pub record AsksOfFile (words : List (List ℕ)) : Type 0 where
   pub mode : Mode
   pub means : Means words mode

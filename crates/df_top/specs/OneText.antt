@@ -17,6 +17,7 @@ use Rattle.df_units.specs.Bytes.{unit_at}
 use Rattle.df_units.specs.Wanted.{class_at}
 use Rattle.df_replica.specs.Below.{shape}
 use Rattle.df_replica.specs.Leaving.{IsReadPlace}
+use Rattle.df_session.specs.Found.{FoundFile}
 use Rattle.df_top.specs.Outside.{Outside}
 use Rattle.df_top.specs.Resulting.{script_text_of}
 use Rattle.df_top.specs.Run.{ServesScript, script_budget}
@@ -42,9 +43,9 @@ text_by (inr refused) n text = text ++ script_text (n + 1)
 -- the status and the text of a session are functions of its script and of the image that the disk shows at first
 abbrev pub TextIsResult : Type 0
 TextIsResult =
-    (layout : Layout) (t : Told) (old new : Outside) (status : Status) (serves : ServesScript layout t old new status) (view : View) (text : List ℕ) (says : List Said) (script : IsScript (line_bound layout) script_budget text says)
-    → IsFound (shape serves.replica.file) (unit_at serves.replica.file.layout serves.replica.file.cluster t.shown) view → old.left ≡ Some text → IsThrough status
-    → (status ≡ status_by script.ends) × Appends old.written new.written (text_by script.ends (length says) (script_text_of serves.replica.file view t.shown says))
+    (layout : Layout) (t : Told) (old new : Outside) (status : Status) (found : FoundFile layout t) (serves : ServesScript layout t found old new status) (view : View) (text : List ℕ) (says : List Said) (script : IsScript (line_bound layout) script_budget text says)
+    → IsFound (shape found.replica.file) (unit_at found.replica.file.layout found.replica.file.cluster t.shown) view → old.left ≡ Some text → IsThrough status
+    → (status ≡ status_by script.ends) × Appends old.written new.written (text_by script.ends (length says) (script_text_of found.replica.file view t.shown says))
 
 -- Two images show the same, read with this layout: the same copies of the superblock, at each place the same unit, and where there is none, and a call may read the
 -- place, the same class.
@@ -56,5 +57,5 @@ pub record ShowSame (layout : Layout) (a b : Image) : Type 0 where
 -- two sessions of one script over disks that show the same print the same and end with the same status
 abbrev pub OneText : Type 0
 OneText =
-    (layout : Layout) (t u : Told) (old new before now : Outside) (status ending : Status) (text : List ℕ) → ServesScript layout t old new status → ServesScript layout u before now ending → ShowSame layout t.shown u.shown
+    (layout : Layout) (t u : Told) (old new before now : Outside) (status ending : Status) (text : List ℕ) (found : FoundFile layout t) (other : FoundFile layout u) → ServesScript layout t found old new status → ServesScript layout u other before now ending → ShowSame layout t.shown u.shown
     → old.left ≡ Some text → before.left ≡ Some text → IsThrough status → IsThrough ending → (status ≡ ending) × ((line : List ℕ) × Appends old.written new.written line × Appends before.written now.written line)

@@ -1,7 +1,8 @@
--- What becomes of a file that isn't served: it is refused, or the disk fails before a session begins.
-use Rattle.std.specs.Prelude.{◌≡◌, ◌≢◌, ◌⊎◌, Some, Err}
+-- What becomes of a file on which no word is carried out: it is refused, or the disk fails before it is found.
+use Rattle.std.specs.Prelude.{◌≡◌, ◌≢◌, ◌⊎◌, [], ◌∷◌, Option, Some, Err}
 use Rattle.df_base.specs.Image.{Image}
 use Rattle.df_base.specs.Log.{Sync}
+use Rattle.df_disk.specs.Adds.{AddsPart}
 use Rattle.df_disk.specs.Told.{Told, did}
 use Rattle.df_inspect.specs.Opening.{open_refusal}
 use Rattle.df_layout.specs.declared.layout.Layout.{Layout}
@@ -10,6 +11,8 @@ use Rattle.df_model.specs.declared.errors.OpenError.TheVariants as opens
 use Rattle.df_replica.specs.Below.{IsLayoutShown, Refuses, Surveys}
 use Rattle.df_replica.specs.Opened.{StopsOpening}
 use Rattle.df_top.specs.Outside.{Outside, PrintsLine}
+use Rattle.df_top.specs.declared.mode.Mode.{Mode}
+use Rattle.df_top.specs.declared.mode.Mode.TheVariants.{Inspect}
 use Rattle.df_top.specs.declared.status.Status.{Status}
 use Rattle.df_top.specs.declared.status.Status.TheVariants.{DiskFault, Refused}
 
@@ -39,8 +42,13 @@ pub record IsSilent (old new : Outside) : Type 0 where
   pub written : new.written ≡ old.written
   pub unread : new.left ≡ old.left
 
--- the disk failed in the barrier, in a read, or within the mending
-pub record FailsToOpen (layout : Layout) (t : Told) (old new : Outside) (status : Status) : Type 0 where
+-- what the disk tells where it failed before the file was found: in the barrier, in a read behind it, or, but for a word that only looks, within the mending
+abbrev pub StopsBefore : Mode → Layout → Told → Option Told → Type 0
+StopsBefore Inspect layout t later = AddsPart (Sync ∷ []) (Some t) later
+StopsBefore mode layout t later = StopsOpening layout t later
+
+-- the disk failed before the file was found
+pub record FailsToFind (mode : Mode) (layout : Layout) (t : Told) (old new : Outside) (status : Status) : Type 0 where
   pub fault : status ≡ DiskFault
   pub silent : IsSilent old new
-  pub disk : StopsOpening layout t new.told
+  pub disk : StopsBefore mode layout t new.told

@@ -1,5 +1,5 @@
 -- What a run has around it: the disk, the source of the script and the sink of the answers; and which of them failed.
-use Rattle.std.specs.Prelude.{◌≡◌, ◌⊎◌, ℕ, List, Option}
+use Rattle.std.specs.Prelude.{◌≡◌, ◌⊎◌, ℕ, List, Option, Result, Ok, Err}
 use Rattle.df_base.specs.Causes.{Rose}
 use Rattle.df_base.specs.Streams.{Appends, AppendsPart}
 use Rattle.df_disk.specs.Told.{Told}
@@ -32,3 +32,8 @@ pub record HasCauses (before now : Faults) (status : Status) : Type 0 where
 -- a text is printed and the call ends with this status, or a front of the text is there where the sink failed
 abbrev pub PrintsLine : List ℕ → Status → Option (List ℕ) → Option (List ℕ) → Status → Type 0
 PrintsLine line given old new status = ((status ≡ given) × Appends old new line) ⊎ ((status ≡ WriteFault) × AppendsPart old new line)
+
+-- how a call ends that prints
+abbrev pub status_or : {T E : Type 0} → Status → Result T E → Status
+status_or status (Ok x) = status
+status_or status (Err e) = WriteFault

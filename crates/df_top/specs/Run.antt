@@ -1,10 +1,9 @@
 -- What the program promises of words that work on a file.
 use Rattle.std.specs.Prelude.{◌≡◌, ◌⊎◌, ◌^◌, ℕ, List, Option, Some}
 use Rattle.df_base.specs.Image.{IsImage}
-use Rattle.df_base.specs.Log.{Sync}
 use Rattle.df_base.specs.Streams.{Appends, AppendsPart}
 use Rattle.df_disk.specs.Adds.{after_all}
-use Rattle.df_disk.specs.Told.{Told, did}
+use Rattle.df_disk.specs.Told.{Told}
 use Rattle.df_layout.specs.declared.layout.Layout.{Layout}
 use Rattle.df_lines.specs.Room.{line_bound}
 use Rattle.df_theory.specs.Found.{IsFound}
@@ -13,16 +12,17 @@ use Rattle.df_units.specs.Bytes.{unit_at}
 use Rattle.df_model.specs.Supply.{Shown}
 use Rattle.df_model.specs.Work.{opened}
 use Rattle.df_model.specs.declared.errors.OpenError.{OpenError}
-use Rattle.df_replica.specs.Below.{IsLayoutShown, Refuses, IsOpened, State as Replica, shape}
-use Rattle.df_replica.specs.Opened.{Mends}
+use Rattle.df_replica.specs.Below.{IsLayoutShown, Refuses, State as Replica, shape}
 use Rattle.df_replica.specs.Reading.{shown_of}
 use Rattle.df_session.specs.Below.{AgreeShown}
+use Rattle.df_session.specs.Found.{FoundFile}
 use Rattle.df_session.specs.Links.{events_made}
 use Rattle.df_session.specs.Laws.{CallsKeep}
 use Rattle.df_top.specs.Acknowledging.{script_calls}
-use Rattle.df_top.specs.Opening.{FailsToOpen, IsSilent, PrintsRefusal, RefusesFile}
+use Rattle.df_top.specs.Mode.{IsOfFile}
+use Rattle.df_top.specs.Opening.{FailsToFind, IsSilent, PrintsRefusal, RefusesFile}
 use Rattle.df_top.specs.Outside.{Outside}
-use Rattle.df_top.specs.Reporting.{FailsToSurvey, Inspects, Recovers}
+use Rattle.df_top.specs.Reporting.{Inspects, Recovers}
 use Rattle.df_top.specs.Scrubs.{ScrubsFile}
 use Rattle.df_top.specs.Working.{WorksThrough}
 use Rattle.df_top.specs.Resulting.{IsResultOf}
@@ -47,35 +47,36 @@ script_budget = 2 ^ 32
 abbrev pub start : (told : Option Told) → Outside → Replica → State
 start told old replica = record { outside = record { told = told; left = old.left; written = old.written }; text = old.left; budget = script_budget; lines = 0; replica = replica }
 
--- The file that the disk shows is opened, and the script is served; what its calls keep is what calls on an open file keep, and what is answered and printed is a function of
--- what the disk shows at first, and of the lines. No step finds the superblock damaged that it wrote, since the disk tells what it shows. Between the barrier and the first call is
--- the mending alone, which leaves each place that a call reads as it was, whatever is shown.
-pub record ServesScript (layout : Layout) (t : Told) (old new : Outside) (status : Status) : Type 0 where
-  pub replica : Replica
-  pub is_opened : IsOpened layout t.shown replica
-  pub mended : Option Told
-  pub mending : Mends replica.file (Some (did Sync t)) mended
+-- The script is served; what its calls keep is what calls on an open file keep, and what is answered and printed is a function of what the disk shows at first, and of the lines. No
+-- step finds the superblock damaged that it wrote, since the disk tells what it shows.
+pub record ServesScript (layout : Layout) (t : Told) (found : FoundFile layout t) (old new : Outside) (status : Status) : Type 0 where
   pub last : State
   pub last_is : last.outside ≡ new
-  pub session : Ended (line_bound layout) (start mended old replica) last status
-  pub result : (view : View) (shown : Shown) → IsFound (shape replica.file) (unit_at replica.file.layout replica.file.cluster t.shown) view → AgreeShown replica.file.layout (shown_of replica.file t.shown) shown
-      → IsResultOf replica.file shown (opened (shape replica.file) (unit_at replica.file.layout replica.file.cluster t.shown) view) session.turns
-  pub adds : new.told ≡ after_all (events_made (script_calls session)) mended
-  pub calls : CallsKeep t replica mended mending (script_calls session)
+  pub session : Ended (line_bound layout) (start found.mended old found.replica) last status
+  pub result : (view : View) (shown : Shown) → IsFound (shape found.replica.file) (unit_at found.replica.file.layout found.replica.file.cluster t.shown) view → AgreeShown found.replica.file.layout (shown_of found.replica.file t.shown) shown
+      → IsResultOf found.replica.file shown (opened (shape found.replica.file) (unit_at found.replica.file.layout found.replica.file.cluster t.shown) view) session.turns
+  pub adds : new.told ≡ after_all (events_made (script_calls session)) found.mended
+  pub calls : CallsKeep t found.replica found.mended found.mending (script_calls session)
   pub undamaged : status ≡ Refused → ⊥
 
 -- ---- any word
 
--- What a word does with a file in rooms of a layout: it is refused, or the disk fails before it is opened; or the script is served, the summary of the file
--- that was opened is printed, what a survey found of it, or which of its blocks fail; or a generated run is
--- carried out.
+-- what each word does with the file that was found: serves the script, prints the summary, what is to be mended or which blocks fail, or carries out a generated run
+abbrev pub Works : (mode : Mode) → (layout : Layout) → (t : Told) → FoundFile layout t → (old new : Outside) → Status → Type 0
+Works (Format shape cluster) layout t found old new status = ⊥
+Works Run layout t found old new status = ServesScript layout t found old new status
+Works Recover layout t found old new status = Recovers layout t found old new status
+Works Inspect layout t found old new status = Inspects layout t found old new status
+Works Scrub layout t found old new status = ScrubsFile layout t found old new status
+Works (Workload seed count) layout t found old new status = WorksThrough seed count layout t found old new status
+
+-- in rooms of a layout: the file is refused, or the disk fails before it is found, or the word is carried out on it
+abbrev pub ComesTo : Mode → Layout → Told → Outside → Outside → Status → Type 0
+ComesTo mode layout t old new status = RefusesFile layout t old new status ⊎ FailsToFind mode layout t old new status ⊎ ((found : FoundFile layout t) × Works mode layout t found old new status)
+
+-- what a word does with a file in rooms of a layout, if it works on one
 abbrev pub Does : Mode → Layout → Told → Outside → Outside → Status → Type 0
-Does (Format shape cluster) layout t old new status = ⊥
-Does Run layout t old new status = RefusesFile layout t old new status ⊎ FailsToOpen layout t old new status ⊎ ServesScript layout t old new status
-Does Recover layout t old new status = RefusesFile layout t old new status ⊎ FailsToOpen layout t old new status ⊎ Recovers layout t old new status
-Does Inspect layout t old new status = RefusesFile layout t old new status ⊎ FailsToSurvey t old new status ⊎ Inspects layout t old new status
-Does Scrub layout t old new status = RefusesFile layout t old new status ⊎ FailsToOpen layout t old new status ⊎ ScrubsFile layout t old new status
-Does (Workload seed count) layout t old new status = RefusesFile layout t old new status ⊎ FailsToOpen layout t old new status ⊎ WorksThrough seed count layout t old new status
+Does mode layout t old new status = IsOfFile mode × ComesTo mode layout t old new status
 
 -- and so it does over a disk that tells what it shows
 abbrev pub ServesIn : Mode → Layout → Outside → Outside → Status → Type 0

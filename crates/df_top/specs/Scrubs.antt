@@ -1,25 +1,19 @@
 -- What the word `scrub` promises of a file.
-use Rattle.std.specs.Prelude.{◌≡◌, ◌⊎◌, ℕ, zero, suc, List, [], ◌++◌, length, None, Option, Some}
+use Rattle.std.specs.Prelude.{◌≡◌, ◌⊎◌, ℕ, zero, suc, List, ◌++◌, length, Option, Some}
 use Rattle.df_base.specs.Image.{Image}
-use Rattle.df_base.specs.Log.{Sync}
 use Rattle.df_base.specs.Streams.{Appends}
-use Rattle.df_disk.specs.Told.{Told, did}
+use Rattle.df_disk.specs.Told.{Told}
 use Rattle.df_inspect.specs.Reports.{failing_texts}
 use Rattle.df_layout.specs.declared.damage.Finding.{Finding}
 use Rattle.df_layout.specs.declared.layout.Layout.{Layout}
-use Rattle.df_theory.specs.View.{View}
-use Rattle.df_units.specs.Bytes.{unit_at}
 use Rattle.df_model.specs.Memory.{referenced_of}
-use Rattle.df_model.specs.Work.{opened}
 use Rattle.df_model.specs.declared.answers.Scrubbed.TheVariants.{TourEnd}
-use Rattle.df_replica.specs.Below.{IsOpened, failing_in, State as Replica, grid_with, memory, shape}
+use Rattle.df_replica.specs.Below.{failing_in, State as Replica, grid_with, memory}
 use Rattle.df_script_model.specs.Texts.{scrubbed_text}
-use Rattle.df_replica.specs.Following.{MayOpen}
 use Rattle.df_replica.specs.Leaving.{SparesReads}
-use Rattle.df_replica.specs.Opened.{Mends}
 use Rattle.df_replica.specs.Scrubbing.{IsMachineTour}
-use Rattle.df_replica.specs.Serving.{Grade, StandsFor}
-use Rattle.df_session.specs.Keeping.{KeepsFile, over}
+use Rattle.df_session.specs.Found.{FoundFile, no_calls}
+use Rattle.df_session.specs.Laws.{CallsKeep}
 use Rattle.df_top.specs.Outside.{Outside, PrintsLine}
 use Rattle.df_top.specs.declared.status.Status.{Status}
 use Rattle.df_top.specs.declared.status.Status.TheVariants.{DiskFault, Done, Found}
@@ -53,18 +47,14 @@ PrintsTour s image old new status = PrintsLine (tour_report s image) (tour_statu
 
 -- ---- the word
 
--- The file that the disk shows is opened, and a whole tour over what the disk shows from then on is printed; it is the machine's. By each log that shows what
--- the disk showed, and by which the file may be opened, the view that was found is kept. Whatever a disk shows, the open and the tour leave each place that a call
--- reads as it was: no block is written.
-pub record ScrubsFile (layout : Layout) (t : Told) (old new : Outside) (status : Status) : Type 0 where
-  pub replica : Replica
-  pub is_opened : IsOpened layout t.shown replica
+-- A whole tour over what the disk shows behind the mending is printed; it is the machine's. What is kept of the file is what calls keep that were none, and whatever a disk shows, the
+-- open and the tour leave each place that a call reads as it was: no block is written.
+pub record ScrubsFile (layout : Layout) (t : Told) (found : FoundFile layout t) (old new : Outside) (status : Status) : Type 0 where
   pub after : Told
+  pub is_mended : found.mended ≡ Some after
   pub told : new.told ≡ Some after
-  pub prints : PrintsTour replica after.shown old.written new.written status
-  pub machine : IsMachineTour replica after.shown
+  pub prints : PrintsTour found.replica after.shown old.written new.written status
+  pub machine : IsMachineTour found.replica after.shown
   pub unread : new.left ≡ old.left
-  pub mending : Mends replica.file (Some (did Sync t)) new.told
-  pub keeps : (g : Grade) (view : View) (base : Told) → base.shown ≡ t.shown → MayOpen replica.file view base → StandsFor g (unit_at replica.file.layout replica.file.cluster t.shown) view
-      → KeepsFile replica.file g (opened (shape replica.file) (unit_at replica.file.layout replica.file.cluster t.shown) view) base [] [] None (over mending.events [] base)
-  pub spares : SparesReads replica.file t.shown after.shown
+  pub calls : CallsKeep t found.replica found.mended found.mending (no_calls found)
+  pub spares : SparesReads found.replica.file t.shown after.shown

@@ -1,15 +1,16 @@
 -- What the functions that serve a script say of their session.
-use Rattle.std.specs.Prelude.{◌≡◌, ◌≤◌, ◌+◌, ◌^◌, ℕ, Bool, true, false, List, Option, Result, Ok, Err}
+use Rattle.std.specs.Prelude.{◌≡◌, ◌≤◌, ◌+◌, ◌^◌, ℕ, true, List, Option, Result, Ok, Err}
 use Rattle.df_base.specs.Streams.{Appends, AppendsPart}
 use Rattle.df_inspect.specs.Answers.{text_of}
 use Rattle.df_model.specs.Commands.{Command}
 use Rattle.df_model.specs.declared.commands.Answer.{Answer}
-use Rattle.df_session.specs.Calls.{is_damaged, is_fault}
+use Rattle.df_session.specs.declared.hearing.Fault.{Fault}
 use Rattle.df_top.specs.Outside.{Blames}
+use Rattle.df_top.specs.Refusing.{PrintsFault}
 use Rattle.df_top.specs.Session.{EndedIsEnd}
 use Rattle.df_top.specs.declared.session.Session.{Session}
 use Rattle.df_top.specs.declared.status.Status.{Status}
-use Rattle.df_top.specs.declared.status.Status.TheVariants.{DiskFault, Refused, WriteFault}
+use Rattle.df_top.specs.declared.status.Status.TheVariants.{WriteFault}
 use Rattle.df_top.specs.declared.turns.Turn.{Turn}
 use Rattle.df_top.specs.declared.turns.Turn.TheVariants.{GoesOn, Ends}
 
@@ -34,25 +35,11 @@ IsPrinted text old new GoesOn = Appends old new text
 IsPrinted text old new (Ends WriteFault) = AppendsPart old new text
 IsPrinted text old new (Ends status) = ⊥
 
--- a text is printed and ends the session, or a front of it is there where the sink failed
-abbrev pub IsLastPrinted : List ℕ → (old new : Option (List ℕ)) → Turn → Type 0
-IsLastPrinted text old new (Ends Refused) = Appends old new text
-IsLastPrinted text old new (Ends WriteFault) = AppendsPart old new text
-IsLastPrinted text old new turn = ⊥
-
--- what becomes of the session by the printing of its last line
-abbrev pub last_turn : {T E : Type 0} → Result T E → Turn
-last_turn (Ok x) = Ends Refused
-last_turn (Err e) = Ends WriteFault
-
--- how an answer is told: a failing disk has no line and ends the session, a damaged superblock ends it by its line, and any other answer has its line
-abbrev pub TellsAs : (fault damaged : Bool) → List ℕ → (old new : Option (List ℕ)) → Turn → Type 0
-TellsAs true damaged text old new turn = (turn ≡ Ends DiskFault) × (new ≡ old)
-TellsAs false true text old new turn = IsLastPrinted text old new turn
-TellsAs false false text old new turn = IsPrinted text old new turn
-
-abbrev pub Tells : Command → Answer → (old new : Option (List ℕ)) → Turn → Type 0
-Tells command answer old new turn = TellsAs (is_fault answer) (is_damaged answer) (text_of command answer) old new turn
+-- how what was heard of an answer is told: it has its line, and the session goes on; or the session ends, by the line of a step that is damaged, or by none where the disk failed
+abbrev pub Tells : Command → Result Answer Fault → (old new : Option (List ℕ)) → Turn → Type 0
+Tells command (Ok answer) old new turn = IsPrinted (text_of command answer) old new turn
+Tells command (Err fault) old new GoesOn = ⊥
+Tells command (Err fault) old new (Ends status) = PrintsFault fault old new status
 
 -- calls may go on, and no more lines were executed than bytes were taken
 pub record IsReady (s : Session) (left : Option (List ℕ)) : Type 0 where

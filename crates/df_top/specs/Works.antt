@@ -1,17 +1,12 @@
 -- What a generated run does to a replica: its commands are the generator's, each is one call, and the run hears of each answer.
-use Rattle.std.specs.Prelude.{◌≡◌, ◌<◌, ◌+◌, ℕ, Bool, true, false, if◌then◌else◌, List, [], length, map, Option, Some, None, Result, Ok, Err}
+use Rattle.std.specs.Prelude.{◌≡◌, ◌<◌, ◌+◌, ℕ, Bool, true, List, [], length, map, Option, Some, None, Result, Ok, Err}
 use Rattle.df_base.specs.Streams.{Appends, AppendsPart}
 use Rattle.df_disk.specs.Told.{Told}
 use Rattle.df_inspect.specs.Reports.{workload_text}
 use Rattle.df_inspect.specs.declared.counts.Workload.{Workload}
 use Rattle.df_model.specs.Commands.{Answer as Answered, Command}
-use Rattle.df_model.specs.declared.answers.Progress.TheVariants as progress
-use Rattle.df_model.specs.declared.commands.Answer.{Answer}
-use Rattle.df_model.specs.declared.commands.Answer.TheVariants as answers
-use Rattle.df_model.specs.declared.errors.StepError.TheVariants as step
 use Rattle.df_replica.specs.Session.{Act}
 use Rattle.df_replica.specs.Stepping.{OfRunning}
-use Rattle.df_script_model.specs.Texts.{damaged_text}
 use Rattle.df_replica.specs.Below.{State as Replica}
 use Rattle.df_workload.specs.Asking.{asks}
 use Rattle.df_workload.specs.Following.{Follows}
@@ -20,43 +15,21 @@ use Rattle.df_workload.specs.Sound.{flag}
 use Rattle.df_workload.specs.declared.outcome.Outcome.{Outcome}
 use Rattle.df_workload.specs.declared.outcome.Outcome.TheVariants.{Refused, Accepted, Wrote, Finished}
 use Rattle.df_workload.specs.declared.state.State.{State as Run}
-use Rattle.df_session.specs.Calls.{is_fault}
+use Rattle.df_session.specs.Endings.{EndsBy}
 use Rattle.df_session.specs.Links.{AreCalls, Calls, EndsCalls, Makes, command_in}
+use Rattle.df_session.specs.declared.hearing.Fault.{Fault}
 use Rattle.df_top.specs.Outside.{PrintsLine}
+use Rattle.df_top.specs.Refusing.{PrintsFault}
 use Rattle.df_top.specs.Session.{IsDamagedLine}
-use Rattle.df_top.specs.declared.works.Fault.{Fault}
-use Rattle.df_top.specs.declared.works.Fault.TheVariants.{Disk, Damaged}
 use Rattle.df_top.specs.declared.status.Status.{Status}
 use Rattle.df_top.specs.declared.status.Status.TheVariants as ends
 
 -- ---- one command
 
--- the call was made and this much was heard of its answer; or the disk failed in it; or it is a step that is damaged
-abbrev pub MakesTo : Command → (s t : Replica) → (old new : Option Told) → Result Outcome Fault → Type 0
-MakesTo command s t old new (Ok outcome) = (x : Answered) × Makes command s t old new (Some x) × (outcome ≡ outcome_of x)
-MakesTo command s t old new (Err Disk) = Makes command s t old new None
-MakesTo command s t old new (Err (Damaged place class)) = Makes command s t old new None × IsDamagedLine command new (damaged_text place class)
-
--- the disk failed
-abbrev pub is_disk : Fault → Bool
-is_disk Disk = true
-is_disk (Damaged place class) = false
-
--- what a run hears of an answer, where the disk didn't fail
-abbrev pub outcome_in : Answer → Result Outcome Fault
-outcome_in (answers.WriteBlock (Ok reference)) = Ok (Wrote reference.address)
-outcome_in (answers.Advance (Ok (progress.Done sequence))) = Ok Finished
-outcome_in (answers.Advance (Err (step.Damaged place class))) = Err (Damaged place class)
-outcome_in (answers.Append (Err e)) = Ok Refused
-outcome_in (answers.Reply (Err e)) = Ok Refused
-outcome_in (answers.WriteBlock (Err e)) = Ok Refused
-outcome_in (answers.Release (Err e)) = Ok Refused
-outcome_in (answers.Begin (Err e)) = Ok Refused
-outcome_in (answers.Advance (Err e)) = Ok Refused
-outcome_in answer = Ok Accepted
-
-abbrev pub heard : Answer → Result Outcome Fault
-heard answer = if is_fault answer then Err Disk else outcome_in answer
+-- the call was made and this much was heard of its answer; or it has none, and this ends the run
+abbrev pub HearsOf : Command → (s t : Replica) → (old new : Option Told) → Result Outcome Fault → Type 0
+HearsOf command s t old new (Ok outcome) = (x : Answered) × Makes command s t old new (Some x) × (outcome ≡ outcome_of x)
+HearsOf command s t old new (Err fault) = Makes command s t old new None × EndsBy fault command new
 
 -- a checkpoint runs
 abbrev pub IsRunning : Replica → Type 0
@@ -84,21 +57,20 @@ pub record Works (begun : Run) (s : Replica) (old : Option Told) (run : Run) (t 
   pub calls : AreCalls s old acts answers t new
   pub follows : Follows begun (map command_in acts) answers run
 
--- they were, and the next one has no answer
-pub record Fails (begun : Run) (s : Replica) (old : Option Told) (run : Run) (t : Replica) (new : Option Told) (Holds : Act → Type 0) : Type 0 where
+-- they were, and the next one has no answer, which ends the run
+pub record Fails (begun : Run) (s : Replica) (old : Option Told) (run : Run) (t : Replica) (new : Option Told) (fault : Fault) : Type 0 where
   pub replica : Replica
   pub told : Option Told
   pub works : Works begun s old run replica told
   pub act : Act
   pub call : Calls act replica t told new None
   pub asked : asks run ≡ Some act.command
-  pub holds : Holds act
+  pub ends : EndsBy fault act.command new
 
--- they were; or the disk failed in the next one; or that is a step that is damaged
+-- they were; or the next one has no answer, and this ends the run
 abbrev pub Comes : {T : Type 0} → (begun : Run) → (s : Replica) → (old : Option Told) → (run : Run) → (t : Replica) → (new : Option Told) → Result T Fault → Type 0
 Comes begun s old run t new (Ok x) = Works begun s old run t new
-Comes begun s old run t new (Err Disk) = Fails begun s old run t new (λ a. Unit {0})
-Comes begun s old run t new (Err (Damaged place class)) = Fails begun s old run t new (λ a. IsDamagedLine a.command new (damaged_text place class))
+Comes begun s old run t new (Err fault) = Fails begun s old run t new fault
 
 -- ---- a whole run
 
@@ -115,9 +87,9 @@ pub record Worked (begun : Run) (s : Replica) (old : Option Told) (run : Run) (t
   pub follows : Follows begun (map command_in acts) answers run
   pub asked : asks run ≡ asked_by failed
 
--- what was counted, and the file at the end
-abbrev pub workload_of : Run → Replica → Workload
-workload_of run t = record {
+-- what was counted, with these numbers of the file at the end: the head, how many replies, and the sequence
+abbrev pub workload_with : Run → (last stored number : ℕ) → Workload
+workload_with run last stored number = record {
   appended = run.counts.appended;
   replied = run.counts.replied;
   wrote = run.counts.wrote;
@@ -125,10 +97,13 @@ workload_of run t = record {
   checkpoints = run.counts.checkpoints;
   refused = run.counts.refused;
   bytes = run.counts.bytes;
-  head = t.head;
-  replies = t.replies;
-  sequence = t.fields.sequence;
+  head = last;
+  replies = stored;
+  sequence = number;
 }
+
+abbrev pub workload_of : Run → Replica → Workload
+workload_of run t = workload_with run t.head t.replies t.fields.sequence
 
 -- What is written at the end: the report, nothing where the disk failed, the line of a step that is damaged; or a front of it where the sink failed.
 abbrev pub Writes : Run → Replica → (told : Option Told) → (failed : Option Act) → (old new : Option (List ℕ)) → Status → Type 0
@@ -142,16 +117,6 @@ Writes run t told failed old new status = ⊥
 -- how many steps a run has at its end: one for each block of the running trailer, and the last
 abbrev pub steps_left : Run → Replica → ℕ
 steps_left run t = length t.blocks.left + flag run.running
-
--- how a call ends that prints
-abbrev pub status_or : {T E : Type 0} → Status → Result T E → Status
-status_or status (Ok x) = status
-status_or status (Err e) = ends.WriteFault
-
--- what is printed of a run that a fault ended
-abbrev pub PrintsFault : Fault → (old new : Option (List ℕ)) → Status → Type 0
-PrintsFault Disk old new status = (status ≡ ends.DiskFault) × (new ≡ old)
-PrintsFault (Damaged place class) old new status = PrintsLine (damaged_text place class) ends.Refused old new status
 
 -- what is printed of a run, by how it ended
 abbrev pub PrintsRun : {T : Type 0} → Run → Replica → Result T Fault → (old new : Option (List ℕ)) → Status → Type 0

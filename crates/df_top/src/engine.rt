@@ -6,7 +6,7 @@ ghost use Rattle.df_layout.specs.declared.layout.Layout.{Layout};
 ghost use Rattle.df_lines.specs.Room.{IsFresh, line_bound};
 ghost use Rattle.df_units.specs.Within.{AddsWithin};
 ghost use Rattle.df_top.specs.declared.mode.Mode.{Mode};
-ghost use Rattle.df_top.specs.Mode.{AsksOfFile, IsOfFile, Means, MeansNothing};
+ghost use Rattle.df_top.specs.Mode.{IsOfFile, IsRunnable, Means, MeansNothing};
 ghost use Rattle.df_top.specs.Formats.{Formats, MakesFile};
 ghost use Rattle.df_top.specs.Hurting.{RunsOverHurt};
 ghost use Rattle.df_top.specs.Outside.{Blames, HasCauses};
@@ -14,8 +14,8 @@ ghost use Rattle.df_top.specs.Run.{IsWithout, PrintsUsage, Runs};
 ghost use Rattle.df_top.specs.Within.{WritesOwn};
 
 use crate::making::make_file;
-use crate::mode::{Mode, mode_of};
-use crate::serving::{refuse_file, serve};
+use crate::mode::{Mode, mode_of, new_file};
+use crate::serving::{carry_out, refuse_file};
 use crate::status::Status;
 use df_base::{OutOfMemory, Sink, Source};
 use df_buffers::ProbeRoom;
@@ -46,20 +46,20 @@ fn reserve(alloc: Global, layout: &Layout) -> Result<Reserved, OutOfMemory>
     Ok(Reserved { rooms, lines })
 }
 
-// Finds the layout of the file that the disk shows, takes the memory for it, and carries out what the words ask for.
+// Finds the layout of the file that the disk shows, takes the memory for it, and carries out a word on it.
 fn run_file<D: Disk, S: Source, W: Sink>(
     alloc: Global,
-    words: &[String],
+    mode: Mode,
     source: &mut S,
     sink: &mut W,
     disk: &mut D,
 ) -> Status
-    requires words { AsksOfFile (map string_bytes words.now) }
-    ensures runs { (mode : Mode) → Means (map string_bytes words.now) mode → Runs mode
+    requires runnable { IsRunnable mode }
+    ensures runs { Runs mode
         (record { told = D.told disk.old; left = S.left source.old; written = W.written sink.old })
         (record { told = D.told disk.new; left = S.left source.new; written = W.written sink.new }) result }
-    ensures inspects { Means (map string_bytes words.now) Mode.Inspect → AddsPart (Sync ∷ []) (D.told disk.old) (D.told disk.new) }
-    ensures unread { (Means (map string_bytes words.now) Mode.Run → ⊥) → S.left source.new ≡ S.left source.old }
+    ensures inspects { mode ≡ Mode.Inspect → AddsPart (Sync ∷ []) (D.told disk.old) (D.told disk.new) }
+    ensures unread { (mode ≡ Mode.Run → ⊥) → S.left source.new ≡ S.left source.old }
     ensures causes { HasCauses
         (record { disk = D.faults disk.old; source = S.faults source.old; sink = W.faults sink.old })
         (record { disk = D.faults disk.new; source = S.faults source.new; sink = W.faults sink.new }) result }
@@ -73,7 +73,7 @@ fn run_file<D: Disk, S: Source, W: Sink>(
     };
     match probe(disk, &mut room) {
         Ok(layout) => match reserve(alloc, &layout) {
-            Ok(reserved) => serve(reserved.rooms, reserved.lines, words, source, sink, disk),
+            Ok(reserved) => carry_out(mode, reserved.rooms, reserved.lines, source, sink, disk),
             Err(_) => Status::Memory,
         },
         Err(error) => refuse_file(sink, &error),
@@ -141,14 +141,10 @@ pub fn run<D: Disk, S: Source, W: Sink>(
         (record { told = D.told disk.new; left = S.left source.new; written = W.written sink.new }) }
 {
     match mode_of(words) {
-        Some(
-            Mode::Run
-            | Mode::Recover
-            | Mode::Inspect
-            | Mode::Scrub
-            | Mode::Workload { seed: _, count: _ },
-        ) => { run_file(alloc, words, source, sink, disk) }
-        Some(Mode::Format { layout, cluster }) => { make_file(alloc, disk, sink, &layout, cluster) }
+        Some(mode) => match new_file(mode) {
+            Some(file) => make_file(alloc, disk, sink, &file.layout, file.cluster),
+            None => run_file(alloc, mode, source, sink, disk),
+        },
         None => print_usage(sink),
     }
 }

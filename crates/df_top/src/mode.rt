@@ -3,7 +3,7 @@ ghost use Rattle.std.specs.Prelude.{◌≡◌, ◌<◌, ◌^◌, ℕ, List, [], 
 ghost use Rattle.std.specs.Prelude.{IfSome, IfNone};
 ghost use Rattle.df_layout.specs.declared.layout.Layout.{Layout};
 ghost use Rattle.df_top.specs.declared.mode.Mode.{Mode};
-ghost use Rattle.df_top.specs.Mode.{Means, NamesLayout, OneMeaning, numbers_of};
+ghost use Rattle.df_top.specs.Mode.{Means, NamesLayout, OneMeaning, new_file, numbers_of};
 
 use df_layout::Layout;
 use df_lines::{u32_of, u64_of, u128_of};
@@ -26,6 +26,29 @@ pub enum Mode {
     Scrub,
     /// Opens the file, which mends it, carries out a generated run of `count` rounds and prints what it did: `workload SEED COUNT`.
     Workload { seed: u64, count: u64 },
+}
+
+/// A file that is to be made.
+#[derive(Clone, Copy, Debug, PartialEq, Eq)]
+pub struct NewFile {
+    /// Its layout.
+    pub layout: Layout,
+    /// Its cluster.
+    pub cluster: u128,
+}
+
+/// The file that is to be made, or None where what is asked for works on a file that is there.
+pub(crate) fn new_file(mode: Mode) -> Option<NewFile>
+    ensures { result ≡ new_file mode }
+{
+    match mode {
+        Mode::Format { layout, cluster } => Some(NewFile { layout, cluster }),
+        Mode::Run
+        | Mode::Recover
+        | Mode::Inspect
+        | Mode::Scrub
+        | Mode::Workload { seed: _, count: _ } => None,
+    }
 }
 
 /// What the words ask for, or None where they have no meaning. LAYOUT is `small`, `large`, or the slots, the bytes of a

@@ -12,6 +12,7 @@ use df_disk::Disk;
 use df_inspect::{print_block, print_prepare, print_reply};
 use df_model::{Answer, Command};
 use df_replica::Replica;
+use df_session::hear;
 
 /// Reads a prepare, and prints it or why it isn't read.
 pub fn prepare<D: Disk, W: Sink>(disk: &mut D, sink: &mut W, replica: &mut Replica, op: u64) -> Turn
@@ -25,7 +26,7 @@ pub fn prepare<D: Disk, W: Sink>(disk: &mut D, sink: &mut W, replica: &mut Repli
         Err(error) => tell(
             sink,
             &Command::ReadPrepare { op },
-            &Answer::ReadPrepare(Err(error)),
+            hear(Answer::ReadPrepare(Err(error))),
         ),
     }
 }
@@ -47,7 +48,7 @@ pub fn lookup<D: Disk, W: Sink>(
         Err(error) => tell(
             sink,
             &Command::ReadReply { client },
-            &Answer::ReadReply(Err(error)),
+            hear(Answer::ReadReply(Err(error))),
         ),
     }
 }
@@ -69,7 +70,7 @@ pub fn read_block<D: Disk, W: Sink>(
         Err(error) => tell(
             sink,
             &Command::ReadBlock { address },
-            &Answer::ReadBlock(Err(error)),
+            hear(Answer::ReadBlock(Err(error))),
         ),
     }
 }

@@ -34,7 +34,7 @@ pub fn scrub<D: Disk, W: Sink>(disk: &mut D, sink: &mut W, replica: &mut Replica
     ensures sink { BlamesIfEnds Status.WriteFault (W.faults sink.old) (W.faults sink.new) result }
 {
     match replica.scrub_step(disk) {
-        Ok(scrubbed) => tell(sink, &Command::Scrub, &Answer::Scrub(scrubbed)),
+        Ok(scrubbed) => tell(sink, &Command::Scrub, Ok(Answer::Scrub(scrubbed))),
         Err(_) => Turn::Ends(Status::DiskFault),
     }
 }

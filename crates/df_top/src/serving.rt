@@ -5,7 +5,7 @@ ghost use Rattle.df_disk.specs.Adds.{AddsPart};
 ghost use Rattle.df_lines.specs.Room.{IsFresh, line_bound};
 ghost use Rattle.df_top.specs.Hurting.{ServesOverHurt};
 ghost use Rattle.df_top.specs.declared.mode.Mode.{Mode};
-ghost use Rattle.df_top.specs.Mode.{AsksOfFile, Means};
+ghost use Rattle.df_top.specs.Mode.{AsksOfFile, IsRunnable, Means};
 ghost use Rattle.df_top.specs.Outside.{Blames, HasCauses};
 ghost use Rattle.df_top.specs.Refusing.{PrintsError};
 ghost use Rattle.df_top.specs.Run.{ServesIn};
@@ -69,6 +69,41 @@ fn serve_file<D: Disk, S: Source, W: Sink>(
     }
 }
 
+/// Carries out a word on the file that the disk shows, over rooms of one layout; takes no memory.
+pub(crate) fn carry_out<D: Disk, S: Source, W: Sink>(
+    mode: Mode,
+    rooms: Rooms,
+    lines: LineRoom,
+    source: &mut S,
+    sink: &mut W,
+    disk: &mut D,
+) -> Status
+    requires runnable { IsRunnable mode }
+    requires lines { IsFresh (line_bound rooms.layout) lines }
+    ensures serves { ServesIn mode rooms.layout
+        (record { told = D.told disk.old; left = S.left source.old; written = W.written sink.old })
+        (record { told = D.told disk.new; left = S.left source.new; written = W.written sink.new }) result }
+    ensures inspects { mode ≡ Mode.Inspect → AddsPart (Sync ∷ []) (D.told disk.old) (D.told disk.new) }
+    ensures unread { (mode ≡ Mode.Run → ⊥) → S.left source.new ≡ S.left source.old }
+    ensures causes { HasCauses
+        (record { disk = D.faults disk.old; source = S.faults source.old; sink = W.faults sink.old })
+        (record { disk = D.faults disk.new; source = S.faults source.new; sink = W.faults sink.new }) result }
+    ensures memory { result ≡ Status.Memory → ⊥ }
+    ensures usage { result ≡ Status.Words → ⊥ }
+{
+    match mode {
+        Mode::Run => serve_file(rooms, lines, source, sink, disk),
+        Mode::Recover => recover_file(rooms, sink, disk),
+        Mode::Inspect => inspect_file(rooms, sink, disk),
+        Mode::Scrub => scrub_file(rooms, sink, disk),
+        Mode::Workload { seed, count } => workload_file(rooms, seed, count, sink, disk),
+        Mode::Format {
+            layout: _,
+            cluster: _,
+        } => unreachable!(),
+    }
+}
+
 /// Carries out what the words ask for with the file that the disk shows, over rooms of one layout; takes no memory. A file of
 /// another layout is refused.
 pub fn serve<D: Disk, S: Source, W: Sink>(
@@ -97,17 +132,7 @@ pub fn serve<D: Disk, S: Source, W: Sink>(
     ensures usage { result ≡ Status.Words → ⊥ }
 {
     match mode_of(words) {
-        Some(Mode::Run) => serve_file(rooms, lines, source, sink, disk),
-        Some(Mode::Recover) => recover_file(rooms, sink, disk),
-        Some(Mode::Inspect) => inspect_file(rooms, sink, disk),
-        Some(Mode::Scrub) => scrub_file(rooms, sink, disk),
-        Some(Mode::Workload { seed, count }) => workload_file(rooms, seed, count, sink, disk),
-        Some(
-            Mode::Format {
-                layout: _,
-                cluster: _,
-            },
-        )
-        | None => unreachable!(),
+        Some(mode) => carry_out(mode, rooms, lines, source, sink, disk),
+        None => unreachable!(),
     }
 }

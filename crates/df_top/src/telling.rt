@@ -1,18 +1,20 @@
-// What becomes of a session by an answer: its line is printed, or it ends.
+// What becomes of a session by what was heard of an answer: its line is printed, or the session ends.
 ghost use Rattle.std.specs.Prelude.{◌≡◌, true};
 ghost use Rattle.df_inspect.specs.Answers.{command_of};
-ghost use Rattle.df_session.specs.Calls.{HasAnswer, blames, is_damaged, is_fault};
+ghost use Rattle.df_session.specs.Calls.{HasAnswer};
+ghost use Rattle.df_top.specs.Outside.{Blames, status_or};
+ghost use Rattle.df_top.specs.Refusing.{PrintsFault};
 ghost use Rattle.df_top.specs.Step.{Answers};
-ghost use Rattle.df_top.specs.Turning.{BlamesIfEnds, Tells, last_turn, printed_turn};
+ghost use Rattle.df_top.specs.Turning.{BlamesIfEnds, Tells, printed_turn};
 
 use crate::status::Status;
 use crate::turns::Turn;
-use df_base::{BlamesDisk, Failed, Sink};
+use df_base::{Failed, Sink};
 use df_disk::Disk;
 use df_inspect::print_answer;
 use df_model::{Answer, Command, StepError};
 use df_replica::Replica;
-use df_session::call;
+use df_session::{Fault, make};
 
 /// Goes on where the answer was printed.
 pub fn printed(done: Result<(), Failed>) -> Turn
@@ -24,77 +26,42 @@ pub fn printed(done: Result<(), Failed>) -> Turn
     }
 }
 
-// Ends the session by the line that was printed.
-fn ended(done: Result<(), Failed>) -> Turn
-    ensures { result ≡ last_turn done }
+/// Ends with this status where the last line was printed.
+pub fn ended(done: Result<(), Failed>, status: Status) -> Status
+    ensures { result ≡ status_or status done }
 {
     match done {
-        Ok(()) => Turn::Ends(Status::Refused),
-        Err(_) => Turn::Ends(Status::WriteFault),
+        Ok(()) => status,
+        Err(_) => Status::WriteFault,
     }
 }
 
-// Whether a call blames the disk.
-fn blames<T, E: BlamesDisk>(answer: &Result<T, E>) -> bool
-    ensures { result ≡ blames E.is_fault answer.now }
+/// Prints why calls ended before the last one was answered; a failing disk has no line.
+pub fn tell_fault<W: Sink>(sink: &mut W, fault: Fault) -> Status
+    ensures prints { PrintsFault fault (W.written sink.old) (W.written sink.new) result }
+    ensures sink { Blames Status.WriteFault (W.faults sink.old) (W.faults sink.new) result }
 {
-    match answer {
-        Ok(_) => false,
-        Err(error) => error.is_fault(),
+    match fault {
+        Fault::Damaged { place, class } => {
+            let answer = Answer::Advance(Err(StepError::Damaged { place, class }));
+            ended(
+                print_answer(sink, &Command::Advance, &answer),
+                Status::Refused,
+            )
+        }
+        Fault::Disk => Status::DiskFault,
     }
 }
 
-/// Whether the disk failed in a call that answered so.
-pub fn is_fault(answer: &Answer) -> bool
-    ensures { result ≡ is_fault answer.now }
-{
-    match answer {
-        Answer::Append(answer) => blames(answer),
-        Answer::Reply(answer) => blames(answer),
-        Answer::WriteBlock(answer) => blames(answer),
-        Answer::Advance(answer) => blames(answer),
-        Answer::ReadPrepare(answer) => blames(answer),
-        Answer::ReadReply(answer) => blames(answer),
-        Answer::ReadBlock(answer) => blames(answer),
-        Answer::Release(_) | Answer::Begin(_) | Answer::Scrub(_) | Answer::Recent => false,
-    }
-}
-
-// Whether a step found the superblock damaged that it wrote.
-fn is_damaged(answer: &Answer) -> bool
-    ensures { result ≡ is_damaged answer.now }
-{
-    match *answer {
-        Answer::Advance(Err(StepError::Damaged { place: _, class: _ })) => true,
-        Answer::Advance(Err(StepError::NotRunning))
-        | Answer::Advance(Err(StepError::DiskFault))
-        | Answer::Advance(Ok(_))
-        | Answer::Append(_)
-        | Answer::Reply(_)
-        | Answer::WriteBlock(_)
-        | Answer::Release(_)
-        | Answer::Begin(_)
-        | Answer::ReadPrepare(_)
-        | Answer::ReadReply(_)
-        | Answer::ReadBlock(_)
-        | Answer::Scrub(_)
-        | Answer::Recent => false,
-    }
-}
-
-/// Prints what was answered. A failing disk has no line and ends the session; a damaged superblock ends it by its line.
-pub fn tell<W: Sink>(sink: &mut W, command: &Command, answer: &Answer) -> Turn
-    ensures told { Tells (command_of command.now) answer.now (W.written sink.old) (W.written sink.new) result }
+/// Prints what was heard of an answer: its line, or why the session ends with it.
+pub fn tell<W: Sink>(sink: &mut W, command: &Command, heard: Result<Answer, Fault>) -> Turn
+    ensures told { Tells (command_of command.now) heard (W.written sink.old) (W.written sink.new) result }
     ensures sink { BlamesIfEnds Status.WriteFault (W.faults sink.old) (W.faults sink.new) result }
 {
-    if is_fault(answer) {
-        return Turn::Ends(Status::DiskFault);
+    match heard {
+        Ok(answer) => printed(print_answer(sink, command, &answer)),
+        Err(fault) => Turn::Ends(tell_fault(sink, fault)),
     }
-    let done = print_answer(sink, command, answer);
-    if is_damaged(answer) {
-        return ended(done);
-    }
-    printed(done)
 }
 
 /// Makes the call that a command asks for, and prints what it answers.
@@ -110,6 +77,6 @@ pub fn serve<D: Disk, W: Sink>(
     ensures disk { BlamesIfEnds Status.DiskFault (D.faults disk.old) (D.faults disk.new) result }
     ensures sink { BlamesIfEnds Status.WriteFault (W.faults sink.old) (W.faults sink.new) result }
 {
-    let answer = call(disk, replica, command);
-    tell(sink, &command, &answer)
+    let heard = make(disk, replica, command);
+    tell(sink, &command, heard)
 }

@@ -4,19 +4,22 @@ ghost use Rattle.df_base.specs.Causes.{IsBlamed};
 ghost use Rattle.df_workload.specs.Asking.{asks};
 ghost use Rattle.df_workload.specs.Sound.{is_at_end, left};
 ghost use Rattle.df_workload.specs.declared.state.Point.{Point};
+ghost use Rattle.df_session.specs.Endings.{is_disk};
 ghost use Rattle.df_top.specs.declared.mode.Mode.{Mode};
 ghost use Rattle.df_top.specs.Outside.{Blames, HasCauses};
 ghost use Rattle.df_top.specs.Run.{ServesIn};
-ghost use Rattle.df_top.specs.Works.{Comes, IsRunning, PrintsFault, PrintsRun, is_disk, status_or, steps_left, workload_of};
+ghost use Rattle.df_top.specs.Works.{Comes, IsRunning, PrintsRun, steps_left, workload_of};
 
 use crate::serving::refuse_file;
 use crate::status::Status;
-use crate::works::{Fault, carry_out, make};
-use df_base::{Failed, Sink};
+use crate::telling::{ended, tell_fault};
+use crate::works::{make_call, make_next};
+use df_base::Sink;
 use df_disk::Disk;
-use df_inspect::{Workload, print_answer, print_workload};
-use df_model::{Answer, Command, StepError};
+use df_inspect::{Workload, print_workload};
+use df_model::Command;
 use df_replica::{Replica, Rooms};
+use df_session::Fault;
 use df_workload::Generator;
 
 // Makes the next call of a run, and lets the run hear of its answer.
@@ -34,7 +37,7 @@ fn go_on<D: Disk>(
     ensures less { OnOk result (left generator.new < left generator.old) }
     ensures disk { IsBlamed is_disk (D.faults disk.old) (D.faults disk.new) result }
 {
-    match make(disk, replica, generator) {
+    match make_next(disk, replica, generator) {
         Ok(outcome) => {
             generator.hear(outcome);
             Ok(())
@@ -83,7 +86,7 @@ fn end_step<D: Disk>(
     ensures less { OnOk result (steps_left generator.new replica.new < steps_left generator.old replica.old) }
     ensures disk { IsBlamed is_disk (D.faults disk.old) (D.faults disk.new) result }
 {
-    match carry_out(disk, replica, Command::Advance) {
+    match make_call(disk, replica, Command::Advance) {
         Ok(outcome) => {
             generator.hear(outcome);
             Ok(())
@@ -149,32 +152,6 @@ fn report_of(replica: &Replica, generator: &Generator) -> Workload
         head: summary.head,
         replies: summary.replies,
         sequence: summary.sequence,
-    }
-}
-
-fn ended(done: Result<(), Failed>, status: Status) -> Status
-    ensures { result ≡ status_or status done }
-{
-    match done {
-        Ok(()) => status,
-        Err(_) => Status::WriteFault,
-    }
-}
-
-// Prints why a run ended before its last command was answered; a failing disk has no line.
-fn tell_fault<W: Sink>(sink: &mut W, fault: Fault) -> Status
-    ensures prints { PrintsFault fault (W.written sink.old) (W.written sink.new) result }
-    ensures sink { Blames Status.WriteFault (W.faults sink.old) (W.faults sink.new) result }
-{
-    match fault {
-        Fault::Damaged { place, class } => {
-            let answer = Answer::Advance(Err(StepError::Damaged { place, class }));
-            ended(
-                print_answer(sink, &Command::Advance, &answer),
-                Status::Refused,
-            )
-        }
-        Fault::Disk => Status::DiskFault,
     }
 }
 

@@ -2,7 +2,7 @@
 use Rattle.std.proofs.Common.{ap, subst, sym, ◌≡◌, ◌≤◌, ◌<◌, ℕ, ◌+◌, ◌-◌, ◌*◌, ◌/◌, ◌%◌, true, false, List, [], ◌∷◌, ◌++◌, length, drop, length-append, length-drop, refl, arith}
 use Rattle.df_workload.specs.Hearing.{appended, begun, refused, released, replied, stepped, told, told_at, without_first, wrote}
 use Rattle.df_workload.specs.Rounds.{after_reply, to_begin, to_block, to_next, to_release, to_replies}
-use Rattle.df_workload.specs.Sound.{HasPoint, IsSound, IsWithin, MayBeTold, counted, flag, is_at_end, left, left_at}
+use Rattle.df_workload.specs.Sound.{HasPoint, IsSound, IsWithin, MayBeTold, flag, is_at_end, left, left_at}
 use Rattle.df_workload.specs.declared.outcome.Outcome.{Outcome}
 use Rattle.df_workload.specs.declared.outcome.Outcome.TheVariants.{Refused, Accepted, Wrote, Finished}
 use Rattle.df_workload.specs.declared.state.Point.{Point}

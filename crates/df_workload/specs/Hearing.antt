@@ -2,6 +2,8 @@
 use Rattle.std.specs.Prelude.{◌+◌, Bool, true, false, [], ◌∷◌, ◌++◌, drop, Ok, Err}
 use Rattle.df_model.specs.Commands.{Advance, Answer, Begin, Command, ToAdvance, ToAppend, ToBegin, ToReadBlock, ToReadPrepare, ToReadReply, ToRecent, ToRelease, ToReply, ToScrub, ToWriteBlock}
 use Rattle.df_model.specs.declared.answers.Progress.TheVariants as progress
+use Rattle.df_model.specs.declared.commands.Answer.{Answer as Called}
+use Rattle.df_model.specs.declared.commands.Answer.TheVariants as answers
 use Rattle.df_workload.specs.Draw.{body_length}
 use Rattle.df_workload.specs.Rounds.{after_reply, to_begin, to_block, to_next, to_release, to_replies}
 use Rattle.df_workload.specs.declared.outcome.Outcome.{Outcome}
@@ -31,6 +33,18 @@ outcome_of (ToReadReply read) = Accepted
 outcome_of (ToReadBlock read) = Accepted
 outcome_of (ToScrub scrubbed) = Accepted
 outcome_of (ToRecent findings) = Accepted
+
+-- the same of an answer as its call gives it
+abbrev pub outcome_in : Called → Outcome
+outcome_in (answers.WriteBlock (Ok reference)) = Wrote reference.address
+outcome_in (answers.Advance (Ok (progress.Done sequence))) = Finished
+outcome_in (answers.Append (Err e)) = Refused
+outcome_in (answers.Reply (Err e)) = Refused
+outcome_in (answers.WriteBlock (Err e)) = Refused
+outcome_in (answers.Release (Err e)) = Refused
+outcome_in (answers.Begin (Err e)) = Refused
+outcome_in (answers.Advance (Err e)) = Refused
+outcome_in answer = Accepted
 
 -- ---- what is counted, and what the run has then
 

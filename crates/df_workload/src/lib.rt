@@ -16,5 +16,5 @@ pub use counts::Counts;
 pub use draw::number_body;
 pub use generator::Generator;
 pub use held::Held;
-pub use outcome::Outcome;
+pub use outcome::{Outcome, outcome_in};
 pub use state::{Point, State};

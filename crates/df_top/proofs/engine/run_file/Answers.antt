@@ -9,14 +9,14 @@ use Rattle.df_top.specs.Run.{ServesIn}
 use Rattle.df_top.proofs.engine.run_file.Goals as goal
 
 pub returns-in-Ok-reserve-clause-runs : goal.returns-in-Ok-reserve-clause-runs
-returns-in-Ok-reserve-clause-runs g c = λ mode asks t told whole.
+returns-in-Ok-reserve-clause-runs g c = λ t told whole.
     let left = g.S.Source.left c.args.source.now in
     let written = g.W.Sink.written c.args.sink.now in
-    let new : Outside = record { told = g.D.Disk.told c.serve.new.disk; left = g.S.Source.left c.serve.new.source; written = g.W.Sink.written c.serve.new.sink } in
+    let new : Outside = record { told = g.D.Disk.told c.carry_out.new.disk; left = g.S.Source.left c.carry_out.new.source; written = g.W.Sink.written c.carry_out.new.sink } in
     let layout : Layout = c.in-Ok-probe.layout in
-    let serves : ServesIn mode layout (record { told = g.D.Disk.told c.args.disk.now; left = left; written = written }) new c.serve.result =
-    subst (λ (o : Option Told). ServesIn mode layout (record { told = o; left = left; written = written }) new c.serve.result) c.probe.ensures.same
-    (subst (λ (l : Layout). ServesIn mode l (record { told = g.D.Disk.told c.probe.new.disk; left = left; written = written }) new c.serve.result) c.in-Ok-reserve.ensures.layout (c.serve.ensures.serves mode asks)) in
+    let serves : ServesIn c.args.mode layout (record { told = g.D.Disk.told c.args.disk.now; left = left; written = written }) new c.carry_out.result =
+    subst (λ (o : Option Told). ServesIn c.args.mode layout (record { told = o; left = left; written = written }) new c.carry_out.result) c.probe.ensures.same
+    (subst (λ (l : Layout). ServesIn c.args.mode l (record { told = g.D.Disk.told c.probe.new.disk; left = left; written = written }) new c.carry_out.result) c.in-Ok-reserve.ensures.layout c.carry_out.ensures.serves) in
     inr (inr (record {
       layout = layout;
       shown = subst (λ (o : Option Told). TellsLayout o (Ok layout)) told c.in-Ok-probe.ensures.answer;

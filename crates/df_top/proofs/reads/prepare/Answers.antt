@@ -1,11 +1,14 @@
 -- A read comes to a turn by what was found and by what was printed of it.
-use Rattle.std.proofs.Common.{◌≡◌, ap, subst, sym, ◌∙◌}
+use Rattle.std.proofs.Common.{◌≡◌, ap, subst, sym, ◌∙◌, Result}
 use Rattle.std.specs.Prelude.{codes}
 use Rattle.df_replica.specs.Below.{State as Replica}
 use Rattle.df_model.specs.Commands.{ReadPrepare}
 use Rattle.df_model.specs.Faults.{is_prepare_fault}
+use Rattle.df_model.specs.declared.commands.Answer.{Answer}
 use Rattle.df_replica.specs.Stopping.{left_by}
+use Rattle.df_session.specs.declared.hearing.Fault.{Fault}
 use Rattle.df_top.specs.Step.{Answers}
+use Rattle.df_top.specs.Turning.{Tells}
 use Rattle.df_top.proofs.ReadTurns.{prepare_ends, prepare_shown, shown_turn}
 use Rattle.df_top.proofs.reads.prepare.Goals as goal
 
@@ -19,7 +22,9 @@ returns-in-Ok-clause-answers g c =
     (g.D.Disk.faults c.args.disk.now) (g.D.Disk.faults c.read_prepare.new.disk) c.printed.result c.args.op _ c.in-Ok.ensures.call c.in-Ok.ensures.cause
     (shown_turn (codes "prepare") c.in-Ok.unit.now.unit c.header.result.now c.body.result.now (g.W.Sink.written c.args.sink.now) (g.W.Sink.written c.print_prepare.new.sink) c.print_prepare.result c.printed.result c.header.ensures.header c.body.ensures c.printed.ensures c.print_prepare.ensures.prints)).0
 
-pub returns-in-Err-clause-answers : goal.returns-in-Err-clause-answers
-returns-in-Err-clause-answers g c =
+pub returns-in-Err : goal.returns-in-Err
+returns-in-Err g c =
+    let comes =
     prepare_ends c.args.replica.now c.read_prepare.follows.lender-at-none c.read_prepare.result c.in-Err.error (g.D.Disk.told c.args.disk.now) (g.D.Disk.told c.read_prepare.new.disk) c.in-Err.ensures.same (g.W.Sink.written c.args.sink.now) (g.W.Sink.written c.tell.new.sink)
-    (g.D.Disk.faults c.args.disk.now) (g.D.Disk.faults c.read_prepare.new.disk) c.tell.result c.args.op c.read_prepare.follows.holds-at-none c.in-Err.is c.in-Err.ensures.call c.in-Err.ensures.cause c.tell.ensures.told
+    (g.D.Disk.faults c.args.disk.now) (g.D.Disk.faults c.read_prepare.new.disk) c.tell.result c.args.op c.read_prepare.follows.holds-at-none c.in-Err.is c.in-Err.ensures.call c.in-Err.ensures.cause (subst (λ (r : Result Answer Fault). Tells (ReadPrepare c.args.op) r (g.W.Sink.written c.args.sink.now) (g.W.Sink.written c.tell.new.sink) c.tell.result) c.hear.ensures c.tell.ensures.told) in
+    record { answers = comes.0; disk = comes.1; sink = c.tell.ensures.sink }

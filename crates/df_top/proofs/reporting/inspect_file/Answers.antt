@@ -2,7 +2,7 @@
 use Rattle.std.proofs.Common.{inr, refl}
 use Rattle.df_replica.specs.Below.{State}
 use Rattle.df_top.specs.Outside.{Outside}
-use Rattle.df_top.specs.Reporting.{Inspects, report_of, status_of}
+use Rattle.df_top.specs.Reporting.{report_of, status_of}
 use Rattle.df_top.proofs.Causes.{calm_report, line_causes, never_printed, open_causes, refused_never}
 use Rattle.df_top.proofs.Reported.{inspects, not_surveyed, syncs_part}
 use Rattle.df_top.proofs.reporting.inspect_file.Goals as goal
@@ -11,13 +11,13 @@ pub returns-in-Ok-clause-inspects : goal.returns-in-Ok-clause-inspects
 returns-in-Ok-clause-inspects g c = λ left t told whole.
     let old : Outside = record { told = g.D.Disk.told c.args.disk.now; left = left; written = g.W.Sink.written c.args.sink.now } in
     let new : Outside = record { told = g.D.Disk.told c.survey.new.disk; left = left; written = g.W.Sink.written c.report.new.sink } in
-    inr (inr (inspects c.args.rooms.layout t old new c.report.result whole told refl c.in-Ok.surveyed c.in-Ok.ensures.answer c.in-Ok.ensures.mends c.in-Ok.ensures.barrier c.report.ensures.prints))
+    (tt, inr (inr (inspects c.args.rooms.layout t old new c.report.result whole told refl c.in-Ok.surveyed c.in-Ok.ensures.answer c.in-Ok.ensures.mends c.in-Ok.ensures.barrier c.report.ensures.prints)))
 
 pub returns-clause-inspects : goal.returns-clause-inspects
 returns-clause-inspects g c = λ left t told whole.
     let old : Outside = record { told = g.D.Disk.told c.args.disk.now; left = left; written = g.W.Sink.written c.args.sink.now } in
     let new : Outside = record { told = g.D.Disk.told c.survey.new.disk; left = left; written = g.W.Sink.written c.refuse_file.new.sink } in
-    not_surveyed c.args.rooms.layout t old new c.refuse_file.result whole told refl (Inspects c.args.rooms.layout t old new c.refuse_file.result) c.in-Err.error c.in-Err.ensures.answer c.in-Err.ensures.barrier c.refuse_file.ensures.prints
+    (tt, not_surveyed c.args.rooms.layout t old new c.refuse_file.result whole told refl c.in-Err.error c.in-Err.ensures.answer c.in-Err.ensures.barrier c.refuse_file.ensures.prints)
 
 pub returns-in-Ok-clause-syncs : goal.returns-in-Ok-clause-syncs
 returns-in-Ok-clause-syncs g c = inr c.in-Ok.ensures.barrier

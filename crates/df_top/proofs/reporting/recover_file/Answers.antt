@@ -7,7 +7,7 @@ use Rattle.df_replica.specs.Below.{State}
 use Rattle.df_replica.specs.Replica.{summary_of}
 use Rattle.df_replica.specs.Surveying.{TellsSurvey}
 use Rattle.df_top.specs.Outside.{Outside}
-use Rattle.df_top.specs.Reporting.{Recovers}
+use Rattle.df_top.specs.declared.mode.Mode.TheVariants.{Recover}
 use Rattle.df_top.specs.declared.status.Status.TheVariants.{Done}
 use Rattle.df_top.proofs.Causes.{calm_done, line_causes, never_printed, open_causes, refused_never}
 use Rattle.df_top.proofs.Reported.{recovers}
@@ -17,15 +17,17 @@ use Rattle.df_top.proofs.reporting.recover_file.Goals as goal
 pub returns-in-Ok-clause-recovers : goal.returns-in-Ok-clause-recovers
 returns-in-Ok-clause-recovers g c = λ left t told whole.
     let old : Outside = record { told = g.D.Disk.told c.args.disk.now; left = left; written = g.W.Sink.written c.args.sink.now } in
-    let new : Outside = record { told = g.D.Disk.told c.open.new.disk; left = left; written = g.W.Sink.written c.summarise.new.sink } in
-    inr (inr (recovers c.args.rooms.layout t old new c.summarise.result c.in-Ok.replica told refl c.in-Ok.ensures.live
-    ((subst (λ (o : Option Told). TellsSurvey c.args.rooms.layout o (Ok c.in-Ok.replica)) told c.in-Ok.ensures.answer) whole) (c.in-Ok.ensures.opened t told) c.summarise.ensures.prints))
+    let new : Outside = record { told = g.D.Disk.told c.open.new.disk; left = left; written = g.W.Sink.written c.summarise.new.sink } in (
+      tt,
+      inr (inr (recovers c.args.rooms.layout t old new c.summarise.result c.in-Ok.replica whole told refl c.in-Ok.ensures.live
+          ((subst (λ (o : Option Told). TellsSurvey c.args.rooms.layout o (Ok c.in-Ok.replica)) told c.in-Ok.ensures.answer) whole) (c.in-Ok.ensures.opened t told) c.summarise.ensures.prints)),
+    )
 
 pub returns-clause-recovers : goal.returns-clause-recovers
 returns-clause-recovers g c = λ left t told whole.
     let old : Outside = record { told = g.D.Disk.told c.args.disk.now; left = left; written = g.W.Sink.written c.args.sink.now } in
     let new : Outside = record { told = g.D.Disk.told c.open.new.disk; left = left; written = g.W.Sink.written c.refuse_file.new.sink } in
-    not_opened (Recovers c.args.rooms.layout t old new c.refuse_file.result) c.args.rooms.layout t old new c.refuse_file.result c.in-Err.error whole told c.in-Err.ensures.answer refl c.in-Err.ensures.refused (c.in-Err.ensures.stopped t told) c.refuse_file.ensures.prints
+    (tt, not_opened Recover c.args.rooms.layout t old new c.refuse_file.result c.in-Err.error whole told c.in-Err.ensures.answer refl c.in-Err.ensures.refused (c.in-Err.ensures.stopped t told) c.refuse_file.ensures.prints)
 
 pub returns-in-Ok-clause-causes : goal.returns-in-Ok-clause-causes
 returns-in-Ok-clause-causes g c = λ source.

@@ -4,8 +4,10 @@ use Rattle.std.specs.Prelude.{Ok, Option}
 use Rattle.df_disk.specs.Told.{Told}
 use Rattle.df_replica.specs.Below.{State}
 use Rattle.df_replica.specs.Surveying.{TellsSurvey}
+use Rattle.df_session.specs.Found.{FoundFile}
 use Rattle.df_top.specs.Outside.{Blames, Outside}
 use Rattle.df_top.specs.Scrubs.{ScrubsFile}
+use Rattle.df_top.specs.declared.mode.Mode.TheVariants.{Scrub}
 use Rattle.df_top.specs.declared.status.Status.TheVariants.{DiskFault, Memory, ReadFault, Words}
 use Rattle.df_top.proofs.Causes.{no_blame, open_causes, refused_never}
 use Rattle.df_top.proofs.Reported.{scrubs}
@@ -18,16 +20,18 @@ returns-in-Ok-clause-scrubs g c = λ left t told whole.
     let layout = c.args.rooms.layout in
     let status = c.tour.result in
     let old : Outside = record { told = g.D.Disk.told c.args.disk.now; left = left; written = g.W.Sink.written c.args.sink.now } in
-    let opened : Outside = record { told = g.D.Disk.told c.open.new.disk; left = left; written = g.W.Sink.written c.tour.new.sink } in
-    inr (inr (subst (λ (o : Option Told). ScrubsFile layout t old (record { told = o; left = left; written = g.W.Sink.written c.tour.new.sink }) status) (sym c.tour.ensures.same)
-    (scrubs layout t old opened status c.in-Ok.replica told refl c.in-Ok.ensures.live
-    ((subst (λ (o : Option Told). TellsSurvey layout o (Ok c.in-Ok.replica)) told c.in-Ok.ensures.answer) whole) (c.in-Ok.ensures.opened t told) whole c.tour.ensures.tours)))
+    let opened : Outside = record { told = g.D.Disk.told c.open.new.disk; left = left; written = g.W.Sink.written c.tour.new.sink } in (
+      tt,
+      inr (inr (subst (λ (o : Option Told). (found : FoundFile layout t) × ScrubsFile layout t found old (record { told = o; left = left; written = g.W.Sink.written c.tour.new.sink }) status) (sym c.tour.ensures.same)
+          (scrubs layout t old opened status c.in-Ok.replica whole told refl c.in-Ok.ensures.live
+          ((subst (λ (o : Option Told). TellsSurvey layout o (Ok c.in-Ok.replica)) told c.in-Ok.ensures.answer) whole) (c.in-Ok.ensures.opened t told) c.tour.ensures.tours))),
+    )
 
 pub returns-clause-scrubs : goal.returns-clause-scrubs
 returns-clause-scrubs g c = λ left t told whole.
     let old : Outside = record { told = g.D.Disk.told c.args.disk.now; left = left; written = g.W.Sink.written c.args.sink.now } in
     let new : Outside = record { told = g.D.Disk.told c.open.new.disk; left = left; written = g.W.Sink.written c.refuse_file.new.sink } in
-    not_opened (ScrubsFile c.args.rooms.layout t old new c.refuse_file.result) c.args.rooms.layout t old new c.refuse_file.result c.in-Err.error whole told c.in-Err.ensures.answer refl c.in-Err.ensures.refused (c.in-Err.ensures.stopped t told) c.refuse_file.ensures.prints
+    (tt, not_opened Scrub c.args.rooms.layout t old new c.refuse_file.result c.in-Err.error whole told c.in-Err.ensures.answer refl c.in-Err.ensures.refused (c.in-Err.ensures.stopped t told) c.refuse_file.ensures.prints)
 
 pub returns-in-Ok-clause-causes : goal.returns-in-Ok-clause-causes
 returns-in-Ok-clause-causes g c = λ source. record {

@@ -5,6 +5,7 @@ use Rattle.df_disk.specs.Told.{Told}
 use Rattle.df_replica.specs.Below.{State}
 use Rattle.df_replica.specs.Surveying.{TellsSurvey}
 use Rattle.df_top.specs.Outside.{Blames, Outside}
+use Rattle.df_top.specs.declared.mode.Mode.TheVariants.{Run}
 use Rattle.df_top.specs.declared.status.Status.TheVariants.{DiskFault}
 use Rattle.df_top.specs.Session.{state}
 use Rattle.df_top.proofs.Causes.{ended_never, open_causes, refused_never}
@@ -14,16 +15,20 @@ use Rattle.df_top.proofs.serving.serve_file.Goals as goal
 pub returns-in-Ok-clause-serves : goal.returns-in-Ok-clause-serves
 returns-in-Ok-clause-serves g c = λ t told whole.
     let old : Outside = record { told = g.D.Disk.told c.args.disk.now; left = g.S.Source.left c.args.source.now; written = g.W.Sink.written c.args.sink.now } in
-    let new : Outside = record { told = g.D.Disk.told c.serve_script.new.disk; left = g.S.Source.left c.serve_script.new.source; written = g.W.Sink.written c.serve_script.new.sink } in
-    inr (inr (serves c.args.rooms.layout t old new c.serve_script.result c.in-Ok.replica (g.D.Disk.told c.open.new.disk) whole told c.in-Ok.ensures.live c.in-Ok.ensures.kept
-    ((subst (λ (o : Option Told). TellsSurvey c.args.rooms.layout o (Ok c.in-Ok.replica)) told c.in-Ok.ensures.answer) whole) (c.in-Ok.ensures.opened t told)
-    (state new c.serve_script.new.session) refl (from_start (g.D.Disk.told c.open.new.disk) old _ c.args.rooms.layout (state new c.serve_script.new.session) c.serve_script.result c.requires.lines refl c.serve_script.ensures.session)))
+    let new : Outside = record { told = g.D.Disk.told c.serve_script.new.disk; left = g.S.Source.left c.serve_script.new.source; written = g.W.Sink.written c.serve_script.new.sink } in (
+      tt,
+      inr (inr (serves c.args.rooms.layout t old new c.serve_script.result c.in-Ok.replica (g.D.Disk.told c.open.new.disk) whole told c.in-Ok.ensures.live c.in-Ok.ensures.kept
+          ((subst (λ (o : Option Told). TellsSurvey c.args.rooms.layout o (Ok c.in-Ok.replica)) told c.in-Ok.ensures.answer) whole) (c.in-Ok.ensures.opened t told)
+          (state new c.serve_script.new.session) refl (from_start (g.D.Disk.told c.open.new.disk) old _ c.args.rooms.layout (state new c.serve_script.new.session) c.serve_script.result c.requires.lines refl c.serve_script.ensures.session))),
+    )
 
 pub returns-in-Err-clause-serves : goal.returns-in-Err-clause-serves
-returns-in-Err-clause-serves g c = λ t told whole.
-    not_opened _ c.args.rooms.layout t (record { told = g.D.Disk.told c.args.disk.now; left = g.S.Source.left c.args.source.now; written = g.W.Sink.written c.args.sink.now })
-    (record { told = g.D.Disk.told c.open.new.disk; left = g.S.Source.left c.args.source.now; written = g.W.Sink.written c.refuse_file.new.sink }) c.refuse_file.result c.in-Err.error whole told c.in-Err.ensures.answer refl c.in-Err.ensures.refused
-    (c.in-Err.ensures.stopped t told) c.refuse_file.ensures.prints
+returns-in-Err-clause-serves g c = λ t told whole. (
+  tt,
+  not_opened Run c.args.rooms.layout t (record { told = g.D.Disk.told c.args.disk.now; left = g.S.Source.left c.args.source.now; written = g.W.Sink.written c.args.sink.now })
+      (record { told = g.D.Disk.told c.open.new.disk; left = g.S.Source.left c.args.source.now; written = g.W.Sink.written c.refuse_file.new.sink }) c.refuse_file.result c.in-Err.error whole told c.in-Err.ensures.answer refl c.in-Err.ensures.refused
+      (c.in-Err.ensures.stopped t told) c.refuse_file.ensures.prints,
+)
 
 pub returns-in-Err-clause-causes : goal.returns-in-Err-clause-causes
 returns-in-Err-clause-causes g c =

@@ -11,15 +11,15 @@ use Rattle.df_top.proofs.working.end_step.Goals as goal
 pub hear-requires : goal.hear-requires
 hear-requires g c =
     may_end c.in-Ok.outcome c.args.generator.now c.requires.ending c.requires.running
-    (not_refused c.args.replica.now c.carry_out.new.replica c.in-Ok.outcome (c.in-Ok.ensures.steps refl) c.requires.runs)
+    (not_refused c.args.replica.now c.make_call.new.replica c.in-Ok.outcome (c.in-Ok.ensures.steps refl) c.requires.runs)
 
 pub returns-in-Ok : goal.returns-in-Ok
 returns-in-Ok g c =
     let run = c.args.generator.now in
     let s = c.args.replica.now in
-    let t = c.carry_out.new.replica in
+    let t = c.make_call.new.replica in
     let old = g.D.Disk.told c.args.disk.now in
-    let new = g.D.Disk.told c.carry_out.new.disk in
+    let new = g.D.Disk.told c.make_call.new.disk in
     let o = c.in-Ok.outcome in
     let next = ends_by_step run c.requires.ending c.requires.running in
     let made = c.in-Ok.ensures.makes in
@@ -35,4 +35,4 @@ returns-in-Ok g c =
 pub returns-in-Err-clause-comes : goal.returns-in-Err-clause-comes
 returns-in-Err-clause-comes g c =
     let run = c.args.generator.now in
-    made_fails run c.args.replica.now c.carry_out.new.replica (g.D.Disk.told c.args.disk.now) (g.D.Disk.told c.carry_out.new.disk) Advance (ends_by_step run c.requires.ending c.requires.running) (Unit {0}) c.in-Err.fault c.in-Err.ensures.makes
+    made_fails run c.args.replica.now c.make_call.new.replica (g.D.Disk.told c.args.disk.now) (g.D.Disk.told c.make_call.new.disk) Advance (ends_by_step run c.requires.ending c.requires.running) (Unit {0}) c.in-Err.fault c.in-Err.ensures.makes

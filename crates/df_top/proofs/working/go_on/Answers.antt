@@ -6,8 +6,8 @@ use Rattle.df_top.specs.Works.{IsRunning, Works}
 use Rattle.df_top.proofs.Runs.{made_fails, made_live, made_runs, made_works}
 use Rattle.df_top.proofs.working.go_on.Goals as goal
 
-pub make-requires : goal.make-requires
-make-requires g c =
+pub make_next-requires : goal.make_next-requires
+make_next-requires g c =
     let next = asks_some c.args.generator.now.point c.args.generator.now c.requires.going in
     record { live = c.requires.live; asks = λ none. cc (none, next.1) }
 
@@ -18,9 +18,9 @@ pub returns-in-Ok : goal.returns-in-Ok
 returns-in-Ok g c =
     let run = c.args.generator.now in
     let s = c.args.replica.now in
-    let t = c.make.new.replica in
+    let t = c.make_next.new.replica in
     let old = g.D.Disk.told c.args.disk.now in
-    let new = g.D.Disk.told c.make.new.disk in
+    let new = g.D.Disk.told c.make_next.new.disk in
     let next = asks_some run.point run c.requires.going in
     let made = c.in-Ok.ensures.makes next.0 next.1 in
     record {
@@ -35,4 +35,4 @@ pub returns-in-Err-clause-comes : goal.returns-in-Err-clause-comes
 returns-in-Err-clause-comes g c =
     let run = c.args.generator.now in
     let next = asks_some run.point run c.requires.going in
-    made_fails run c.args.replica.now c.make.new.replica (g.D.Disk.told c.args.disk.now) (g.D.Disk.told c.make.new.disk) next.0 next.1 (Unit {0}) c.in-Err.fault (c.in-Err.ensures.makes next.0 next.1)
+    made_fails run c.args.replica.now c.make_next.new.replica (g.D.Disk.told c.args.disk.now) (g.D.Disk.told c.make_next.new.disk) next.0 next.1 (Unit {0}) c.in-Err.fault (c.in-Err.ensures.makes next.0 next.1)

@@ -10,8 +10,9 @@ use Rattle.df_replica.specs.Surveying.{TellsSurvey}
 use Rattle.df_workload.specs.Rounds.{start}
 use Rattle.df_workload.specs.declared.state.State.{State as Run}
 use Rattle.df_top.specs.Outside.{Outside}
-use Rattle.df_top.specs.Working.{WorksThrough}
-use Rattle.df_top.specs.Works.{Comes, is_disk}
+use Rattle.df_session.specs.Endings.{is_disk}
+use Rattle.df_top.specs.Works.{Comes}
+use Rattle.df_top.specs.declared.mode.Mode.TheVariants.{Workload}
 use Rattle.df_top.proofs.Causes.{open_causes, refused_never}
 use Rattle.df_top.proofs.Runs.{ends_run}
 use Rattle.df_top.proofs.Served.{not_opened}
@@ -27,17 +28,19 @@ returns-in-Ok-clause-works g c = λ left t told whole.
     let new : Outside = record { told = g.D.Disk.told c.work-worked.new.disk; left = left; written = g.W.Sink.written c.tell.new.sink } in
     let clients : c.summary.result.layout.clients ≡ layout.clients = ap (λ (x : Summary). x.layout.clients) c.summary.ensures ∙ ap (λ (l : Layout). l.clients) c.in-Ok.ensures.kept in
     let begins : c.new-generator.result ≡ start c.args.seed c.args.count layout.clients = c.new-generator.ensures ∙ ap (λ (n : ℕ). start c.args.seed c.args.count n) clients in
-    let comes = subst (λ (r : Run). Comes r s (g.D.Disk.told c.open.new.disk) c.work-worked.new.generator c.work-worked.new.replica (g.D.Disk.told c.work-worked.new.disk) c.work-worked.result) begins c.work-worked.ensures.comes in
-    inr (inr (works_through c.args.seed c.args.count layout t old new status s (g.D.Disk.told c.open.new.disk) whole told refl c.in-Ok.ensures.live c.in-Ok.ensures.kept
-    ((subst (λ (o : Option Told). TellsSurvey layout o (Ok s)) told c.in-Ok.ensures.answer) whole) (c.in-Ok.ensures.opened t told) c.work-worked.new.generator c.work-worked.new.replica
-    (ends_run (start c.args.seed c.args.count layout.clients) s (g.D.Disk.told c.open.new.disk) c.work-worked.new.generator c.work-worked.new.replica (g.D.Disk.told c.work-worked.new.disk) (g.W.Sink.written c.args.sink.now) (g.W.Sink.written c.tell.new.sink) status c.work-worked.result comes
-    c.work-worked.ensures.over c.tell.ensures.prints)))
+    let comes = subst (λ (r : Run). Comes r s (g.D.Disk.told c.open.new.disk) c.work-worked.new.generator c.work-worked.new.replica (g.D.Disk.told c.work-worked.new.disk) c.work-worked.result) begins c.work-worked.ensures.comes in (
+      tt,
+      inr (inr (works_through c.args.seed c.args.count layout t old new status s (g.D.Disk.told c.open.new.disk) whole told refl c.in-Ok.ensures.live c.in-Ok.ensures.kept
+          ((subst (λ (o : Option Told). TellsSurvey layout o (Ok s)) told c.in-Ok.ensures.answer) whole) (c.in-Ok.ensures.opened t told) c.work-worked.new.generator c.work-worked.new.replica
+          (ends_run (start c.args.seed c.args.count layout.clients) s (g.D.Disk.told c.open.new.disk) c.work-worked.new.generator c.work-worked.new.replica (g.D.Disk.told c.work-worked.new.disk) (g.W.Sink.written c.args.sink.now) (g.W.Sink.written c.tell.new.sink) status c.work-worked.result comes
+          c.work-worked.ensures.over c.tell.ensures.prints))),
+    )
 
 pub returns-clause-works : goal.returns-clause-works
 returns-clause-works g c = λ left t told whole.
     let old : Outside = record { told = g.D.Disk.told c.args.disk.now; left = left; written = g.W.Sink.written c.args.sink.now } in
     let new : Outside = record { told = g.D.Disk.told c.open.new.disk; left = left; written = g.W.Sink.written c.refuse_file.new.sink } in
-    not_opened (WorksThrough c.args.seed c.args.count c.args.rooms.layout t old new c.refuse_file.result) c.args.rooms.layout t old new c.refuse_file.result c.in-Err.error whole told c.in-Err.ensures.answer refl c.in-Err.ensures.refused (c.in-Err.ensures.stopped t told) c.refuse_file.ensures.prints
+    (tt, not_opened (Workload c.args.seed c.args.count) c.args.rooms.layout t old new c.refuse_file.result c.in-Err.error whole told c.in-Err.ensures.answer refl c.in-Err.ensures.refused (c.in-Err.ensures.stopped t told) c.refuse_file.ensures.prints)
 
 pub returns-in-Ok-clause-causes : goal.returns-in-Ok-clause-causes
 returns-in-Ok-clause-causes g c = λ source.

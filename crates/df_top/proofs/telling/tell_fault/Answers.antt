@@ -1,6 +1,6 @@
 -- The line of a step that is damaged is printed.
 use Rattle.df_top.proofs.WorksOn.{prints_damaged}
-use Rattle.df_top.proofs.working.tell_fault.Goals as goal
+use Rattle.df_top.proofs.telling.tell_fault.Goals as goal
 
 pub returns-in-Damaged-clause-prints : goal.returns-in-Damaged-clause-prints
 returns-in-Damaged-clause-prints g c =

@@ -1,0 +1,20 @@
+-- What a run hears of an answer is what the call came to.
+use Rattle.std.proofs.Common.{subst, sym}
+use Rattle.df_inspect.specs.Answers.{command_of}
+use Rattle.df_workload.specs.declared.outcome.Outcome.{Outcome}
+use Rattle.df_top.proofs.RunCalls.{Call, heard_call}
+use Rattle.df_top.proofs.works.make_call.Goals as goal
+
+pub returns-in-Ok : goal.returns-in-Ok
+returns-in-Ok g c =
+    let s = c.args.replica.now in
+    let t = c.make.new.replica in
+    let old = g.D.Disk.told c.args.disk.now in
+    let new = g.D.Disk.told c.make.new.disk in
+    let call =
+    subst (λ (o : Outcome). Call (command_of c.args.command) c.args.replica.now c.make.new.replica (g.D.Disk.told c.args.disk.now) (g.D.Disk.told c.make.new.disk) o) (sym c.outcome_in.ensures)
+    (heard_call (command_of c.args.command) s t old new c.in-Ok.answer c.in-Ok.ensures.makes) in
+    record { makes = call.makes; runs = call.runs; steps = call.steps; disk = c.in-Ok.ensures.disk }
+
+pub returns-in-Err : goal.returns-in-Err
+returns-in-Err g c = record { makes = c.in-Err.ensures.makes; runs = tt; steps = λ is. tt; disk = c.in-Err.ensures.disk }
