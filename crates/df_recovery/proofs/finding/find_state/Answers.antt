@@ -1,5 +1,6 @@
 -- Each step answers as the theory's step.
-use Rattle.std.proofs.Common.{refl, sym, ap, subst}
+use Rattle.std.proofs.Common.{Bool, refl, sym, ap, subst}
+use Rattle.std.specs.Bool.{OnFalse}
 use Rattle.df_layout.specs.declared.damage.Class.TheVariants.{Stale}
 use Rattle.df_format.specs.SuperRules.{IsSuper}
 use Rattle.df_format.specs.declared.superblock.SuperFields.{SuperFields}
@@ -8,6 +9,7 @@ use Rattle.df_journal.specs.Seen.{class_of}
 use Rattle.df_journal.proofs.Laws.{class_shown}
 use Rattle.df_replies.proofs.Laws.{stored_found}
 use Rattle.df_sessions.specs.Requests.{sessions_of}
+use Rattle.df_stamps.specs.Evidence.{IsComplete}
 use Rattle.df_theory.specs.Sessions.{Tracks}
 use Rattle.df_theory.specs.Units.{Content, CopyPlace, PreparePlace, ReplyPlace}
 use Rattle.df_recovery.specs.Finding.{lowest_of}
@@ -98,7 +100,7 @@ returns-in-None-clause-order c =
     let number = c.replies-stored.ensures image b.content found.tail shows refl refl (sym found.ends.mark) in
     let table = shows_table slots c.args.replies.now in
     let own = c.own_of-own.ensures image table (c.count_all-seen.ensures.own image table shows) in
-    let complete = c.is_lost.ensures.counters c.if-is_lost.false in
+    let complete : IsComplete c.own_of-own.result f.head c.find_tail-tail.result.op = subst (λ (b : Bool). OnFalse b (IsComplete c.own_of-own.result f.head c.find_tail-tail.result.op)) c.if-is_lost.false c.is_lost.ensures.counters in
     not_above (any_shape c.args.layout.now) image f c.args.sessions.now.sessions c.find_tail-tail.new.sessions.sessions c.find_tail-tail.result c.replies-stored.result (subst IsSuper (sym c.fields-content.ensures.value) c.fields-content.ensures.usable.rules) found number c.own_of-own.result own complete
 
 pub returns-in-None-clause-asked : goal.returns-in-None-clause-asked
