@@ -69,6 +69,8 @@ without_rooms (Err refused) = Err refused.1
 pub record AreCopies (told : Option Told) (copies : Copies) : Type 0 where
   -- the choice has these fields
   pub same_fields : copies.found.content ≡ copies.found.chosen.content
+  -- they are of version 1, whatever the disk tells
+  pub version : copies.found.content.version ≡ 1
   -- each slot is what its place shows
   pub slots : ShowsSlots told copies.slots
   -- a sound copy has the content that its place shows

@@ -49,6 +49,7 @@ const VERSION: u32 = 1;
 // are tested.
 fn asked(fields: &SuperFields) -> Result<Super, SuperFault>
     ensures fields { IfOk result (λ content. content ≡ fields.now) }
+    ensures version { IfOk result (λ content. content.version ≡ 1) }
     ensures usable { IfOk result (λ _. fault_asked fields.now ≡ None) }
     ensures fault { IfErr result (λ fault. fault_asked fields.now ≡ Some fault) }
 {
@@ -66,6 +67,7 @@ fn usable(chosen: Chosen) -> Result<Found, OpenError>
     ensures same_fields { IfOk result (λ found. found.content ≡ found.chosen.content) }
     ensures chosen { IfOk result (λ found. found.chosen ≡ chosen) }
     ensures content { IfOk result (λ found. found.content ≡ chosen.content) }
+    ensures version { IfOk result (λ found. found.content.version ≡ 1) }
     ensures usable { IfOk result (λ _. fault_asked chosen.content ≡ None) }
     ensures fault { IfErr result (HasFaultOf chosen.content) }
     ensures told { (told : Option Told) → TellsChoice told (Ok chosen) → TellsFound told result }
@@ -80,6 +82,7 @@ fn usable(chosen: Chosen) -> Result<Found, OpenError>
 /// The superblock that the four places say, or the first reason why the file can't be opened.
 pub fn superblock_of(copies: &[Slot; 4]) -> Result<Found, OpenError>
     ensures same_fields { IfOk result (λ found. found.content ≡ found.chosen.content) }
+    ensures version { IfOk result (λ found. found.content.version ≡ 1) }
     ensures told { (told : Option Told) → ShowsSlots told copies.now → ShowsCopies told copies.now → TellsFound told result }
     ensures refusal { IfErr result IsRefusal }
 {

@@ -68,11 +68,12 @@ module _ (t : Told) (x : Scanned) (is : IsReadOf t x) where
         let base : Checkpoint = base_of x.copies.found.content of.checkpoint.chain of.checkpoint.parts in
         let content : v.checkpoint.content ≡ base.content = one_chosen_law image v.checkpoint.content base.content is_found.chosen read.readable.chosen in
         let tells = subst (λ (file : DataFile). Tells file.layout image x.log.slots) (sym keeps.file) read.tells in
+        let first = read.readable.sound.tests.of.one read.first in
         let here = plan.planned.from (shape s.file) image v (record {
           slots_are = refl;
           op = ap (λ (c : Content). c.op) content ∙ sym (ap (λ (y : Start). y.op) is.start);
-          pin = ap (λ (c : Content). c.pin) content ∙ sym (ap (λ (y : Start). y.head) is.start);
-          boot = ap (λ (c : Content). c.boot) content ∙ sym (ap (λ (y : Start). y.boot) is.start);
+          pin = ap (λ (c : Content). c.pin) content ∙ first.1 ∙ sym (ap (λ (y : Start). y.head) is.start);
+          boot = ap (λ (c : Content). c.boot) content ∙ first.0 ∙ sym (ap (λ (y : Start). y.boot) is.start);
           tells = tells;
           found = is_found;
         }) slot in

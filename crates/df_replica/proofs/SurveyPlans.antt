@@ -31,11 +31,13 @@ if_ok_more P Q (Ok x) more is = more x is
 if_ok_more P Q (Err e) more is = tt
 
 -- what was read makes sense by itself
-pub lawful : (layout : Layout) (told : Option Told) (x : Scanned) → IsReadBehind layout told x → IsLawful x
-lawful layout told x read =
+pub lawful : (layout : Layout) (told : Option Told) (x : Scanned) → IsScan layout told x → IsLawful x
+lawful layout told x scan =
+    let read = scan.behind in
     let cluster : x.log.slots.start.cluster ≡ x.file.cluster = ap (λ (y : Start). y.cluster) read.start ∙ sym read.file.cluster_is in
     record {
       named = read.file.cluster_is;
+      version = scan.copies.version;
       start = read.start;
       slots = subst (λ (l : Layout). AreSlots l x.file.cluster x.log.slots.slots) (sym read.file.layout_is) (subst (λ (n : ℕ). AreSlots layout n x.log.slots.slots) cluster read.tables.rings.is_table);
       places = read.places ∙ ap (λ (l : Layout). l.clients) (sym read.file.layout_is);

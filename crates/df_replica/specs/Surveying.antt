@@ -40,6 +40,8 @@ IsReadOf t scanned = IsOfFile t scanned.file (read_of scanned) (base_scanned sca
 pub record IsLawful (s : Scanned) : Type 0 where
   -- the file has the superblock's cluster
   pub named : s.file.cluster ≡ s.copies.found.content.cluster
+  -- the superblock is of version 1
+  pub version : s.copies.found.content.version ≡ 1
   -- the scan started behind the superblock
   pub start : s.log.slots.start ≡ start_of s.copies.found.content
   -- each slot has units that may stand there

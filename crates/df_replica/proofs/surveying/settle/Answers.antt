@@ -9,7 +9,7 @@ use Rattle.df_replica.proofs.surveying.settle.Goals as goal
 pub surveyed-requires-clause-scanned : goal.surveyed-requires-clause-scanned
 surveyed-requires-clause-scanned c =
     let scan = c.requires.scanned in
-    record { named = scan.named; start = scan.start; slots = scan.slots; places = c.store_replies.ensures.places ∙ c.in-Ok.ensures.places ∙ scan.places; idle = scan.idle }
+    record { named = scan.named; version = scan.version; start = scan.start; slots = scan.slots; places = c.store_replies.ensures.places ∙ c.in-Ok.ensures.places ∙ scan.places; idle = scan.idle }
 
 pub surveyed-requires-clause-tail : goal.surveyed-requires-clause-tail
 surveyed-requires-clause-tail c =

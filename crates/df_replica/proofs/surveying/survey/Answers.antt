@@ -10,7 +10,7 @@ use Rattle.df_replica.proofs.SurveyPlans.{if_ok_more, lawful, survey_planned}
 use Rattle.df_replica.proofs.surveying.survey.Goals as goal
 
 pub settle-requires-clause-scanned : goal.settle-requires-clause-scanned
-settle-requires-clause-scanned g c = lawful c.args.rooms.layout (g.D.Disk.told c.args.disk.now) c.in-Ok.scanned c.in-Ok.ensures.scanned.behind
+settle-requires-clause-scanned g c = lawful c.args.rooms.layout (g.D.Disk.told c.args.disk.now) c.in-Ok.scanned c.in-Ok.ensures.scanned
 
 pub returns-in-Ok-clause-kept : goal.returns-in-Ok-clause-kept
 returns-in-Ok-clause-kept g c =

@@ -1,7 +1,7 @@
 -- The state makes sense by itself: what was found is in its ranges, and the table is one of the file.
 use Rattle.std.proofs.Common.{◌≡◌, ◌-◌, ◌∙◌, ℕ, ap, refl, sym, arith, length, ◌<◌, ◌^◌, subst}
 use Rattle.df_format.specs.SuperRules.{IsUsable}
-use Rattle.df_recovery.proofs.Laws.{waiting_count}
+use Rattle.df_recovery.proofs.Laws.{plain_super, waiting_count}
 use Rattle.df_replica.proofs.surveying.surveyed.Goals as goal
 
 pub invariant_of-result : goal.invariant_of-result
@@ -15,6 +15,7 @@ invariant_of-result c =
         state = record {
           cluster = cluster;
           parent = c.requires.tail.checksum;
+          plain = plain_super c.args.scanned.copies.found.content c.requires.scanned.version usable;
           sequence = usable.rules.sequence;
           root = c.root_fits.ensures;
           order = c.requires.tail.from;

@@ -25,6 +25,7 @@ invariant_of-self c =
       state = record {
         cluster = old.cluster;
         parent = c.requires.sum;
+        plain = old.plain;
         sequence = old.sequence;
         root = old.root;
         order = omega (arith, op, old.order);

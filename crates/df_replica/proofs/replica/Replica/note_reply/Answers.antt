@@ -16,6 +16,7 @@ invariant_of-self c =
       state = record {
         cluster = old.cluster;
         parent = old.parent;
+        plain = old.plain;
         sequence = old.sequence;
         root = old.root;
         order = old.order;
