@@ -1,7 +1,8 @@
 -- What the table decides of a slot is what the theory decides of the image.
-use Rattle.std.proofs.Common.{◌≡◌, ℕ, ◌%◌, ◌<◌, ◌^◌, ◌≤◌, length, List, Option, Some, sym, ◌∙◌, ap, subst}
+use Rattle.std.proofs.Common.{◌≡◌, ◌==◌, inl, inr, ℕ, ◌%◌, ◌<◌, ◌^◌, ◌≤◌, length, List, Option, Some, sym, ◌∙◌, ap, subst, arith}
 use Rattle.std.specs.Prelude.{Result, Ok, Err}
 use Rattle.std.specs.List.{slice_get}
+use Rattle.std.proofs.lemmas.Bool.{cases_eq, cond-true, cond-false, eq-eqb, ne_eqb}
 use Rattle.df_base.proofs.Laws.{length-check_of, AreBytes-check_of}
 use Rattle.df_layout.specs.declared.damage.Class.{Class}
 use Rattle.df_layout.specs.declared.layout.Layout.{Layout}
@@ -88,6 +89,21 @@ taken_op layout cluster s h (body, is) =
 
 pub taken_check : (layout : Layout) (cluster s : ℕ) (h : Header) → IsThere layout cluster (place_in WalPrepares s) (Ok h) → IsCheck h.checksum
 taken_check layout cluster s h (body, is) = unit_check layout cluster (place_in WalPrepares s) (record { header = h; body = body }) is
+
+-- its group ends at its op or later
+group_reaches : (h : Header) → ObeysVersion Prepare h → h.op ≤ (header_of h).group_last
+group_reaches h is = elim (cases_eq h.group_last 0) [
+  | inl none ↦ omega (arith, cond-true (h.group_last == 0) h.op h.group_last (eq-eqb h.group_last 0 none))
+  | inr some ↦ elim is [
+    | inl first ↦ absurd (some first.group_last)
+    | inr second ↦ omega (arith, cond-false (h.group_last == 0) h.op h.group_last (ne_eqb h.group_last 0 some), second.group.ends.0)
+  ]
+]
+
+pub taken_group : (layout : Layout) (cluster s : ℕ) (h : Header) → IsThere layout cluster (place_in WalPrepares s) (Ok h) → h.op ≤ (header_of h).group_last
+taken_group layout cluster s h (body, is) =
+    let in_slot : IsInSlot layout s h = (valid_belongs layout cluster (place_in WalPrepares s) (record { header = h; body = body }) is).belongs in
+    group_reaches h (subst (λ (kind : Kind). ObeysVersion kind h) in_slot.kind is.sealed.rules.version)
 
 -- without a boot it is a group by itself
 pub taken_alone : (layout : Layout) (cluster s : ℕ) (h : Header) → IsThere layout cluster (place_in WalPrepares s) (Ok h) → h.boot ≡ 0 → IsAlone (header_of h)

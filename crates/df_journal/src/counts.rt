@@ -67,13 +67,7 @@ fn own_op(seen: &Result<Header, Class>, boot: u64) -> u64
     ensures { result ≡ own_op boot seen.now }
 {
     match seen {
-        Ok(header) => {
-            if header.boot == boot {
-                header.op
-            } else {
-                0
-            }
-        }
+        Ok(header) => { if header.boot == boot { header.op } else { 0 } }
         Err(_) => 0,
     }
 }

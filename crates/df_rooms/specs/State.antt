@@ -122,9 +122,9 @@ shape file = shape_of file.layout file.cluster file.named (parse_of (layout_of f
 abbrev pub Represents : State → Work → Type 0
 Represents s w = memory s ≡ memory_of (shape s.file) (spelling s.file) w
 
--- the grid of the file with these blocks
+-- the grid of the file with these blocks; no boot is set, so its trailer blocks are of version 1
 abbrev pub grid_with : DataFile → Blocks → GridState
-grid_with file b = record { layout = file.layout; cluster = file.cluster; blocks = b }
+grid_with file b = record { layout = file.layout; cluster = file.cluster; boot = 0; blocks = b }
 
 -- ---- by itself
 

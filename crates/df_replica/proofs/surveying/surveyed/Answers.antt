@@ -34,6 +34,7 @@ invariant_of-result c =
         rooms_fit = c.plan_rooms.ensures.layout;
         grid_fits = c.args.scanned.grid_fits;
         grid_named = c.args.scanned.grid_named;
+        grid_unbooted = c.args.scanned.grid_unbooted;
         trailer_fits = c.args.scanned.trailer_fits;
         scrub_fits = c.cleared-scrub.ensures.layout ∙ c.args.scanned.scrub_fits;
       };
