@@ -19,7 +19,7 @@ pub use Rattle.df_superblock.specs.Events.{update_events}
 pub use Rattle.df_superblock.specs.Steps.{AreStepsOfCopies}
 pub use Rattle.df_grid.specs.Below.{Adds, AreSteps, Block, Grid, HasCause, IsCheck, ObeysRules, block_of, block_written, for_body, format_of, number_in, number_of, own_place, place_in, sum_at}
 pub use Rattle.df_grid.specs.Grid.{IsKnownUnit, IsUnheld}
-pub use Rattle.df_grid.specs.Writes.{first_sum}
+pub use Rattle.df_grid.specs.Writes.{first_sum, version_in}
 pub use Rattle.df_journal.specs.Append.{with_header}
 pub use Rattle.df_journal.specs.Below.{EachMoment, sector_writes}
 pub use Rattle.df_checkpoint.specs.Below.{block_steps, made_events, with_blocks}
