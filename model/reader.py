@@ -36,13 +36,18 @@ def content(copy):
     return copy[:16] + copy[32:]
 
 
+def rank(copy):
+    """A copy's sequence, and then its boot."""
+    return number(copy, 72, 8), number(copy, 152, 8)
+
+
 def choose(sectors):
     """The sector of the lowest-numbered copy that has the chosen content; None without a choice."""
     votes = [sector for place, sector in enumerate(sectors) if is_copy(sector) and number(sector, 16, 4) == place]
     chosen = None
     for one in votes:
         agreed = sum(content(one) == content(other) for other in votes) >= 2
-        if agreed and (chosen is None or number(one, 72, 8) > number(chosen, 72, 8)):
+        if agreed and (chosen is None or rank(one) > rank(chosen)):
             chosen = one
     return chosen
 
@@ -156,12 +161,12 @@ def evidence_of(state):
 
 
 def later_of(state):
-    """The places whose units are of a later checkpoint than the superblock's."""
+    """The places whose units are of a later checkpoint or a later boot than the superblock's."""
     f, found = state["fields"], []
     for ring, zone in (("headers", "WalHeaders"), ("prepares", "WalPrepares"), ("places", "ClientReplies")):
         for index, one in enumerate(state[ring]):
             beyond = ring != "places" and not isinstance(one, str) and one["op"] > f["Op"] + f["Slots"]
-            if beyond or (not isinstance(one, str) and one["checkpoint"] > f["Sequence"]):
+            if beyond or (not isinstance(one, str) and (one["checkpoint"] > f["Sequence"] or one["boot"] > f["Boot"])):
                 found.append((zone, index))
     return found
 

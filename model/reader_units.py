@@ -10,7 +10,7 @@ RESERVED, PREPARE, REPLY, BLOCK, TRAILER = 1, 2, 3, 4, 5
 HEADS = {  # field of a header: offset and bytes
     "cluster": (32, 16), "parent": (48, 16), "client": (64, 16), "op": (80, 8), "request": (88, 8), "mark": (96, 8),
     "checkpoint": (104, 8), "size": (112, 4), "slot": (116, 4), "kind": (120, 1), "block_kind": (121, 1),
-    "version": (122, 2), "boot": (124, 8),
+    "version": (122, 2), "boot": (124, 8), "group": (132, 8), "group_last": (140, 8),
 }
 
 
@@ -64,6 +64,15 @@ def fields_at(raw):
     return h
 
 
+def keeps_version(h):
+    """Version 1 has no boot and no group; version 2 has a boot, but for a reserved header, and a prepare's group of at most eight."""
+    boot, first, last = h["boot"], h["group"], h["group_last"]
+    if h["version"] == 1:
+        return boot == first == last == 0
+    booted = boot == 0 if h["kind"] == RESERVED else 1 <= boot <= TOP
+    return booted and (1 <= first <= h["op"] <= last <= first + 7 if h["kind"] == PREPARE else first == last == 0)
+
+
 def header_of(raw):
     """The fields of a header that passes the tests of its kind, or None, and why it doesn't."""
     h = fields_at(raw)
@@ -71,10 +80,12 @@ def header_of(raw):
     counters = all(1 <= h[name] <= TOP for name in ("op", "request", "checkpoint"))
     if checksum(raw[16:HEADER]) != raw[:16]:
         return None, "the header's checksum is wrong"
-    if h["version"] != 1:
+    if h["version"] not in (1, 2):
         return None, f"the header has version {h['version']}"
-    if h["boot"] or any(raw[132:HEADER]):
+    if any(raw[148:HEADER]):
         return None, "the header has bytes that should be zero"
+    if not keeps_version(h):
+        return None, f"the header's boot or its group breaks a rule of version {h['version']}"
     if h["size"] < HEADER or h["cluster"] == 0 or (kind != BLOCK and h["block_kind"]):
         return None, "the header's size, cluster or block kind is out of range"
     empty = not any(h[name] for name in ("parent", "client", "request", "mark", "checkpoint"))

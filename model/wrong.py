@@ -43,11 +43,13 @@ def seen_copies(sectors: list) -> list:
 
 def choose(copies: list):
     if has("one vote is enough"):
-        return max((c for c in copies if not isinstance(c, str)), key=lambda c: c.sequence, default=None)
+        return max((c for c in copies if not isinstance(c, str)), key=lambda c: (c.sequence, c.boot), default=None)
     if has("the last of equals is chosen"):
         copies = copies[::-1]
     if has("the sequence isn't looked at"):
         return next((c for c in copies if not isinstance(c, str) and copies.count(c) >= 2), None)
+    if has("boots aren't compared"):
+        copies = [c if isinstance(c, str) else c._replace(boot=0) for c in copies]
     if has("three votes are needed"):
         return next((c for c in copies if not isinstance(c, str) and copies.count(c) >= 3), None)
     return superblock.choose(copies)
@@ -100,6 +102,8 @@ class Rules(wrong_grid.Rules):
             return super().behind(rings._replace(replies=[]), content)
         if has("an op beyond the slots is lost"):
             return any(one.fields()["checkpoint"] > content.sequence for one in rings.all())
+        if has("later boots are ignored"):
+            return super().behind(rings, content._replace(boot=form.LIMIT))
         return super().behind(rings, content)
 
     def lost(self, rings, content, head: int) -> bool:

@@ -72,7 +72,9 @@ def changes(random: Random, m: Machine, f: dict, data: bytes) -> tuple:
         ("slot", 0), ("slot", 1), ("slot", 2**32 - 1),
         ("kind", 0), ("kind", 1), ("kind", 2), ("kind", 3), ("kind", 4), ("kind", 5), ("kind", 6), ("kind", 255),
         ("block_kind", 1), ("block_kind", 255), ("version", 0), ("version", 2), ("version", 257), ("boot", 1),
-        ("boot", 2**63), ("zero", bytes(123) + b"\1"), ("zero", b"\1" + bytes(123)), ("parent", bytes(16)),
+        ("boot", 2**63), ("made in a boot", 1), ("made in a boot", 1), ("made in a boot", TOP), ("made in a boot", TOP + 1),
+        ("group", op), ("group", op + 1), ("group_last", op), ("group_last", op + 7), ("group_last", op + 8),
+        ("zero", bytes(107) + b"\1"), ("zero", b"\1" + bytes(107)), ("parent", bytes(16)),
         ("parent", bytes(15) + b"\1"), ("parent", random.choice(m.tail).checksum if m.tail else bytes(16)),
     ))
 
@@ -95,6 +97,9 @@ def sealed(random: Random, m: Machine, f: dict, data: bytes) -> bytes:
     for _ in range(random.choice((0, 0, 1, 1, 1, 1, 2))):
         fits = f["kind"] == PREPARE and random.random() < 0.5
         name, value = misfits(random, m, f) if fits else changes(random, m, f, data)
+        if name == "made in a boot":
+            f = units.in_boot(f, value)
+            continue
         if name == "op and slot":
             f["slot"], name = value % m.layout.slots, "op"
         f[name] = value % 2**64 if isinstance(value, int) and name in ("op", "request") else value

@@ -112,7 +112,7 @@ class Rules(trailer.Trailers):
 
     def behind(self, rings: Rings, content: superblock.Content) -> bool:
         """Whether the file had a later superblock than the chosen one."""
-        later = any(one.fields()["checkpoint"] > content.sequence for one in rings.all())
+        later = any(one.fields()["checkpoint"] > content.sequence or one.fields()["boot"] > content.boot for one in rings.all())
         return later or any(one.op > content.op + content.slots for one in rings.logged())
 
     def lost(self, rings: Rings, content: superblock.Content, head: int) -> bool:

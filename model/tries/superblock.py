@@ -82,11 +82,11 @@ def all_seen(data: bytes) -> list:
 
 
 def choose(copies: list) -> Optional[Content]:
-    """The content of greatest sequence on which two copies agree; of two that tie, the lowest-numbered copy's."""
+    """The content of greatest sequence, and then of greatest boot, on which two copies agree; of two that tie, the lowest-numbered copy's."""
     sound = [copy for copy in copies if isinstance(copy, Content)]
     agreed = [copy for copy in sound if sound.count(copy) >= 2]
     # Of equals, max gives the first.
-    return max(agreed, key=lambda content: content.sequence, default=None)
+    return max(agreed, key=lambda content: (content.sequence, content.boot), default=None)
 
 
 def greatest_trailer(c: Content) -> int:

@@ -9,15 +9,15 @@ from .form import (
 )
 
 # checksum, checksum_body, cluster, parent, client, op, request, mark, checkpoint, size, slot, kind, block kind,
-# version, boot, zero
-FIELDS = struct.Struct("<16s16s16s16s16sQQQQIIBBHQ124s")
+# version, boot, group, group_last, zero
+FIELDS = struct.Struct("<16s16s16s16s16sQQQQIIBBHQQQ108s")
 NAMES = (
-    "checksum checksum_body cluster parent client op request mark checkpoint size slot kind block_kind version boot zero"
+    "checksum checksum_body cluster parent client op request mark checkpoint size slot kind block_kind version boot group group_last zero"
 ).split()
 NOTHING = dict(zip(NAMES, FIELDS.unpack(bytes(HEADER))))
 assert FIELDS.size == HEADER
 RESERVED, PREPARE, REPLY, BLOCK, TRAILER = 1, 2, 3, 4, 5
-EVERY = {"checksum", "checksum_body", "cluster", "size", "kind", "version"}
+EVERY = {"checksum", "checksum_body", "cluster", "size", "kind", "version", "boot", "group", "group_last"}
 # The fields that each kind has beside those that every kind has. All others are zero.
 NAMED = {
     RESERVED: {"slot"},
@@ -51,11 +51,21 @@ def keeps_ranges(f: dict) -> bool:
     return told and f["op"] <= f["mark"] <= LIMIT
 
 
+def keeps_version(f: dict) -> bool:
+    """The rules of a header's version: version 1 has no boot and no group, version 2 a boot, and a prepare's group of at most eight."""
+    boot, first, last = f["boot"], f["group"], f["group_last"]
+    if f["version"] == 1:
+        return boot == first == last == 0
+    booted = boot == 0 if f["kind"] == RESERVED else counter(boot)
+    grouped = 1 <= first <= f["op"] <= last <= first + 7 if f["kind"] == PREPARE else first == last == 0
+    return f["version"] == 2 and booted and grouped
+
+
 @lru_cache(maxsize=4096)
 def decode(header: bytes) -> Optional[dict]:
     """The fields of 256 bytes, where they obey all that needs no layout."""
     f = dict(zip(NAMES, FIELDS.unpack(header)))
-    if f["checksum"] != check(header[16:]) or f["version"] != 1 or f["kind"] not in NAMED:
+    if f["checksum"] != check(header[16:]) or f["kind"] not in NAMED or not keeps_version(f):
         return None
     others = set(NAMES) - EVERY - NAMED[f["kind"]]
     if any(f[name] != NOTHING[name] for name in others):
@@ -163,6 +173,12 @@ def trailer(home: Home, address: int, before: Optional[Unit], index: int, sequen
     linked = {"parent": before.checksum, "request": before.op} if before else {}
     whole = seal(fields_of(home, TRAILER, piece, op=address, mark=index, checkpoint=sequence, **linked), piece)
     return Unit(whole[:HEADER], piece)
+
+
+def in_boot(f: dict, boot: int) -> dict:
+    """The fields of a unit that this boot made, of version 2; a prepare is a group by itself, and a reserved header is of none."""
+    own = f["op"] if f["kind"] == PREPARE else 0
+    return dict(f, version=2, boot=0 if f["kind"] == RESERVED else boot, group=own, group_last=own)
 
 
 def reserved(home: Home, slot: int) -> bytes:
