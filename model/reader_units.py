@@ -64,13 +64,18 @@ def fields_at(raw):
     return h
 
 
-def keeps_version(h):
-    """Version 1 has no boot and no group; version 2 has a boot, but for a reserved header, and a prepare's group of at most eight."""
-    boot, first, last = h["boot"], h["group"], h["group_last"]
-    if h["version"] == 1:
-        return boot == first == last == 0
-    booted = boot == 0 if h["kind"] == RESERVED else 1 <= boot <= TOP
-    return booted and (1 <= first <= h["op"] <= last <= first + 7 if h["kind"] == PREPARE else first == last == 0)
+def fault_of_version(raw, h):
+    """What is wrong with the bytes of a header by its version, if anything is: there are no boots and groups in version 1."""
+    if h["version"] not in (1, 2):
+        return f"the header has version {h['version']}"
+    if any(raw[148:HEADER]) or (h["version"] == 1 and any(raw[124:148])):
+        return "the header has bytes that should be zero"
+    grouped = h["kind"] == PREPARE
+    if h["version"] == 2 and not (h["boot"] == 0 if h["kind"] == RESERVED else 1 <= h["boot"] <= TOP):
+        return f"the header has boot {h['boot']}"
+    if h["version"] == 2 and grouped and not 1 <= h["group"] <= h["op"] <= h["group_last"] <= h["group"] + 7:
+        return f"the header has the group {h['group']} to {h['group_last']}"
+    return "" if grouped or h["group"] == h["group_last"] == 0 else "the header has a group, which its kind hasn't"
 
 
 def header_of(raw):
@@ -80,12 +85,8 @@ def header_of(raw):
     counters = all(1 <= h[name] <= TOP for name in ("op", "request", "checkpoint"))
     if checksum(raw[16:HEADER]) != raw[:16]:
         return None, "the header's checksum is wrong"
-    if h["version"] not in (1, 2):
-        return None, f"the header has version {h['version']}"
-    if any(raw[148:HEADER]):
-        return None, "the header has bytes that should be zero"
-    if not keeps_version(h):
-        return None, f"the header's boot or its group breaks a rule of version {h['version']}"
+    if fault_of_version(raw, h):
+        return None, fault_of_version(raw, h)
     if h["size"] < HEADER or h["cluster"] == 0 or (kind != BLOCK and h["block_kind"]):
         return None, "the header's size, cluster or block kind is out of range"
     empty = not any(h[name] for name in ("parent", "client", "request", "mark", "checkpoint"))

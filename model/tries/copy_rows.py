@@ -1,7 +1,7 @@
-"""Worked rows of superblock copies: which of them are chosen, and which field, or which unit of a later boot, refuses the file."""
+"""Worked rows of superblock copies: which of them are chosen, and which field refuses the file."""
 
-from . import superblock, units
-from .form import CLIENT_REPLIES, SECTOR, SMALL, WAL_HEADERS, WAL_PREPARES, Home, Place, number
+from . import superblock
+from .form import SECTOR, SMALL, Home
 from .superblock import Content
 
 A5 = b"\xa5" * SECTOR
@@ -24,14 +24,7 @@ def four(**fields) -> bytes:
     return copies_of(*[FIRST._replace(**fields)] * 4)
 
 
-def holding(place: Place, kind: int, boot: int) -> bytes:
-    """A new superblock's copies, and at a place a prepare of op 1 or the reply to it, of version 2 and made by this boot."""
-    mark = 1 if kind == units.REPLY else 0
-    fields = units.fields_of(HOME, kind, client=number(5), op=1, request=1, mark=mark, checkpoint=1, slot=place.index)
-    return four().ljust(SMALL.at(place), b"\0") + units.seal(units.in_boot(fields, boot))
-
-
-NEWER, BOOTED = FIRST._replace(sequence=2), FIRST._replace(boot=7)
+NEWER = FIRST._replace(sequence=2)
 BLANK, C = bytes(SECTOR), [FIRST.encode(place) for place in range(4)]
 OTHER = superblock.first(Home(SMALL, 8))
 # The file, the words, the script; the text and the status. In these files nothing stands behind the copies.
@@ -54,11 +47,13 @@ ROWS = (
      "prepare 1 client 1 request 1 mark 0 checkpoint 2 body -\n", 0),
     (copies_of(NEWER, FIRST, FIRST, FIRST), "run", "append 1 1 -", "appended 1\n", 0),
     (copies_of(FIRST._replace(version=9), FIRST, FIRST, FIRST._replace(version=9)), "run", "", "refused Version found 9\n", 4),
-    # Of equal sequences the greater boot, whatever the version.
-    (copies_of(FIRST, FIRST, BOOTED, BOOTED), "run", "", "refused BadField Boot 7\n", 4),
-    (copies_of(FIRST, FIRST, BOOTED._replace(version=9), BOOTED._replace(version=9)), "run", "", "refused Version found 9\n", 4),
-    (copies_of(BOOTED, NEWER, BOOTED, NEWER), "run", "append 1 1 -", "appended 1\n", 0),
     (copies_of(OTHER, FIRST, OTHER, FIRST._replace(boot=1)), "run", "append 1 1 -", "appended 1\n", 0),
+    # Contents of one sequence: the greater boot is chosen, in copies of any version, and then refused.
+    (copies_of(FIRST, FIRST, FIRST._replace(boot=7), FIRST._replace(boot=7)), "run", "", "refused BadField Boot 7\n", 4),
+    (copies_of(FIRST._replace(boot=7), NEWER, FIRST._replace(boot=7), NEWER), "run", "append 1 1 -", "appended 1\n", 0),
+    (copies_of(*[FIRST._replace(version=9, boot=7)] * 2, *[FIRST._replace(boot=6)] * 2), "run", "", "refused Version found 9\n", 4),
+    (copies_of(*[FIRST._replace(version=9, boot=6)] * 2, *[FIRST._replace(boot=7)] * 2), "run", "", "refused BadField Boot 7\n", 4),
+    (copies_of(*[FIRST._replace(version=2)] * 2, *[FIRST._replace(boot=7)] * 2), "run", "", "refused BadField Boot 7\n", 4),
     # Four equal copies with right checksums.
     (four(version=9), "run", "", "refused Version found 9\n", 4),
     (four(version=2), "run", "", "refused Version found 2\n", 4),
@@ -88,13 +83,8 @@ ROWS = (
     (four(trailer_address=64), "run", "", "refused BadField TrailerSize 0\n", 4),
     (four(trailer_address=64, trailer_size=2193), "run", "", "refused BadField TrailerSize 2193\n", 4),
     (four(boot=1), "run", "", "refused BadField Boot 1\n", 4),
-    (four(zero=bytes(3935) + b"\1"), "run", "", "refused BadField Zero 4095\n", 4),
-    (four(zero=b"\0\1" + bytes(3933) + b"\1"), "run", "", "refused BadField Zero 161\n", 4),
-    # A unit of a later boot, in each ring and in a reply slot.
-    (holding(Place(WAL_HEADERS, 1), units.PREPARE, 3), "run", "", "refused Damaged Superblock 0 Stale\n", 4),
-    (holding(Place(WAL_PREPARES, 1), units.PREPARE, 3), "run", "", "refused Damaged Superblock 0 Stale\n", 4),
-    (holding(Place(CLIENT_REPLIES, 0), units.REPLY, 3), "run", "", "refused Damaged Superblock 0 Stale\n", 4),
-    (holding(Place(WAL_PREPARES, 1), units.PREPARE, TOP + 1), "run", "append 1 1 -", "appended 1\n", 0),
+    (four(behind=bytes(3935) + b"\1"), "run", "", "refused BadField Zero 4095\n", 4),
+    (four(behind=b"\0\1" + bytes(3933) + b"\1"), "run", "", "refused BadField Zero 161\n", 4),
     # Two neighbouring tests fail: the first is named.
     (four(slots=17, message_size=1), "run", "", "refused BadField Slots 17\n", 4),
     (four(message_size=1, clients=0), "run", "", "refused BadField MessageSize 1\n", 4),
@@ -110,7 +100,7 @@ ROWS = (
     (four(op=1, head=1, trailer_checksum=b"\1" + bytes(15)), "run", "", "refused BadField TrailerAddress 0\n", 4),
     (four(trailer_checksum=b"\1" + bytes(15), trailer_size=1), "run", "", "refused BadField TrailerChecksum 1\n", 4),
     (four(trailer_size=1, boot=1), "run", "", "refused BadField TrailerSize 1\n", 4),
-    (four(boot=1, zero=b"\1" * 3936), "run", "", "refused BadField Boot 1\n", 4),
+    (four(boot=1, behind=b"\1" * 3936), "run", "", "refused BadField Boot 1\n", 4),
 )
 # What a program says that knows no checkpoints.
 WITHOUT_CHECKPOINTS = (
