@@ -131,7 +131,7 @@ sum_back (Some r) (x ∷ xs) same fits =
 
 pub next_is : (g : GridState) (sequence : ℕ) (piece : List ℕ) (before : Option Reference) → pair_in before ≡ slice_get g.blocks.written 0 → IsCheck (checksum_in before)
     → block_of (next_unit g sequence piece) ≡ next_block g sequence piece (number_of (next_unit g sequence piece).header.checksum)
-next_is g sequence piece before pair fits = ap (λ (n : ℕ). (record { checksum = number_of (next_unit g sequence piece).header.checksum; kind = 0; sequence = sequence; index = length g.blocks.written; before = first_address g.blocks.written; before_checksum = n; body = piece })) (sum_back before g.blocks.written pair fits)
+next_is g sequence piece before pair fits = ap (λ (n : ℕ). (record { checksum = number_of (next_unit g sequence piece).header.checksum; kind = 0; sequence = sequence; index = length g.blocks.written; before = first_address g.blocks.written; before_checksum = n; boot = g.boot; body = piece })) (sum_back before g.blocks.written pair fits)
 
 -- ---- its rules
 

@@ -77,6 +77,7 @@ next_block g sequence piece sum = record {
   index = length g.blocks.written;
   before = first_address g.blocks.written;
   before_checksum = first_sum g.blocks.written;
+  boot = g.boot;
   body = piece;
 }
 

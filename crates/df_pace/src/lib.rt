@@ -3,8 +3,6 @@
 
 mod laws;
 mod pace;
-#[cfg(test)]
-mod tests;
 mod timing;
 mod worked;
 

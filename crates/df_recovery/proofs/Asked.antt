@@ -1,13 +1,11 @@
 -- A superblock that an open takes is of version 1 and can be used, and so back; it has no boot and names nothing.
-use Rattle.std.proofs.Common.{inl, inr, ◌≡◌, ◌≢◌, ◌==◌, ℕ, List, [], length, Some, None, sym, ◌∙◌, arith}
-use Rattle.std.proofs.lemmas.List.{ext_get_or, length-replicate}
+use Rattle.std.proofs.Common.{inl, inr, ◌≡◌, ◌≢◌, ◌==◌, ℕ, Some, None, sym, ◌∙◌, arith}
 use Rattle.std.proofs.lemmas.Bool.{cases_eq, cond-true, cond-false, eq-eqb, ne_eqb}
 use Rattle.df_format.specs.declared.superblock.SuperFields.{SuperFields}
 use Rattle.df_format.specs.declared.superblock.SuperFault.TheVariants.{Version as OtherVersion}
-use Rattle.df_format.specs.Spelling.{no_checksum}
-use Rattle.df_format.specs.Super.{AreNone, no_checksums}
 use Rattle.df_format.specs.SuperRules.{IsFirstSuper, IsSuper, IsUsable, fault_of}
-use Rattle.df_format.proofs.Laws.{faults, no_names}
+use Rattle.df_format.proofs.Laws.{faults}
+use Rattle.df_units.proofs.Laws.{none_are}
 use Rattle.df_rooms.specs.State.{IsPlain}
 use Rattle.df_recovery.specs.Opening.{fault_asked}
 
@@ -24,13 +22,6 @@ asked_none f first is = cond-true (f.version == 1) (fault_of f) (Some (OtherVers
 pub first_rules : (f : SuperFields) → f.version ≡ 1 → IsSuper f → IsFirstSuper f
 first_rules f first is = elim is.version [ inl one ↦ one | inr two ↦ absurd (omega (arith, first, two.version)) ]
 
--- checksums of which none is named are zeros
-none_named : (checks : List (List ℕ)) → length checks ≡ 64 → AreNone checks → checks ≡ no_checksums
-unfolding no_checksums
-none_named checks size none =
-    let count = length-replicate {A = List ℕ} 64 no_checksum in
-    ext_get_or [] checks no_checksums (size ∙ sym count) (λ k inside. none k [] inside ∙ sym (no_names k [] (omega (arith, inside, size, count))))
-
 pub plain_super : (f : SuperFields) → f.version ≡ 1 → IsUsable f → IsPlain f
 plain_super f first is =
     let rules = first_rules f first is.rules in
@@ -38,6 +29,6 @@ plain_super f first is =
       version = first;
       boot = rules.boot;
       head_checksum = rules.named.head;
-      reply_checksums = none_named f.reply_checksums is.fits.reply_checksums.size rules.named.replies;
+      reply_checksums = none_are f.reply_checksums is.fits.reply_checksums.size rules.named.replies;
       first_nonzero = is.rules.zero;
     }

@@ -55,7 +55,7 @@ module _ (file : DataFile) (m : Memory) (sum : ℕ) (before after : Image) where
   block_sum : (kind : ℕ) (body : List ℕ) → LeavesShown file m sum (WriteBlock kind body) before after → IsSum (codec file) m sum (WriteBlock kind body)
   block_sum kind body leaves none =
       let a = next_address m in
-      let b : Block = block_of sum kind body in
+      let b : Block = block_of m.content.boot sum kind body in
       units_have_sums file after (BlockPlace a) (BlockUnit b) leaves.whole
       (put_there (puts_of m sum (WriteBlock kind body)) (BlockPlace a) (BlockUnit b) (leaves.units.block a) (unless_put (first_refusal (block_refusals m kind body)) (BlockPlace a) (BlockUnit b) none))
 
@@ -66,7 +66,7 @@ module _ (file : DataFile) (m : Memory) (sum : ℕ) (before after : Image) where
         let puts : step_puts m m.running sum (CopyPlace 0) ≡ Some (CopyUnit c) =
         ap (λ (o : Option Course). step_puts m o sum (CopyPlace 0)) running ∙ ap (λ (l : List ℕ). trailer_puts m r sum l (CopyPlace 0)) is in
         units_have_sums file after (CopyPlace 0) (CopyUnit c) leaves.whole (put_there (puts_of m sum Advance) (CopyPlace 0) (CopyUnit c) (copies 0) puts)
-        (record { version = of.version; layout = of.layout; cluster = of.cluster; rest = of.rest })
+        (record { version = of.version; boot = of.boot; layout = of.layout; cluster = of.cluster; rest = of.rest })
     left_sum r (a ∷ more) running is =
         let b : Block = trailer_block m r sum in
         let puts : step_puts m m.running sum (BlockPlace a) ≡ Some (BlockUnit b) =

@@ -15,11 +15,15 @@ use Rattle.df_theory.specs.Units.{AnyUnit, BlockPlace, BlockUnit, CopyPlace, Cop
 use Rattle.df_units.specs.Bytes.{unit_at}
 use Rattle.df_units.specs.Meaning.{layout_of, number_of}
 use Rattle.df_model.specs.Supply.{Codec}
-use Rattle.df_replica.specs.Below.{DataFile, spelling}
+use Rattle.df_replica.specs.Below.{DataFile, spelling, version_in}
 
 -- ---- what is made of the words of the theory
 
--- the header of a prepare, in the slot of its op; what follows from the body, and the checksum, come as it is sealed
+-- version 1 names no group
+abbrev pub group_in : (boot op : ℕ) → ℕ
+group_in boot op = if boot == 0 then 0 else op
+
+-- the header of a prepare, in the slot of its op, of version 1 where no boot made it and else of version 2; what follows from the body, and the checksum, come as it is sealed
 abbrev pub prepare_header : DataFile → Units.Header → Header
 prepare_header file h = record (blank_header Prepare file.cluster) {
   parent = spelled 16 h.parent;
@@ -29,6 +33,10 @@ prepare_header file h = record (blank_header Prepare file.cluster) {
   mark = h.mark;
   checkpoint = h.checkpoint;
   slot = h.op % file.layout.slots;
+  version = version_in h.boot;
+  boot = h.boot;
+  group = group_in h.boot h.group;
+  group_last = group_in h.boot h.group_last;
 }
 
 -- of a reply, at a session's place
@@ -41,6 +49,8 @@ reply_header file place h = record (blank_header Reply file.cluster) {
   mark = h.mark;
   checkpoint = h.checkpoint;
   slot = place;
+  version = version_in h.boot;
+  boot = h.boot;
 }
 
 -- of a trailer's block, at an address
@@ -51,13 +61,15 @@ trailer_header file address b = record (blank_header Trailer file.cluster) {
   request = b.before;
   mark = b.index;
   checkpoint = b.sequence;
+  version = version_in b.boot;
+  boot = b.boot;
 }
 
 -- of any block, at an address: one of kind 0 is a trailer's
 abbrev pub block_header : DataFile → (address : ℕ) → Units.Block → Header
-block_header file address b = if b.kind == 0 then trailer_header file address b else record (blank_header Block file.cluster) { op = address; block_kind = b.kind }
+block_header file address b = if b.kind == 0 then trailer_header file address b else record (blank_header Block file.cluster) { op = address; block_kind = b.kind; version = version_in b.boot; boot = b.boot }
 
--- the fields of a superblock of the file
+-- the fields of a superblock of the file, of version 1
 abbrev pub fields_of : DataFile → Units.Content → SuperFields
 fields_of file c = record (blank_super file.layout file.cluster) {
   sequence = c.sequence;
@@ -86,9 +98,10 @@ codec file = record {
 
 -- ---- and so it is with what is shown
 
--- a superblock of the file: of version 1, with its layout and cluster, and zeros behind its fields
+-- a superblock of the file: of version 1, which has no boot, with its layout and cluster, and zeros behind its fields
 pub record IsOfFile (file : DataFile) (c : Units.Content) : Type 0 where
   pub version : c.version ≡ 1
+  pub boot : c.boot ≡ 0
   pub layout : c.layout ≡ layout_of file.layout
   pub cluster : c.cluster ≡ file.cluster
   pub rest : (i : ℕ) → slice_index c.rest i ≡ 0

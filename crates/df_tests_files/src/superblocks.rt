@@ -39,6 +39,11 @@ fn bad_field(field: Field, value: u128) -> Result<Layout, OpenError> {
     Err(OpenError::BadField { field, value })
 }
 
+// A superblock of version 2 with no slots, and one of version 9 with boot 7.
+const BROKEN: [(usize, u8); 2] = [(32, 2), (36, 0)];
+
+const STRANGE: [(usize, u8); 2] = [(32, 9), (152, 7)];
+
 // A copy whose byte at this offset is changed, before its checksum is taken: 32 is the version, 36 the slots, 48 the cluster.
 fn changed(number: u8, at: usize, byte: u8) -> [u8; SECTOR] {
     copy(number, &[(at, byte)])
@@ -74,6 +79,24 @@ fn each_superblock_that_cannot_be_used_is_refused(rt: HostRuntime) -> Result<(),
         (
             [changed(0, 4095, 1), noise, noise, changed(3, 4095, 1)],
             bad_field(Field::Zero, 4095),
+        ),
+        // One of version 2 is refused by its version, sound or not.
+        (
+            [changed(0, 32, 2), noise, zeros, changed(3, 32, 2)],
+            Err(OpenError::Version { found: 2 }),
+        ),
+        (
+            [copy(0, &BROKEN), copy(1, &BROKEN), noise, noise],
+            Err(OpenError::Version { found: 2 }),
+        ),
+        // Of two contents of one sequence that of the later boot is chosen, whatever its version.
+        (
+            [copy(0, &[]), copy(1, &[]), changed(2, 152, 7), changed(3, 152, 7)],
+            bad_field(Field::Boot, 7),
+        ),
+        (
+            [copy(0, &[]), copy(1, &[]), copy(2, &STRANGE), copy(3, &STRANGE)],
+            Err(OpenError::Version { found: 9 }),
         ),
     ];
     for (sectors, answer) in rows {

@@ -44,6 +44,10 @@ pub(crate) fn header(
         slot: 9,
         kind,
         block_kind: 0,
+        version: 1,
+        boot: 0,
+        group: 0,
+        group_last: 0,
     }
 }
 

@@ -10,7 +10,7 @@ use Rattle.df_layout.specs.declared.damage.Mend.{Mend}
 use Rattle.df_top.specs.Reporting.{status_of}
 use Rattle.df_top.specs.Lines.{Turned}
 use Rattle.df_top.specs.Session.{Ended, EndsWith, State, act_of}
-use Rattle.df_replica.specs.Session.{Act}
+use Rattle.df_session.specs.Session.{Act}
 use Rattle.df_top.specs.declared.status.Status.{Status}
 use Rattle.df_top.specs.declared.status.Status.TheVariants.{Done, Refused, DiskFault, Memory, ReadFault, Words, WriteFault}
 

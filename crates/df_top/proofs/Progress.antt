@@ -9,8 +9,8 @@ use Rattle.df_lines.specs.Grammar.{Said}
 use Rattle.df_lines.specs.Script.{Begins, IsRefused}
 use Rattle.df_lines.specs.Text.{after_line}
 use Rattle.df_model.specs.Commands.{Answer, Command}
-use Rattle.df_replica.specs.Below.{State as Replica}
-use Rattle.df_replica.specs.Session.{Act}
+use Rattle.df_session.specs.Below.{State as Replica}
+use Rattle.df_session.specs.Session.{Act}
 use Rattle.df_script_model.specs.Script.{answer_text}
 use Rattle.df_session.proofs.Laws.{calls_join}
 use Rattle.df_top.specs.Lines.{Turned, all_acts, all_answers, all_text, command_of, said_in}

@@ -7,11 +7,11 @@ use Rattle.df_model.specs.Commands.{Command}
 use Rattle.df_model.specs.Memory.{memory_of}
 use Rattle.df_model.specs.Supply.{Codec, Shown, next, result, shown_after}
 use Rattle.df_model.specs.Work.{Work}
-use Rattle.df_replica.specs.Below.{State as Replica, shape}
-use Rattle.df_replica.specs.Opened.{MendsAll}
-use Rattle.df_replica.specs.Reading.{shown_of}
-use Rattle.df_replica.specs.Serving.{Firm, Keeps}
-use Rattle.df_replica.specs.Session.{Act}
+use Rattle.df_session.specs.Below.{State as Replica, shape}
+use Rattle.df_session.specs.Opened.{MendsAll}
+use Rattle.df_session.specs.Reading.{shown_of}
+use Rattle.df_session.specs.Serving.{Firm, Keeps}
+use Rattle.df_session.specs.Session.{Act}
 use Rattle.df_session.specs.Below.{AgreeShown, codec}
 use Rattle.df_script_model.specs.Script.{answer_text, printed}
 use Rattle.df_session.specs.Links.{EndsCalls, command_in}

@@ -21,9 +21,9 @@ use Rattle.df_theory.proofs.Laws.{one_found_law}
 use Rattle.df_units.specs.Bytes.{unit_at}
 use Rattle.df_model.specs.Supply.{Shown}
 use Rattle.df_model.specs.Work.{Work, opened}
-use Rattle.df_replica.specs.Below.{DataFile, IsOpened, State as Replica, shape}
-use Rattle.df_replica.specs.Reading.{shown_of}
-use Rattle.df_replica.proofs.Laws.{one_super, same_file}
+use Rattle.df_session.specs.Below.{DataFile, IsOpened, State as Replica, shape}
+use Rattle.df_session.specs.Reading.{shown_of}
+use Rattle.df_session.proofs.Laws.{one_super, same_file}
 use Rattle.df_session.specs.Below.{AgreeShown}
 use Rattle.df_session.specs.Found.{FoundFile}
 use Rattle.df_top.specs.Lines.{Turned, all_text, printed, said_in}

@@ -5,7 +5,7 @@ use Rattle.df_lines.specs.Grammar.{Said}
 use Rattle.df_lines.specs.Script.{Begins, IsLine}
 use Rattle.df_lines.specs.Text.{after_line, taken}
 use Rattle.df_model.specs.Commands.{Answer}
-use Rattle.df_replica.specs.Session.{Act}
+use Rattle.df_session.specs.Session.{Act}
 use Rattle.df_script_model.specs.Script.{answer_text}
 use Rattle.df_top.specs.Lines.{AreTurned, Turned, all_acts, all_answers, all_text, command_of}
 

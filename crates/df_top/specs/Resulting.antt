@@ -6,8 +6,8 @@ use Rattle.df_theory.specs.View.{View}
 use Rattle.df_units.specs.Bytes.{unit_at}
 use Rattle.df_model.specs.Supply.{Shown}
 use Rattle.df_model.specs.Work.{Work, opened}
-use Rattle.df_replica.specs.Below.{DataFile, shape}
-use Rattle.df_replica.specs.Reading.{shown_of}
+use Rattle.df_session.specs.Below.{DataFile, shape}
+use Rattle.df_session.specs.Reading.{shown_of}
 use Rattle.df_session.specs.Below.{codec}
 use Rattle.df_script_model.specs.Script.{printed}
 use Rattle.df_session.specs.Resulting.{AnswersResult}

@@ -12,8 +12,8 @@ use Rattle.df_units.specs.Bytes.{unit_at}
 use Rattle.df_model.specs.Supply.{Shown}
 use Rattle.df_model.specs.Work.{opened}
 use Rattle.df_model.specs.declared.errors.OpenError.{OpenError}
-use Rattle.df_replica.specs.Below.{IsLayoutShown, Refuses, State as Replica, shape}
-use Rattle.df_replica.specs.Reading.{shown_of}
+use Rattle.df_session.specs.Below.{IsLayoutShown, Refuses, State as Replica, shape}
+use Rattle.df_session.specs.Reading.{shown_of}
 use Rattle.df_session.specs.Below.{AgreeShown}
 use Rattle.df_session.specs.Found.{FoundFile}
 use Rattle.df_session.specs.Links.{events_made}

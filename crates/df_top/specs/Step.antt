@@ -7,7 +7,7 @@ use Rattle.df_lines.specs.Grammar.{Said}
 use Rattle.df_lines.specs.Script.{IsLine}
 use Rattle.df_lines.specs.Text.{after_line, taken}
 use Rattle.df_model.specs.Commands.{Answer, Command}
-use Rattle.df_replica.specs.Below.{State as Replica}
+use Rattle.df_session.specs.Below.{State as Replica}
 use Rattle.df_script_model.specs.Script.{answer_text}
 use Rattle.df_session.specs.Links.{Makes}
 use Rattle.df_top.specs.Lines.{Turned}

@@ -1,6 +1,6 @@
 // A session: the replica that it works with, the memory that serves a script, and how far the script has come.
 use df_lines::LineRoom;
-use df_replica::Replica;
+use df_session::Replica;
 
 /// What a session works with. All of its memory is taken before the first command.
 #[derive(Drop)]

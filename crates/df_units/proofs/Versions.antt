@@ -2,14 +2,15 @@
 use Rattle.std.proofs.Common.{inl, inr, ◌≡◌, ◌≢◌, ◌⊎◌, ◌<◌, ◌≤◌, ◌+◌, ◌-◌, ◌==◌, ℕ, zero, suc, List, [], ◌∷◌, ◌++◌, length, drop, get_or, cond, refl, sym, ◌∙◌, ap, arith}
 use Rattle.std.specs.Prelude.{All, map, slice_index}
 use Rattle.std.proofs.lemmas.Bool.{cond-true, cond-false, cases_eq, cases_lt, eq-eqb, ne_eqb}
-use Rattle.std.proofs.lemmas.List.{get_or-drop, get_or-map, get_or_past, length-drop, length-map}
+use Rattle.std.proofs.lemmas.List.{ext_get_or, get_or-drop, get_or-map, get_or_past, length-drop, length-map, length-replicate}
 use Rattle.df_format.specs.declared.header.Header.{Header}
 use Rattle.df_format.specs.declared.kind.Kind.{Kind}
 use Rattle.df_format.specs.declared.kind.Kind.TheVariants.{Reserved, Prepare, Reply, Block, Trailer}
 use Rattle.df_format.specs.declared.superblock.SuperFields.{SuperFields}
 use Rattle.df_format.specs.Spelling.{IsCheck, no_checksum}
 use Rattle.df_format.specs.Rules.{HasBoot, ObeysVersion}
-use Rattle.df_format.specs.Super.{AreNone}
+use Rattle.df_format.specs.Super.{AreNone, no_checksums}
+use Rattle.df_format.proofs.Laws.{no_names}
 use Rattle.df_theory.specs.Units.{IsAlone}
 use Rattle.df_units.specs.Meaning.{header_of, number_of, number_or}
 use Rattle.df_units.proofs.Numbers.{no_number, one_number}
@@ -97,3 +98,10 @@ checks_same (x ∷ xs) (y ∷ ys) one two size same =
     let first : x ≡ y = one_number x y (one 0 x (omega arith)) (two 0 y (omega arith)) both.0 in
     let rest = checks_same xs ys (λ k past inside. one (suc k) past (omega arith)) (λ k past inside. two (suc k) past (omega arith)) (omega (arith, size)) both.1 in
     λ i. first i ∷ rest i
+
+-- checksums of which none is named are zeros for each place
+pub none_are : (checks : List (List ℕ)) → length checks ≡ 64 → AreNone checks → checks ≡ no_checksums
+unfolding no_checksums
+none_are checks size none =
+    let count = length-replicate {A = List ℕ} 64 no_checksum in
+    ext_get_or [] checks no_checksums (size ∙ sym count) (λ k inside. none k [] inside ∙ sym (no_names k [] (omega (arith, inside, size, count))))

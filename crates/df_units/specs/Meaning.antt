@@ -57,6 +57,7 @@ block_of u = record {
   index = u.header.mark;
   before = u.header.request;
   before_checksum = number_of u.header.parent;
+  boot = u.header.boot;
   body = u.body;
 }
 
