@@ -1,5 +1,5 @@
 -- What an open finds on a disk that may be hurt.
-use Rattle.std.proofs.Common.{◌≡◌, ℕ, Some, ◌∙◌, ap, arith}
+use Rattle.std.proofs.Common.{◌≡◌, Some, ◌∙◌, ap, arith}
 use Rattle.df_disk.specs.Told.{Told}
 use Rattle.df_layout.specs.declared.places.Zone.TheVariants.{ClientReplies, Grid, Superblock, WalPrepares}
 use Rattle.df_theory.specs.Copies.{Agree}

@@ -12,7 +12,7 @@ use Rattle.df_cases.specs.declared.cases.Decision.TheVariants.{Behind, Empty, Lo
 use Rattle.df_theory.specs.Units
 use Rattle.df_theory.specs.Units.{AnyUnit, HeaderPlace, HeaderUnit, Message, PreparePlace, PrepareUnit}
 use Rattle.df_theory.specs.Cases
-use Rattle.df_theory.specs.Cases.{IsNow, SaysOfSlot, decision}
+use Rattle.df_theory.specs.Cases.{SaysOfSlot, decision}
 use Rattle.df_theory.specs.MendLaws.{IsFromSlot, IsSlotHeader, IsTable}
 use Rattle.df_theory.specs.Shape.{Shape, clients, slots}
 use Rattle.df_theory.specs.Tails.{Chain, In}

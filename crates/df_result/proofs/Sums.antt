@@ -1,5 +1,5 @@
 -- Each unit that an image shows has the codec's checksum: what the theory says of it, and its place, are all that its header says.
-use Rattle.std.proofs.Common.{◌≡◌, ◌≢◌, inl, inr, ℕ, ◌<◌, ◌%◌, ◌==◌, Bool, true, false, if◌then◌else◌, List, [], ◌∷◌, ◌++◌, length, Option, Some, None, refl, sym, ◌∙◌, ap, subst, arith}
+use Rattle.std.proofs.Common.{◌≡◌, ◌≢◌, inl, inr, ℕ, ◌<◌, ◌%◌, ◌==◌, Bool, true, false, if◌then◌else◌, List, [], Option, Some, None, refl, sym, ◌∙◌, ap, subst, arith}
 use Rattle.std.proofs.lemmas.Bool.{cond-true, cond-false, eq-eqb, ne_eqb}
 use Rattle.std.proofs.lemmas.Bool.Decides.{nat_tests}
 use Rattle.std.proofs.lemmas.List.{take_all}
@@ -7,7 +7,6 @@ use Rattle.std.proofs.lemmas.Option.{same_Some}
 use Rattle.df_base.specs.Fields.{check_of, spelled}
 use Rattle.df_base.specs.Image.{Image, IsImage}
 use Rattle.df_base.proofs.Laws.{spelled-field_at}
-use Rattle.df_layout.specs.declared.layout.Layout.{Layout}
 use Rattle.df_layout.specs.declared.places.Place.{Place as OfFile}
 use Rattle.df_layout.specs.declared.places.Zone.TheVariants.{WalPrepares, ClientReplies, Grid}
 use Rattle.df_format.specs.declared.header.Header.{Header}
@@ -28,7 +27,7 @@ use Rattle.df_format.specs.Valid.{IsBodyOf, IsUnit}
 use Rattle.df_format.proofs.Laws.{is_here, made_again, shown_belongs, shown_is_unit, was_written}
 use Rattle.df_theory.specs.Units.{AnyUnit, BlockPlace, CopyPlace, HeaderPlace, Place, PreparePlace, ReplyPlace}
 use Rattle.df_units.specs.Bytes.{copy_unit, message_unit, unit_at}
-use Rattle.df_units.specs.Meaning.{block_of, content_of, header_of, message_of, number_of, number_or, unnamed_of}
+use Rattle.df_units.specs.Meaning.{block_of, content_of, message_of, number_of, number_or, unnamed_of}
 use Rattle.df_units.proofs.Laws.{none_are, nothing_else}
 use Rattle.df_replica.specs.Below.{DataFile, version_in}
 use Rattle.df_result.specs.Codec.{HasSum, IsOfFile, UnitsHaveSums, codec, fields_of, group_in, sum_of, trailer_header}

@@ -1,6 +1,6 @@
 -- The checksum that each unit of a file gets, as a function of what it says in the words of the theory and of its place: the header, or the superblock, that has these
 -- words is built and sealed as the maker of a unit does. It is the dictionary of units and bytes, read the other way.
-use Rattle.std.specs.Prelude.{◌≡◌, ◌%◌, ◌==◌, ℕ, if◌then◌else◌, List, Some, None, slice_index}
+use Rattle.std.specs.Prelude.{◌≡◌, ◌%◌, ◌==◌, ℕ, if◌then◌else◌, List, Some, slice_index}
 use Rattle.df_base.specs.Fields.{spelled}
 use Rattle.df_base.specs.Image.{Image, IsImage}
 use Rattle.df_format.specs.declared.header.Header.{Header}
