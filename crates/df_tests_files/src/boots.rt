@@ -36,13 +36,18 @@ fn unit_of(is_prepare: bool) -> [u8; 256] {
     bytes
 }
 
-// Whether a run refuses a small file that shows the unit in this sector, in this slot of it of 256 bytes, and writes nothing.
-fn is_refused(alloc: Global, sector: u64, slot: usize, is_prepare: bool) -> Result<bool, Fail> {
+// Whether a run refuses a small file that shows the unit at the start of this sector, or behind the first header there, and writes
+// nothing.
+fn is_refused(alloc: Global, sector: u64, is_second: bool, is_prepare: bool) -> Result<bool, Fail> {
     let mut disk = small_file(alloc, &[])?;
     let mut bytes = [0u8; SECTOR];
     disk.read(sector, &mut bytes)?;
-    let at = 256 * (slot % 16);
-    bytes[at..at + 256].copy_from_slice(&unit_of(is_prepare));
+    let unit = unit_of(is_prepare);
+    if is_second {
+        bytes[256..512].copy_from_slice(&unit);
+    } else {
+        bytes[..256].copy_from_slice(&unit);
+    }
     disk.write(sector, &bytes)?;
     let events = disk.events();
     let ran = run_script(alloc, &mut disk, b"append 5 1 -\n")?;
@@ -54,9 +59,11 @@ fn is_refused(alloc: Global, sector: u64, slot: usize, is_prepare: bool) -> Resu
 #[test]
 fn a_unit_of_a_later_boot_refuses_the_file(rt: HostRuntime) -> Result<(), Fail> {
     // The header ring begins at sector 4, the ring of prepares at 6 with two sectors a slot, and the reply slots at 70.
-    for (sector, slot, is_prepare) in [(4u64, 1usize, true), (8, 0, true), (70, 0, false)] {
+    for (sector, is_second, is_prepare) in
+        [(4u64, true, true), (8, false, true), (70, false, false)]
+    {
         assert!(rt;
-            is_refused(rt.alloc(), sector, slot, is_prepare)?,
+            is_refused(rt.alloc(), sector, is_second, is_prepare)?,
             "sector {sector}"
         );
     }

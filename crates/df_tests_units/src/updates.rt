@@ -1,5 +1,5 @@
 // The copies of the superblock over disks in memory: updates, reads and repairs, and a disk that loses writes.
-ghost use Rattle.std.specs.Prelude.{◌≡◌};
+ghost use Rattle.std.specs.Prelude.{◌≡◌, ◌<◌};
 
 use crate::super_examples::FIRST;
 use df_base::SECTOR;
