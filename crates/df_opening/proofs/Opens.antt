@@ -107,7 +107,7 @@ kept_on Firm sh spell log v standing by = by.0
 kept_on Whole sh spell log v standing by = (by.0, by.1 standing)
 
 -- a superblock of version 1 names no reply
-names_none : (c : Content) (d : Units.Content) → content_of c ≡ d → d.version ≡ 1 → d.reply_checksums ≡ []
+pub names_none : (c : Content) (d : Units.Content) → content_of c ≡ d → d.version ≡ 1 → d.reply_checksums ≡ []
 names_none c d same first =
     let version : c.fields.version ≡ 1 = ap (λ (x : Units.Content). x.version) same ∙ first in
     ap (λ (x : Units.Content). x.reply_checksums) (sym same) ∙ by_other c.fields (map number_of c.fields.reply_checksums) [] (λ second. omega (arith, second, version))

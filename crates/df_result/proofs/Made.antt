@@ -66,7 +66,7 @@ module _ (file : DataFile) (m : Memory) (sum : ℕ) (before after : Image) where
         let puts : step_puts m m.running sum (CopyPlace 0) ≡ Some (CopyUnit c) =
         ap (λ (o : Option Course). step_puts m o sum (CopyPlace 0)) running ∙ ap (λ (l : List ℕ). trailer_puts m r sum l (CopyPlace 0)) is in
         units_have_sums file after (CopyPlace 0) (CopyUnit c) leaves.whole (put_there (puts_of m sum Advance) (CopyPlace 0) (CopyUnit c) (copies 0) puts)
-        (record { version = of.version; boot = of.boot; layout = of.layout; cluster = of.cluster; rest = of.rest })
+        (record { version = of.version; layout = of.layout; cluster = of.cluster; rest = of.rest })
     left_sum r (a ∷ more) running is =
         let b : Block = trailer_block m r sum in
         let puts : step_puts m m.running sum (BlockPlace a) ≡ Some (BlockUnit b) =

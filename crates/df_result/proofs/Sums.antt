@@ -1,5 +1,6 @@
 -- Each unit that an image shows has the codec's checksum: what the theory says of it, and its place, are all that its header says.
-use Rattle.std.proofs.Common.{◌≡◌, ◌≢◌, inl, inr, ℕ, ◌<◌, ◌%◌, ◌==◌, Bool, true, false, if◌then◌else◌, List, [], Option, Some, None, refl, sym, ◌∙◌, ap, subst, arith}
+use Rattle.std.proofs.Common.{◌≡◌, ◌≢◌, ◌⊎◌, inl, inr, ℕ, suc, ◌<◌, ◌%◌, ◌==◌, Bool, true, false, cond, if◌then◌else◌, List, [], ◌∷◌, length, map, Option, Some, None, refl, sym, ◌∙◌, ap, subst, arith}
+use Rattle.std.specs.Prelude.{All}
 use Rattle.std.proofs.lemmas.Bool.{cond-true, cond-false, eq-eqb, ne_eqb}
 use Rattle.std.proofs.lemmas.Bool.Decides.{nat_tests}
 use Rattle.std.proofs.lemmas.List.{take_all}
@@ -21,14 +22,14 @@ use Rattle.df_format.specs.Message.{Message}
 use Rattle.df_format.specs.Own.{place_in}
 use Rattle.df_format.specs.Rules.{HasBoot, IsSealed, ObeysBlock, ObeysKind, ObeysTrailer, ObeysVersion}
 use Rattle.df_format.specs.Shown
-use Rattle.df_format.specs.Spelling.{IsCheck}
-use Rattle.df_format.specs.Super.{FitsSuper, NamesNone, covered_bytes}
+use Rattle.df_format.specs.Spelling.{IsCheck, no_checksum}
+use Rattle.df_format.specs.Super.{FitsSuper, NamesNone, covered_bytes, no_checksums}
 use Rattle.df_format.specs.Valid.{IsBodyOf, IsUnit}
 use Rattle.df_format.proofs.Laws.{is_here, made_again, shown_belongs, shown_is_unit, was_written}
 use Rattle.df_theory.specs.Units.{AnyUnit, BlockPlace, CopyPlace, HeaderPlace, Place, PreparePlace, ReplyPlace}
 use Rattle.df_units.specs.Bytes.{copy_unit, message_unit, unit_at}
-use Rattle.df_units.specs.Meaning.{block_of, content_of, message_of, number_of, number_or, unnamed_of}
-use Rattle.df_units.proofs.Laws.{none_are, nothing_else}
+use Rattle.df_units.specs.Meaning.{block_of, content_of, message_of, number_of, number_or, pin_checksum_of, reply_checksums_of, unnamed_of}
+use Rattle.df_units.proofs.Laws.{by_other, by_second, none_are, nothing_else}
 use Rattle.df_replica.specs.Below.{DataFile, version_in}
 use Rattle.df_result.specs.Codec.{HasSum, IsOfFile, UnitsHaveSums, codec, fields_of, group_in, sum_of, trailer_header}
 
@@ -65,6 +66,32 @@ group_words h is = elim is [
       let group = second.group in
       (sym (named_group h.boot h.group h.op second.boot.0 group.begins.0), sym (named_group h.boot h.group_last h.op second.boot.0 (omega (arith, group.begins.0, group.begins.1, group.ends.0))))
 ]
+
+-- checksums are the spellings of their numbers
+spelled_numbers : (checks : List (List ℕ)) → All IsCheck checks → checks ≡ map (spelled 16) (map number_of checks)
+spelled_numbers [] each = refl
+spelled_numbers (check ∷ checks) each =
+    let first = spelled_number check (each 0 check (omega arith)) in
+    let rest = spelled_numbers checks (λ k past inside. each (suc k) past (omega arith)) in
+    λ i. first i ∷ rest i
+
+-- what version 2 names is what its words name, and version 1 names nothing
+named_words : (f : SuperFields) → (f.version ≡ 1) ⊎ (f.version ≡ 2) → FitsSuper f → (f.version ≢ 2 → NamesNone f)
+    → (f.head_checksum ≡ cond (f.version == 2) (spelled 16 (number_of (pin_checksum_of f))) no_checksum) × (f.reply_checksums ≡ cond (f.version == 2) (map (spelled 16) (reply_checksums_of f)) no_checksums)
+named_words f (inl first) fits named =
+    let other : f.version ≢ 2 = λ second. omega (arith, first, second) in
+    let none = named other in (
+      none.head ∙ sym (by_other f (spelled 16 (number_of (pin_checksum_of f))) no_checksum other),
+      none_are f.reply_checksums fits.reply_checksums.size none.replies ∙ sym (by_other f (map (spelled 16) (reply_checksums_of f)) no_checksums other),
+    )
+named_words f (inr second) fits named = (
+  spelled_number f.head_checksum fits.head_checksum
+  ∙ ap (λ (check : List ℕ). spelled 16 (number_of check)) (sym (by_second f f.head_checksum f.op_checksum second))
+  ∙ sym (by_second f (spelled 16 (number_of (pin_checksum_of f))) no_checksum second),
+  spelled_numbers f.reply_checksums fits.reply_checksums.each
+  ∙ ap (λ (numbers : List ℕ). map (spelled 16) numbers) (sym (by_second f (map number_of f.reply_checksums) [] second))
+  ∙ sym (by_second f (map (spelled 16) (reply_checksums_of f)) no_checksums second),
+)
 
 -- ---- units of the file
 
@@ -137,14 +164,12 @@ module _ (file : DataFile) (image : Image) (whole : IsImage image) where
       let parts = copy_parts (if_here n (copy_in (image n))) c is in
       (parts.0, (is_here n (copy_in (image n)) parts.0 parts.1).0, parts.2)
 
-  -- its fields are the version's, which names nothing
+  -- its fields are those of its words
   fields_are : (f : SuperFields) → IsOfFile file (content_of (record { checksum = []; fields = f })) → FitsSuper f → (f.version ≢ 2 → NamesNone f) → f ≡ fields_of file (content_of (record { checksum = []; fields = f }))
   fields_are f of fits named =
       let none = nothing_else (unnamed_of f) f.first_nonzero of.rest in
-      let names = named (λ second. omega (arith, second, of.version)) in
-      let replies = none_are f.reply_checksums fits.reply_checksums.size names.replies in
+      let names = named_words f (elim of.version [ inl first ↦ inl first.0 | inr second ↦ inr second ]) fits named in
       λ i. record f {
-        version = of.version i;
         slots = (of.layout i).slots;
         message_size = (of.layout i).message_size;
         clients = (of.layout i).clients;
@@ -153,16 +178,15 @@ module _ (file : DataFile) (image : Image) (whole : IsImage image) where
         cluster = of.cluster i;
         op_checksum = spelled_number f.op_checksum fits.op_checksum i;
         trailer_checksum = spelled_number f.trailer_checksum fits.trailer_checksum i;
-        boot = of.boot i;
-        head_checksum = names.head i;
-        reply_checksums = replies i;
+        head_checksum = names.0 i;
+        reply_checksums = names.1 i;
         first_nonzero = none i;
       }
 
   written_sum : (copy : SuperCopy) → IsWritten copy → IsOfFile file (content_of (record { checksum = copy.checksum; fields = copy.fields }))
       → number_of copy.checksum ≡ (codec file).content (content_of (record { checksum = copy.checksum; fields = copy.fields }))
   written_sum copy is of =
-      let again : IsOfFile file (content_of (record { checksum = []; fields = copy.fields })) = record { version = of.version; boot = of.boot; layout = of.layout; cluster = of.cluster; rest = of.rest } in
+      let again : IsOfFile file (content_of (record { checksum = []; fields = copy.fields })) = record { version = of.version; layout = of.layout; cluster = of.cluster; rest = of.rest } in
       ap number_of (is.checksum ∙ ap (λ (f : SuperFields). check_of (covered_bytes f)) (fields_are copy.fields again is.fits is.named))
 
   content_sum : (n : ℕ) (c : Content) → content_at image n ≡ Some c → IsOfFile file (content_of c) → number_of c.checksum ≡ (codec file).content (content_of c)
