@@ -1,5 +1,5 @@
 -- What is due is done piece by piece, and what was accepted is counted by the head.
-use Rattle.std.proofs.Common.{◌≡◌, ℕ, zero, suc, ◌+◌, ◌-◌, ◌≤◌, ◌&&◌, nat_lt, Bool, true, false, if◌then◌else◌, min, List, [], ◌∷◌, ◌++◌, length, drop, Option, Some, None, Ok, Err, replicate, refl, sym, ◌∙◌, ap, subst, arith, length-append, length-drop}
+use Rattle.std.proofs.Common.{◌≡◌, ◌<◌, ℕ, zero, suc, ◌+◌, ◌-◌, ◌≤◌, ◌&&◌, nat_lt, Bool, true, false, if◌then◌else◌, min, List, [], ◌∷◌, ◌++◌, length, drop, Option, Some, None, Ok, Err, replicate, refl, sym, ◌∙◌, ap, subst, arith, length-append, length-drop}
 use Rattle.std.proofs.lemmas.Bool.Decides.{nat_tests}
 use Rattle.df_theory.specs.Units.{Message, Parts}
 use Rattle.df_theory.specs.Shape.{Shape}
@@ -20,7 +20,7 @@ use Rattle.df_pace.specs.declared.beat.Piece.{Piece}
 use Rattle.df_pace.specs.declared.beat.Piece.TheVariants as piece
 use Rattle.df_pace.specs.declared.pace.Due.{Due}
 use Rattle.df_pace.specs.Loop.{Stand, answer_at, by_loop, by_script, counted, recounted}
-use Rattle.df_pace.specs.Beats.{IsCounted, LineCounts, NothingDue, PieceCounts, PieceDue, WholeDue, command_of, is_begun, rest_due, without}
+use Rattle.df_pace.specs.Beats.{FewerDue, IsCounted, LineCounts, NothingDue, PieceCounts, PieceDue, WholeDue, command_of, is_begun, pieces_left, rest_due, without}
 
 -- ---- what is left
 
@@ -130,6 +130,31 @@ nothing_due sh codec d x none = no_piece sh codec x d.begin d.steps d.scrub none
 
 pub piece_due : PieceDue
 piece_due sh codec d x p is = any_next sh codec x d.begin d.steps d.scrub p is
+
+-- ---- how much is left
+
+above_none : (n : ℕ) → nat_lt 0 n ≡ true → 0 < n
+above_none n is = grind (arith, nat_tests, is)
+
+fewer : (b steps_due scrub_due : Bool) (steps scrub : ℕ) (p : Piece) → (steps_due ≡ true → 0 < steps) → (scrub_due ≡ true → 0 < scrub) → (if b then Option.Some piece.Begin else (if steps_due then Some piece.Step else (if scrub_due then Some piece.Scrub else None))) ≡ Some p
+    → pieces_left (without p (record { begin = b; steps = steps; scrub = scrub })) < pieces_left (record { begin = b; steps = steps; scrub = scrub })
+fewer true steps_due scrub_due steps scrub p some_steps some_scrub is = let same : piece.Begin ≡ p = cc in subst (λ (q : Piece). pieces_left (without q (record { begin = true; steps = steps; scrub = scrub })) < 1 + steps + scrub) same (omega arith)
+fewer false true scrub_due steps scrub p some_steps some_scrub is =
+    let same : piece.Step ≡ p = cc in
+    let some = some_steps refl in
+    subst (λ (q : Piece). pieces_left (without q (record { begin = false; steps = steps; scrub = scrub })) < 0 + steps + scrub) same (omega (arith, some))
+fewer false false true steps scrub p some_steps some_scrub is =
+    let same : piece.Scrub ≡ p = cc in
+    let some = some_scrub refl in
+    subst (λ (q : Piece). pieces_left (without q (record { begin = false; steps = steps; scrub = scrub })) < 0 + steps + scrub) same (omega (arith, some))
+fewer false false false steps scrub p some_steps some_scrub is = absurd (cc)
+
+second_true : (a b : Bool) → (a && b) ≡ true → b ≡ true
+second_true true b is = is
+second_true false b is = absurd (cc)
+
+pub fewer_due : FewerDue
+fewer_due d running p is = fewer d.begin (running && nat_lt 0 d.steps) (nat_lt 0 d.scrub) d.steps d.scrub p (λ both. above_none d.steps (second_true running (nat_lt 0 d.steps) both)) (above_none d.scrub) is
 
 -- ---- what is counted
 

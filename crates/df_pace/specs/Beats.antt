@@ -1,5 +1,5 @@
 -- The loop's work piece by piece: what is next of what is due behind a line, and what is left then.
-use Rattle.std.specs.Prelude.{◌≡◌, ℕ, ◌+◌, ◌-◌, Bool, true, false, ◌&&◌, nat_lt, if◌then◌else◌, min, List, [], ◌∷◌, ◌++◌, replicate, Option, Some, None, Ok}
+use Rattle.std.specs.Prelude.{◌≡◌, ◌<◌, ℕ, ◌+◌, ◌-◌, Bool, true, false, ◌&&◌, nat_lt, if◌then◌else◌, min, List, [], ◌∷◌, ◌++◌, replicate, Option, Some, None, Ok}
 use Rattle.df_theory.specs.Shape.{Shape}
 use Rattle.df_theory.specs.View.{head}
 use Rattle.df_model.specs.Refusals.{is_running, steps_left}
@@ -33,6 +33,14 @@ abbrev pub command_of : Piece → (root : List ℕ) → Command
 command_of piece.Begin root = Begin root
 command_of piece.Step root = Advance
 command_of piece.Scrub root = Scrub
+
+-- no work at all
+abbrev pub idle : Pace
+idle = record { scrub = 0; every = 0; steps = 0 }
+
+-- so many pieces are left at most
+abbrev pub pieces_left : Due → ℕ
+pieces_left d = (if d.begin then 1 else 0) + d.steps + d.scrub
 
 -- ---- where the loop stands, and the head then
 
@@ -76,6 +84,10 @@ abbrev pub PieceDue : Type 0
 PieceDue =
     (sh : Shape) (codec : Codec) (d : Due) (x : Stand) (p : Piece) → next_piece d (runs_at sh codec x) ≡ Some p
     → let c = command_of p x.work.view.checkpoint.parts.root in rest_due sh codec d x ≡ c ∷ rest_due sh codec (without p d) (by_loop sh codec x c)
+
+-- and so fewer pieces are left behind each
+abbrev pub FewerDue : Type 0
+FewerDue = (d : Due) (running : Bool) (p : Piece) → next_piece d running ≡ Some p → pieces_left (without p d) < pieces_left d
 
 -- ---- and counted as it is
 
