@@ -4,8 +4,6 @@
 mod beat;
 mod beside;
 mod pace;
-#[cfg(test)]
-mod tests;
 mod timing;
 mod worked;
 

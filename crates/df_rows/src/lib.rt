@@ -15,8 +15,6 @@ mod printer;
 mod refusal;
 mod row;
 mod table;
-#[cfg(test)]
-mod tests;
 
 pub use answer::Answer;
 pub use bytes::{ROW, RowBytes};

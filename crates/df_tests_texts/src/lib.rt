@@ -1,5 +1,6 @@
 //! Tests of texts, as they are read and printed: the lines of a script, their grammar, and how they are read in pieces, within their
-//! bound and the budget; each line of an answer, a refusal and a report; and the commands that a generated run asks for.
+//! bound and the budget; each line of an answer, a refusal and a report; the commands that a generated run asks for;
+//! and worked tables of objects, and of what work is due beside a script.
 #![tactic(auto)]
 
 #[cfg(test)]
@@ -11,6 +12,8 @@ mod grammar;
 #[cfg(test)]
 mod openings;
 #[cfg(test)]
+mod paces;
+#[cfg(test)]
 mod printed;
 #[cfg(test)]
 mod refusals;
@@ -18,5 +21,7 @@ mod refusals;
 mod reports;
 #[cfg(test)]
 mod scripts;
+#[cfg(test)]
+mod tables;
 #[cfg(test)]
 mod workloads;

@@ -1,10 +1,11 @@
 // Worked tables: what a program that keeps one answers, without a file; a table that is full; and the bytes of rows and commands.
-use crate::{
+use crate::printed::new_sink;
+use df_base::{Failed, MemorySink, OutOfMemory};
+use df_layout::{Layout, Place, Zone};
+use df_rows::{
     Answer, Command, LONGEST_VALUE, Line, ObjectTable, ROW, Row, parse, print_answer,
     print_not_table, rows_in_block,
 };
-use df_base::{Failed, MemorySink, OutOfMemory};
-use df_layout::{Layout, Place, Zone};
 use std::alloc::Global;
 use std::process::Abort;
 use std::test::Fail;
@@ -18,10 +19,6 @@ fn least() -> Layout {
         block_size: 4096,
         blocks: 8,
     }
-}
-
-fn new_sink(alloc: Global) -> MemorySink {
-    MemorySink::new(alloc, Vec::new(alloc))
 }
 
 // Answers a line as a program does that keeps no file, where the next prepare has this op. True where a prepare was made.

@@ -1,5 +1,5 @@
-// The table of what is due.
-use crate::{Due, Pace, due};
+// The table of what work is due beside a script.
+use df_pace::{Due, Pace, due};
 
 #[test]
 fn a_begin_is_due_once_enough_prepares_were_accepted_and_no_checkpoint_runs(rt: HostRuntime) {
