@@ -1,6 +1,7 @@
 -- What the words of the command line ask for.
 use Rattle.std.specs.Prelude.{◌≡◌, ◌⊎◌, ◌<◌, ◌≤◌, ◌^◌, ℕ, List, [], ◌∷◌, ◌++◌, codes, decimal, Option, Some, None}
 use Rattle.df_layout.specs.declared.layout.Layout.{Layout}
+use Rattle.df_pace.specs.Beats.{idle}
 use Rattle.df_pace.specs.declared.pace.Pace.{Pace}
 use Rattle.df_top.specs.declared.mode.Mode.{Mode}
 use Rattle.df_top.specs.declared.mode.Mode.TheVariants.{Format, Run, Recover, Inspect, Scrub, Workload, Paced}
@@ -81,11 +82,15 @@ pub record AsksOfFile (words : List (List ℕ)) : Type 0 where
   pub means : Means words mode
   pub of_file : IsOfFile mode
 
+-- it executes a script, with work of this pace beside it
+abbrev pub Executes : Mode → Pace → Type 0
+Executes Run pace = pace ≡ idle
+Executes (Paced given) pace = pace ≡ given
+Executes mode pace = ⊥
+
 -- it executes a script
 abbrev pub ReadsScript : Mode → Type 0
-ReadsScript Run = Unit {0}
-ReadsScript (Paced pace) = Unit {0}
-ReadsScript mode = ⊥
+ReadsScript mode = (pace : Pace) × Executes mode pace
 
 -- the words ask for a script to be executed
 abbrev pub AsksScript : List (List ℕ) → Type 0
