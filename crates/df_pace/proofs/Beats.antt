@@ -20,7 +20,7 @@ use Rattle.df_pace.specs.declared.beat.Piece.{Piece}
 use Rattle.df_pace.specs.declared.beat.Piece.TheVariants as piece
 use Rattle.df_pace.specs.declared.pace.Due.{Due}
 use Rattle.df_pace.specs.Loop.{Stand, answer_at, by_loop, by_script, counted, recounted}
-use Rattle.df_pace.specs.Beats.{FewerDue, IsCounted, LineCounts, NothingDue, PieceCounts, PieceDue, WholeDue, command_of, is_begun, pieces_left, rest_due, without}
+use Rattle.df_pace.specs.Beats.{FewerDue, IsCounted, LineCounts, NothingDue, PieceCounts, PieceDue, StartsIdle, WholeDue, command_of, is_begun, pieces_left, rest_due, without}
 
 -- ---- what is left
 
@@ -127,6 +127,10 @@ module _ (sh : Shape) (codec : Codec) (x : Stand) where
 
 pub nothing_due : NothingDue
 nothing_due sh codec d x none = no_piece sh codec x d.begin d.steps d.scrub none
+
+pub starts_idle : StartsIdle
+starts_idle last true = refl
+starts_idle last false = refl
 
 pub piece_due : PieceDue
 piece_due sh codec d x p is = any_next sh codec x d.begin d.steps d.scrub p is

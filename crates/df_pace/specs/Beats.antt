@@ -75,9 +75,13 @@ runs_at sh codec x = is_running (course_at sh codec x)
 abbrev pub WholeDue : Type 0
 WholeDue = (sh : Shape) (codec : Codec) (pace : Pace) (x : Stand) → commands_due sh codec pace x ≡ rest_due sh codec (due_at pace x.appended (runs_at sh codec x)) x
 
--- where no piece is next, nothing is left
+-- where no piece is next nothing is left
 abbrev pub NothingDue : Type 0
 NothingDue = (sh : Shape) (codec : Codec) (d : Due) (x : Stand) → next_piece d (runs_at sh codec x) ≡ None → rest_due sh codec d x ≡ []
+
+-- so it is at an open
+abbrev pub StartsIdle : Type 0
+StartsIdle = (last : ℕ) (running : Bool) → next_piece (started last).due running ≡ None
 
 -- else its command comes first, and then what is left behind it
 abbrev pub PieceDue : Type 0

@@ -1,4 +1,4 @@
-use Rattle.df_pace.proofs.Beats.{fewer_due, line_counts, nothing_due, piece_counts, piece_due, whole_due}
+use Rattle.df_pace.proofs.Beats.{fewer_due, line_counts, nothing_due, piece_counts, piece_due, starts_idle, whole_due}
 use Rattle.df_pace.proofs.beside.work_is_done_piece_by_piece.Goals as goal
 
 pub returns-clause-whole : goal.returns-clause-whole
@@ -18,3 +18,6 @@ returns-clause-counts c = piece_counts
 
 pub returns-clause-fewer : goal.returns-clause-fewer
 returns-clause-fewer c = fewer_due
+
+pub returns-clause-starts : goal.returns-clause-starts
+returns-clause-starts c = starts_idle

@@ -1,0 +1,72 @@
+-- What a piece of the loop's work comes to, by its answer.
+use Rattle.std.proofs.Common.{◌≡◌, ◌<◌, ℕ, Bool, true, false, if◌then◌else◌, List, Option, Some, None, Result, Ok, Err, inl, inr, refl, sym, ◌∙◌, ap, subst}
+use Rattle.df_base.specs.Causes.{IsBlamed, Rose}
+use Rattle.df_disk.specs.Told.{Told}
+use Rattle.df_model.specs.Commands.{Answer as Said, Command}
+use Rattle.df_pace.specs.Beats.{behind_piece, command_of, is_begun, next_piece, pieces_left}
+use Rattle.df_pace.specs.declared.beat.Beat.{Beat}
+use Rattle.df_pace.specs.declared.beat.Piece.{Piece}
+use Rattle.df_pace.specs.declared.pace.Pace.{Pace}
+use Rattle.df_pace.proofs.Laws.{fewer_due}
+use Rattle.df_replica.specs.Below.{State as Replica}
+use Rattle.df_script_model.specs.Texts.{damaged_text}
+use Rattle.df_session.specs.Endings.{is_disk}
+use Rattle.df_session.specs.Links.{Makes}
+use Rattle.df_session.specs.declared.hearing.Fault.{Fault}
+use Rattle.df_session.specs.declared.hearing.Fault.TheVariants.{Disk, Damaged}
+use Rattle.df_top.specs.Lines.{ByLoop}
+use Rattle.df_top.specs.Outside.{Blames, PrintsLine}
+use Rattle.df_top.specs.Pacing.{IsNext, runs}
+use Rattle.df_top.specs.Refusing.{PrintsFault}
+use Rattle.df_top.specs.Session.{IsDamagedLine, State}
+use Rattle.df_top.specs.Step.{Passes, Turns}
+use Rattle.df_top.specs.Turning.{BlamesIfEnds, DoesPiece, OnGoing}
+use Rattle.df_top.specs.declared.turns.Turn.{Turn}
+use Rattle.df_top.specs.declared.turns.Turn.TheVariants.{GoesOn, Ends}
+use Rattle.df_top.specs.declared.status.Status.{Status}
+use Rattle.df_top.specs.declared.status.Status.TheVariants.{Done, Found, Words, Script, Refused, DiskFault, ReadFault, WriteFault, Memory}
+use Rattle.df_top.proofs.Answered.{damaged_line, disk_rose, disk_same}
+use Rattle.df_top.proofs.Progress.{ends_damaged, ends_damaged_fault, ends_disk, works_on}
+
+-- ---- a piece that ends the session
+
+module _ (p : Piece) (command : Command) (s t : Replica) (old new : Option Told) (written took : Option (List ℕ)) (b c : Beat) (before now : ℕ) where
+  abbrev pub Comes : Turn → Type 0
+  Comes turn = Passes p command s t old new written took b c turn × BlamesIfEnds DiskFault before now turn
+
+  line_passes : (line : List ℕ) (status : Status) → Makes command s t old new None → (IsDamagedLine command new line) → now ≡ before → PrintsLine line Refused written took status → Comes (Ends status)
+  line_passes line status makes damaged same (inl printed) = subst (λ (q : Status). Comes (Ends q)) (sym printed.0) ((line, makes, damaged, printed.1), disk_same before now (Ends Refused) same (λ no. cc))
+  line_passes line status makes damaged same (inr printed) = subst (λ (q : Status). Comes (Ends q)) (sym printed.0) ((line, makes, damaged, printed.1), disk_same before now (Ends WriteFault) same (λ no. cc))
+
+  -- the disk failed in it, or its step is damaged, and the line that says so was printed
+  pub fault_passes : (fault : Fault) (status : Status) → DoesPiece command s t old new (Err fault) → IsBlamed {T = Bool} is_disk before now (Err fault) → PrintsFault fault written took status → Comes (Ends status)
+  fault_passes Disk status does blamed printed = subst (λ (q : Status). Comes (Ends q)) (sym printed.0) ((does.0, printed.1), disk_rose before now (Ends DiskFault) refl blamed.1)
+  fault_passes (Damaged place class) status does same printed = line_passes (damaged_text place class) status does.0 (damaged_line command new place class does.1) same printed
+
+-- ---- what it does to a session
+
+module _ (pace : Pace) (bound : ℕ) (old new : State) (p : Piece) (text : new.text ≡ old.text) (budget : new.budget ≡ old.budget) (lines : new.lines ≡ old.lines) (due : next_piece old.beat.due (runs old.replica) ≡ Some p) where
+  abbrev command : Command
+  command = command_of p old.replica.root
+
+  next : (c : Command) → c ≡ command → IsNext old.beat old.replica (ByLoop p) c
+  next c is = (is, due)
+
+  pub passes_turns : (turn : Turn) → Passes p command old.replica new.replica old.outside.told new.outside.told old.outside.written new.outside.written old.beat new.beat turn → Turns pace bound old new turn
+  passes_turns GoesOn did = works_on pace bound old new p text budget due did.0 did.1 did.2 lines did.3
+  passes_turns (Ends DiskFault) did = ends_disk pace bound old new (ByLoop p) command (text, budget) next did
+  passes_turns (Ends Refused) did = ends_damaged pace bound old new (ByLoop p) command (text, budget) next did
+  passes_turns (Ends WriteFault) did = ends_damaged_fault pace bound old new (ByLoop p) command (text, budget) next did
+  passes_turns (Ends Done) did = absurd did
+  passes_turns (Ends Found) did = absurd did
+  passes_turns (Ends Words) did = absurd did
+  passes_turns (Ends Script) did = absurd did
+  passes_turns (Ends ReadFault) did = absurd did
+  passes_turns (Ends Memory) did = absurd did
+
+-- ---- and to what is left
+
+pub fewer_behind : (p : Piece) (command : Command) (s t : Replica) (old new : Option Told) (written took : Option (List ℕ)) (b c : Beat) (turn : Turn) → next_piece b.due (runs s) ≡ Some p → Passes p command s t old new written took b c turn
+    → OnGoing turn (pieces_left c.due < pieces_left b.due)
+fewer_behind p command s t old new written took b c GoesOn due did = subst (λ (x : Beat). pieces_left x.due < pieces_left b.due) (sym did.3) (fewer_due b.due (runs s) p due)
+fewer_behind p command s t old new written took b c (Ends status) due did = tt
