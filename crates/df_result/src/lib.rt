@@ -7,3 +7,6 @@ mod checksums;
 
 pub use calls::{a_call_answers_the_result, what_agrees_is_not_told_apart};
 pub use checksums::units_have_their_checksums;
+pub use df_replica::{
+    FormatError, OpenError, Replica, Rooms, Scrubbed, Surveyed, Verdict, format, probe, survey,
+};

@@ -9,12 +9,12 @@ use Rattle.df_disk.specs.Adds.{after_all}
 use Rattle.df_disk.proofs.Laws.{after_append}
 use Rattle.df_model.specs.Commands.{Answer}
 use Rattle.df_model.specs.Work.{Work}
-use Rattle.df_replica.specs.Below.{DataFile, State as Replica}
-use Rattle.df_replica.specs.Serving.{Grade, Keeps, next}
-use Rattle.df_replica.specs.Session.{Act, EachIsMidway, IsMidway, work_after}
+use Rattle.df_result.specs.Below.{DataFile, State as Replica}
+use Rattle.df_result.specs.Serving.{Grade, Keeps, next}
+use Rattle.df_result.specs.Session.{Act, EachIsMidway, IsMidway, work_after}
 use Rattle.df_session.specs.Links.{AreCalls, Calls, CallsMade, EndsCalls, events_of, events_to, list_of}
 use Rattle.df_session.specs.Acknowledging.{HadAnswers, HadReturned, IsUntil, KeepsAnswered}
-use Rattle.df_replica.proofs.Laws.{fault_stops_them}
+use Rattle.df_result.proofs.Laws.{fault_stops_them}
 use Rattle.df_session.proofs.Kept.{all_served}
 
 module _ (file : DataFile) (g : Grade) where

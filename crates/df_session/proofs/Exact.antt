@@ -25,14 +25,14 @@ use Rattle.df_model.specs.declared.errors.ReplyError.{ReplyError}
 use Rattle.df_model.specs.declared.errors.ReplyError.TheVariants as reply
 use Rattle.df_model.specs.declared.errors.StepError.{StepError}
 use Rattle.df_model.specs.declared.errors.StepError.TheVariants as step
-use Rattle.df_replica.specs.Answering.{Serves, begin_answer, release_answer}
-use Rattle.df_replica.specs.Appending.{IsAppend, append_events, next_unit}
-use Rattle.df_replica.specs.Beginning.{IsBegin}
-use Rattle.df_replica.specs.Below.{RunningState, State as Replica}
-use Rattle.df_replica.specs.Blocks.{IsRelease, IsWriteBlock, block_events, next_block}
-use Rattle.df_replica.specs.Opened.{ToldBy}
-use Rattle.df_replica.specs.Replying.{IsReply, next_reply, reply_events}
-use Rattle.df_replica.specs.Stepping.{IsStep, OfRunning, Tells, block_events as piece_events, last_events, made_by, step_events}
+use Rattle.df_result.specs.Answering.{Serves, begin_answer, release_answer}
+use Rattle.df_result.specs.Appending.{IsAppend, append_events, next_unit}
+use Rattle.df_result.specs.Beginning.{IsBegin}
+use Rattle.df_result.specs.Below.{RunningState, State as Replica}
+use Rattle.df_result.specs.Blocks.{IsRelease, IsWriteBlock, block_events, next_block}
+use Rattle.df_result.specs.Opened.{ToldBy}
+use Rattle.df_result.specs.Replying.{IsReply, next_reply, reply_events}
+use Rattle.df_result.specs.Stepping.{IsStep, OfRunning, Tells, block_events as piece_events, last_events, made_by, step_events}
 use Rattle.df_units.specs.Meaning.{number_of}
 use Rattle.df_model.specs.Faults.{is_append_fault, is_block_fault, is_reply_fault, is_step_fault}
 use Rattle.df_session.specs.Calls.{IsExact, LendsNothing, blames, is_fault, machine_answer}

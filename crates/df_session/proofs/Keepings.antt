@@ -4,9 +4,9 @@ use Rattle.df_base.specs.Log.{Sync}
 use Rattle.df_disk.specs.Told.{did}
 use Rattle.df_units.specs.Bytes.{unit_at}
 use Rattle.df_model.specs.Work.{opened}
-use Rattle.df_replica.specs.Below.{shape, told_after}
-use Rattle.df_replica.specs.Serving.{Firm}
-use Rattle.df_replica.proofs.Laws.{found_keeps}
+use Rattle.df_result.specs.Below.{shape, told_after}
+use Rattle.df_result.specs.Serving.{Firm}
+use Rattle.df_result.proofs.Laws.{found_keeps}
 use Rattle.df_session.specs.Laws.{CallsOnOpenFileKeepIt, made_on}
 use Rattle.df_session.proofs.Acknowledged.{keeps_answered}
 use Rattle.df_session.proofs.Kept.{answers_alone, ends_add, keeps_over, opened_over}

@@ -9,13 +9,13 @@ use Rattle.df_model.specs.Commands.{Answer}
 use Rattle.df_model.specs.Memory.{Memory, memory_of}
 use Rattle.df_model.specs.Supply.{Shown, next, result, shown_after}
 use Rattle.df_model.specs.Work.{Work}
-use Rattle.df_replica.specs.Below.{DataFile, State as Replica, shape, told_after}
-use Rattle.df_replica.specs.Leaving.{IsReadPlace, SparesReads}
-use Rattle.df_replica.specs.Opened.{MendsAll}
-use Rattle.df_replica.specs.Reading.{shown_of}
-use Rattle.df_replica.specs.Serving.{Firm, IsCall, Keeps}
-use Rattle.df_replica.specs.Session.{Act}
-use Rattle.df_replica.proofs.Laws.{added_is_told, shown_after as shown_then}
+use Rattle.df_result.specs.Below.{DataFile, State as Replica, shape, told_after}
+use Rattle.df_result.specs.Leaving.{IsReadPlace, SparesReads}
+use Rattle.df_result.specs.Opened.{MendsAll}
+use Rattle.df_result.specs.Reading.{shown_of}
+use Rattle.df_result.specs.Serving.{Firm, IsCall, Keeps}
+use Rattle.df_result.specs.Session.{Act}
+use Rattle.df_result.proofs.Laws.{added_is_told, shown_after as shown_then}
 use Rattle.df_result.specs.Agreeing.{AgreeShown}
 use Rattle.df_result.specs.Calls.{IsResult}
 use Rattle.df_result.specs.Codec.{codec}

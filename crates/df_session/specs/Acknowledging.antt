@@ -6,9 +6,9 @@ use Rattle.df_disk.specs.Told.{Told}
 use Rattle.df_disk.specs.Adds.{after_all}
 use Rattle.df_model.specs.Commands.{Answer}
 use Rattle.df_model.specs.Work.{Work}
-use Rattle.df_replica.specs.Below.{DataFile, State as Replica}
-use Rattle.df_replica.specs.Serving.{Grade}
-use Rattle.df_replica.specs.Session.{Act, IsMidway, work_after}
+use Rattle.df_result.specs.Below.{DataFile, State as Replica}
+use Rattle.df_result.specs.Serving.{Grade}
+use Rattle.df_result.specs.Session.{Act, IsMidway, work_after}
 use Rattle.df_session.specs.Links.{AreCalls, CallsMade, EndsCalls, events_made, list_of}
 
 -- ---- what was answered by a moment, of the told log or of another base

@@ -3,8 +3,8 @@ use Rattle.std.specs.Prelude.{[], Option, Some, None, refl}
 use Rattle.df_base.specs.Log.{Sync}
 use Rattle.df_disk.specs.Told.{Told, did}
 use Rattle.df_layout.specs.declared.layout.Layout.{Layout}
-use Rattle.df_replica.specs.Below.{IsOpened, State as Replica}
-use Rattle.df_replica.specs.Opened.{Mends}
+use Rattle.df_result.specs.Below.{IsOpened, State as Replica}
+use Rattle.df_result.specs.Opened.{Mends}
 use Rattle.df_session.specs.Links.{CallsMade}
 
 -- The file that the disk shows was found, with rooms of this layout. Between the barrier of its open and whatever is done then is its mending alone, which leaves each place that a

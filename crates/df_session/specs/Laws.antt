@@ -9,12 +9,12 @@ use Rattle.df_theory.specs.View.{View}
 use Rattle.df_units.specs.Bytes.{unit_at}
 use Rattle.df_model.specs.Commands.{Answer}
 use Rattle.df_model.specs.Supply.{Shown}
-use Rattle.df_replica.specs.Below.{IsOpened, State as Replica, shape, told_after}
-use Rattle.df_replica.specs.Following.{MayOpen}
-use Rattle.df_replica.specs.Opened.{Mends, MendsAll, first_state}
-use Rattle.df_replica.specs.Reading.{shown_of}
-use Rattle.df_replica.specs.Serving.{Grade, IsKept, StandsFor}
-use Rattle.df_replica.specs.Session.{Act, answers_of}
+use Rattle.df_result.specs.Below.{IsOpened, State as Replica, shape, told_after}
+use Rattle.df_result.specs.Following.{MayOpen}
+use Rattle.df_result.specs.Opened.{Mends, MendsAll, first_state}
+use Rattle.df_result.specs.Reading.{shown_of}
+use Rattle.df_result.specs.Serving.{Grade, IsKept, StandsFor}
+use Rattle.df_result.specs.Session.{Act, answers_of}
 use Rattle.df_result.specs.Agreeing.{AgreeShown}
 use Rattle.df_session.specs.Acknowledging.{KeepsAnswered}
 use Rattle.df_session.specs.Keeping.{KeepsFile, over}

@@ -3,10 +3,10 @@ use Rattle.std.specs.Prelude.{◌≡◌, List, [], ◌∷◌, ◌++◌, Option, 
 use Rattle.df_base.specs.Log.{Event}
 use Rattle.df_disk.specs.Told.{Told}
 use Rattle.df_model.specs.Commands.{Answer, Command}
-use Rattle.df_replica.specs.Below.{State as Replica}
-use Rattle.df_replica.specs.Opened.{ToldBy}
-use Rattle.df_replica.specs.Serving.{IsCall}
-use Rattle.df_replica.specs.Session.{Act}
+use Rattle.df_result.specs.Below.{State as Replica}
+use Rattle.df_result.specs.Opened.{ToldBy}
+use Rattle.df_result.specs.Serving.{IsCall}
+use Rattle.df_result.specs.Session.{Act}
 
 abbrev pub command_in : Act → Command
 command_in a = a.command

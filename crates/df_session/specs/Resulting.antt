@@ -3,8 +3,8 @@ use Rattle.std.specs.Prelude.{◌≡◌, List, map}
 use Rattle.df_model.specs.Commands.{Answer}
 use Rattle.df_model.specs.Supply.{Shown, result}
 use Rattle.df_model.specs.Work.{Work}
-use Rattle.df_replica.specs.Below.{DataFile, shape}
-use Rattle.df_replica.specs.Session.{Act}
+use Rattle.df_result.specs.Below.{DataFile, shape}
+use Rattle.df_result.specs.Session.{Act}
 use Rattle.df_result.specs.Codec.{codec}
 use Rattle.df_session.specs.Links.{command_in}
 

@@ -6,5 +6,8 @@ mod calls;
 mod hearing;
 mod keeping;
 
+pub use df_result::{
+    FormatError, OpenError, Replica, Rooms, Scrubbed, Surveyed, Verdict, format, probe, survey,
+};
 pub use hearing::{Fault, hear, make};
 pub use keeping::calls_on_an_open_file_keep_it;

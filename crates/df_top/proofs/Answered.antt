@@ -7,7 +7,7 @@ use Rattle.df_layout.specs.declared.damage.Class.{Class}
 use Rattle.df_layout.specs.declared.places.Place.{Place}
 use Rattle.df_model.specs.Commands.{Answer, Command}
 use Rattle.df_model.specs.declared.commands.Answer.{Answer as Called}
-use Rattle.df_replica.specs.Below.{State as Replica}
+use Rattle.df_session.specs.Below.{State as Replica}
 use Rattle.df_script_model.specs.Script.{answer_text}
 use Rattle.df_script_model.specs.Texts.{damaged_text}
 use Rattle.df_session.specs.Endings.{IsDamaged, MakesTo, is_disk}

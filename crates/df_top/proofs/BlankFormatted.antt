@@ -3,8 +3,8 @@ use Rattle.std.proofs.Common.{◌≡◌, ◌<◌, inl, inr, ℕ, true, false, So
 use Rattle.df_disk.specs.Told.{Told}
 use Rattle.df_model.specs.declared.errors.FormatError.{FormatError}
 use Rattle.df_model.specs.declared.errors.FormatError.TheVariants as formats
-use Rattle.df_replica.specs.Below.{IsUnformatted}
-use Rattle.df_replica.specs.Formatting.{IsFirstWritten}
+use Rattle.df_session.specs.Below.{IsUnformatted}
+use Rattle.df_session.specs.Formatting.{IsFirstWritten}
 use Rattle.df_top.specs.Completeness.{BlankIsFormatted}
 use Rattle.df_top.specs.Formats.{RefusesFormat}
 use Rattle.df_top.specs.declared.status.Status.TheVariants.{Done, Found, Words, Script, Refused, DiskFault, ReadFault, WriteFault, Memory}

@@ -15,11 +15,11 @@ use Rattle.df_model.specs.declared.commands.Answer.TheVariants as answers
 use Rattle.df_model.specs.declared.reading.ReadError.{ReadError}
 use Rattle.df_model.specs.declared.reading.ReadError.TheVariants as read
 use Rattle.df_model.specs.Faults.{is_read_fault}
-use Rattle.df_replica.specs.Below.{State as Replica}
-use Rattle.df_replica.specs.Answering.{GivesBlock, ServesBlockRead, answer_of}
-use Rattle.df_replica.specs.BlockReads.{IsBlockFound, block_found, what_block}
-use Rattle.df_replica.specs.Serving.{IsCall}
-use Rattle.df_replica.specs.Stopping.{left_by}
+use Rattle.df_session.specs.Below.{State as Replica}
+use Rattle.df_session.specs.Answering.{GivesBlock, ServesBlockRead, answer_of}
+use Rattle.df_session.specs.BlockReads.{IsBlockFound, block_found, what_block}
+use Rattle.df_session.specs.Serving.{IsCall}
+use Rattle.df_session.specs.Stopping.{left_by}
 use Rattle.df_script_model.specs.Texts.{block_text}
 use Rattle.df_session.specs.Links.{Makes}
 use Rattle.df_session.specs.Endings.{heard}

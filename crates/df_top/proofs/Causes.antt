@@ -11,7 +11,7 @@ use Rattle.df_top.specs.Reporting.{status_of}
 use Rattle.df_top.specs.Lines.{Turned, act_of}
 use Rattle.df_top.specs.Session.{Ended, EndsWith, State}
 use Rattle.df_pace.specs.declared.pace.Pace.{Pace}
-use Rattle.df_replica.specs.Session.{Act}
+use Rattle.df_session.specs.Session.{Act}
 use Rattle.df_top.specs.declared.status.Status.{Status}
 use Rattle.df_top.specs.declared.status.Status.TheVariants.{Done, Refused, DiskFault, Memory, ReadFault, Words, WriteFault}
 

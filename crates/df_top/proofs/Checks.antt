@@ -11,7 +11,7 @@ use Rattle.df_model.specs.declared.answers.Scrubbed.TheVariants.{Checked, TourEn
 use Rattle.df_model.specs.declared.answers.Verdict.{Verdict}
 use Rattle.df_model.specs.declared.answers.Verdict.TheVariants.{Sound, Failing}
 use Rattle.df_model.proofs.Laws.{Rise, above, entries_rise, is_next}
-use Rattle.df_replica.specs.Below.{IsStep, IsVerdict, ScrubState, after_step, left_in, with_check, failing_among, State as Replica, grid_with, memory}
+use Rattle.df_session.specs.Below.{IsStep, IsVerdict, ScrubState, after_step, left_in, with_check, failing_among, State as Replica, grid_with, memory}
 
 -- ---- the referenced blocks stand in order of address
 

@@ -7,13 +7,13 @@ use Rattle.df_disk.proofs.Laws.{goes_told}
 use Rattle.df_layout.specs.declared.layout.Layout.{Layout}
 use Rattle.df_model.specs.Commands.{Answer}
 use Rattle.df_model.specs.Work.{Work, opened}
-use Rattle.df_replica.specs.Below.{IsOpened, FindsHad, IsNeedless, RefusesHurt, MayBeHurt, OpensAsLeft, DataFile, State as Replica, shape}
-use Rattle.df_replica.specs.Lending.{GivesOwn}
-use Rattle.df_replica.specs.Opened.{ToldBy}
-use Rattle.df_replica.specs.Serving.{Firm, Keeps, next}
-use Rattle.df_replica.specs.Session.{Act}
-use Rattle.df_replica.specs.WrittenFor.{IsWrittenIn}
-use Rattle.df_replica.proofs.Laws.{call_is_own, call_is_the_one, found_keeps, opened_is_written_for, answer_is_of_hurt, headers_may_be_hurt, probe_is_of_hurt, two_copies_are_enough}
+use Rattle.df_session.specs.Below.{IsOpened, FindsHad, IsNeedless, RefusesHurt, MayBeHurt, OpensAsLeft, DataFile, State as Replica, shape}
+use Rattle.df_session.specs.Lending.{GivesOwn}
+use Rattle.df_session.specs.Opened.{ToldBy}
+use Rattle.df_session.specs.Serving.{Firm, Keeps, next}
+use Rattle.df_session.specs.Session.{Act}
+use Rattle.df_session.specs.WrittenFor.{IsWrittenIn}
+use Rattle.df_session.proofs.Laws.{call_is_own, call_is_the_one, found_keeps, opened_is_written_for, answer_is_of_hurt, headers_may_be_hurt, probe_is_of_hurt, two_copies_are_enough}
 use Rattle.df_theory.specs.Found.{IsFound}
 use Rattle.df_theory.specs.View.{View}
 use Rattle.df_units.specs.Bytes.{unit_at}

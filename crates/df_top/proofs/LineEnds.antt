@@ -7,7 +7,7 @@ use Rattle.df_lines.specs.Room.{Room, Tells}
 use Rattle.df_lines.specs.Script.{IsRefused}
 use Rattle.df_lines.specs.Text.{line_of, unread}
 use Rattle.df_disk.specs.Told.{Told}
-use Rattle.df_replica.specs.Below.{State as Replica}
+use Rattle.df_session.specs.Below.{State as Replica}
 use Rattle.df_model.specs.Commands.{Command}
 use Rattle.df_pace.specs.Beats.{behind_line}
 use Rattle.df_pace.specs.declared.pace.Pace.{Pace}

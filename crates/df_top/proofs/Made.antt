@@ -6,9 +6,9 @@ use Rattle.df_disk.proofs.Laws.{goes_told}
 use Rattle.df_layout.specs.declared.layout.Layout.{Layout}
 use Rattle.df_model.specs.declared.errors.FormatError.{FormatError}
 use Rattle.df_model.specs.declared.errors.FormatError.TheVariants as formats
-use Rattle.df_replica.specs.Formatting.{AddsFormat}
-use Rattle.df_replica.specs.Making.{Makes, MayMakeOn, making_events}
-use Rattle.df_replica.specs.Opened.{ToldBy}
+use Rattle.df_session.specs.Formatting.{AddsFormat}
+use Rattle.df_session.specs.Making.{Makes, MayMakeOn, making_events}
+use Rattle.df_session.specs.Opened.{ToldBy}
 use Rattle.df_top.specs.Formats.{MakesOn}
 use Rattle.df_top.specs.Refusing.{PrintsFormatError}
 use Rattle.df_top.specs.declared.status.Status.{Status}

@@ -13,10 +13,10 @@ use Rattle.df_layout.specs.declared.layout.Layout.{Layout}
 use Rattle.df_layout.specs.declared.places.Zone.TheVariants.{WalHeaders}
 use Rattle.df_quorum.specs.Quorum.{AreMembers}
 use Rattle.df_quorum.proofs.Laws.{one_law}
-use Rattle.df_replica.proofs.Laws.{filter_more, one_super, same_file}
-use Rattle.df_replica.specs.Below.{if_wanted, needs_header, slot_mends, start_of, IsOpened, memory, reply_sum, shape, spelling, stored_sum, DataFile, State}
-use Rattle.df_replica.specs.Replica.{Survey, summary_of}
-use Rattle.df_replica.specs.Surveying.{IsMendable, copy_mend_at, mends_of}
+use Rattle.df_session.proofs.Laws.{filter_more, one_super, same_file}
+use Rattle.df_session.specs.Below.{if_wanted, needs_header, slot_mends, start_of, IsOpened, memory, reply_sum, shape, spelling, stored_sum, DataFile, State}
+use Rattle.df_session.specs.Replica.{Survey, summary_of}
+use Rattle.df_session.specs.Surveying.{IsMendable, copy_mend_at, mends_of}
 use Rattle.df_script_model.specs.Texts.{body_text, line_of, numbered, spaced}
 use Rattle.df_sessions.specs.Requests.{session_of, sessions_of}
 use Rattle.df_sessions.specs.declared.session.Session.{Session}

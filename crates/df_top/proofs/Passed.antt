@@ -8,7 +8,7 @@ use Rattle.df_pace.specs.declared.beat.Beat.{Beat}
 use Rattle.df_pace.specs.declared.beat.Piece.{Piece}
 use Rattle.df_pace.specs.declared.pace.Pace.{Pace}
 use Rattle.df_pace.proofs.Laws.{fewer_due}
-use Rattle.df_replica.specs.Below.{State as Replica}
+use Rattle.df_session.specs.Below.{State as Replica}
 use Rattle.df_script_model.specs.Texts.{damaged_text}
 use Rattle.df_session.specs.Endings.{is_disk}
 use Rattle.df_session.specs.Links.{Makes}

@@ -18,14 +18,14 @@ use Rattle.df_model.specs.declared.reading.LookupError.TheVariants as lookup
 use Rattle.df_model.specs.declared.reading.PrepareError.{PrepareError}
 use Rattle.df_model.specs.declared.reading.PrepareError.TheVariants as prepare
 use Rattle.df_model.specs.Faults.{is_lookup_fault, is_prepare_fault}
-use Rattle.df_replica.specs.Below.{State as Replica}
-use Rattle.df_replica.specs.Answering.{Gives, ServesRead, answer_of}
-use Rattle.df_replica.specs.Lookups.{reply_found}
-use Rattle.df_replica.specs.Reading.{IsFoundBy, message_at, prepare_found}
-use Rattle.df_replica.specs.Serving.{IsCall}
-use Rattle.df_replica.specs.Stopping.{left_by}
+use Rattle.df_session.specs.Below.{State as Replica}
+use Rattle.df_session.specs.Answering.{Gives, ServesRead, answer_of}
+use Rattle.df_session.specs.Lookups.{reply_found}
+use Rattle.df_session.specs.Reading.{IsFoundBy, message_at, prepare_found}
+use Rattle.df_session.specs.Serving.{IsCall}
+use Rattle.df_session.specs.Stopping.{left_by}
 use Rattle.df_script_model.specs.Texts.{message_text}
-use Rattle.df_replica.specs.Supply.{IsSupplied}
+use Rattle.df_session.specs.Supply.{IsSupplied}
 use Rattle.df_session.specs.Endings.{heard}
 use Rattle.df_session.specs.Links.{Makes}
 use Rattle.df_top.specs.Turning.{IsPrinted, Tells, printed_turn}

@@ -14,15 +14,15 @@ use Rattle.df_model.proofs.Laws.{tour_law}
 use Rattle.df_model.specs.declared.answers.Summary.{Summary}
 use Rattle.df_model.specs.declared.errors.OpenError.{OpenError}
 use Rattle.df_model.specs.declared.errors.OpenError.TheVariants as opens
-use Rattle.df_replica.specs.Below.{DataFile, Syncs, IsOpened, State as Replica, shape, told_after}
+use Rattle.df_session.specs.Below.{DataFile, Syncs, IsOpened, State as Replica, shape, told_after}
 use Rattle.df_sessions.specs.declared.session.Session.{Session}
-use Rattle.df_replica.specs.Leaving.{SparesReads}
-use Rattle.df_replica.specs.Opened.{Mends, MendsAll}
-use Rattle.df_replica.specs.Reading.{shown_of}
-use Rattle.df_replica.specs.Replica.{Survey, summary_of}
-use Rattle.df_replica.specs.Scrubbing.{IsMachineTour, at_start}
-use Rattle.df_replica.specs.Surveying.{TellsMends, TellsSurvey}
-use Rattle.df_replica.proofs.Laws.{added_is_told, shown_after}
+use Rattle.df_session.specs.Leaving.{SparesReads}
+use Rattle.df_session.specs.Opened.{Mends, MendsAll}
+use Rattle.df_session.specs.Reading.{shown_of}
+use Rattle.df_session.specs.Replica.{Survey, summary_of}
+use Rattle.df_session.specs.Scrubbing.{IsMachineTour, at_start}
+use Rattle.df_session.specs.Surveying.{TellsMends, TellsSurvey}
+use Rattle.df_session.proofs.Laws.{added_is_told, shown_after}
 use Rattle.df_session.specs.Found.{FoundFile, no_calls}
 use Rattle.df_session.specs.Laws.{CallsKeep}
 use Rattle.df_top.specs.Outside.{Outside, PrintsLine}

@@ -17,16 +17,16 @@ use Rattle.df_pace.specs.declared.beat.Piece.{Piece}
 use Rattle.df_pace.specs.declared.pace.Due.{Due}
 use Rattle.df_pace.specs.declared.pace.Pace.{Pace}
 use Rattle.df_pace.proofs.Laws.{line_counts, nothing_due, piece_counts, piece_due, starts_idle, whole_due}
-use Rattle.df_replica.specs.Below.{DataFile, State as Replica, is_running, memory, shape, spelling, told_after}
-use Rattle.df_replica.specs.Opened.{MendsAll}
-use Rattle.df_replica.specs.Reading.{shown_of}
-use Rattle.df_replica.specs.Serving.{Firm, IsCall, Keeps}
+use Rattle.df_session.specs.Below.{DataFile, State as Replica, is_running, memory, shape, spelling, told_after}
+use Rattle.df_session.specs.Opened.{MendsAll}
+use Rattle.df_session.specs.Reading.{shown_of}
+use Rattle.df_session.specs.Serving.{Firm, IsCall, Keeps}
 use Rattle.df_session.specs.Below.{AgreeShown, IsResult, codec}
 use Rattle.df_script_model.specs.Script.{answer_text}
 use Rattle.df_session.specs.Links.{command_in}
 use Rattle.df_session.specs.Resulting.{AnswersResult}
 use Rattle.df_session.proofs.Laws.{one_more_is_result, opened_agrees, opened_answers}
-use Rattle.df_replica.specs.Session.{Act}
+use Rattle.df_session.specs.Session.{Act}
 use Rattle.df_top.specs.Lines.{Asker, ByLine, ByLoop, Failing, Turned, act_of, all_acts, all_answers, all_said, all_text, command_of}
 use Rattle.df_top.specs.Outside.{IsThrough}
 use Rattle.df_top.specs.Pacing.{AreTurns, EndTurns, IsIdle, IsNext, all_calls, behind, runs}

@@ -11,10 +11,10 @@ use Rattle.df_model.specs.declared.errors.BeginError.{BeginError}
 use Rattle.df_model.specs.declared.errors.NotLive.{NotLive}
 use Rattle.df_model.specs.declared.errors.StepError.{StepError}
 use Rattle.df_model.specs.declared.errors.StepError.TheVariants as step
-use Rattle.df_replica.specs.Beginning.{IsBegin}
-use Rattle.df_replica.specs.Below.{RunningState, State as Replica}
-use Rattle.df_replica.specs.Blocks.{IsRelease}
-use Rattle.df_replica.specs.Stepping.{IsStep, OfRunning, advanced, finished}
+use Rattle.df_session.specs.Beginning.{IsBegin}
+use Rattle.df_session.specs.Below.{RunningState, State as Replica}
+use Rattle.df_session.specs.Blocks.{IsRelease}
+use Rattle.df_session.specs.Stepping.{IsStep, OfRunning, advanced, finished}
 use Rattle.df_workload.specs.Hearing.{outcome_in}
 use Rattle.df_workload.specs.declared.outcome.Outcome.{Outcome}
 use Rattle.df_session.specs.Calls.{IsExact, machine_answer}

@@ -3,9 +3,9 @@ use Rattle.std.proofs.Common.{◌≡◌, ◌<◌, ◌+◌, ℕ, Bool, true, List
 use Rattle.std.specs.Prelude.{OnOk}
 use Rattle.df_disk.specs.Told.{Told}
 use Rattle.df_model.specs.Commands.{Advance, Command}
-use Rattle.df_replica.specs.Session.{Act}
+use Rattle.df_session.specs.Session.{Act}
 use Rattle.df_script_model.specs.Texts.{damaged_text}
-use Rattle.df_replica.specs.Below.{State as Replica}
+use Rattle.df_session.specs.Below.{State as Replica}
 use Rattle.df_workload.specs.Asking.{asks, command_of}
 use Rattle.df_workload.specs.declared.asked.Asked.{Asked}
 use Rattle.df_workload.specs.Following.{Follows}

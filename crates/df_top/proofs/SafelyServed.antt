@@ -10,11 +10,11 @@ use Rattle.df_lines.specs.Script.{Begins, IsRefused, IsScript}
 use Rattle.df_lines.proofs.Laws.{one_script, begins_one}
 use Rattle.df_pace.specs.Beats.{idle}
 use Rattle.df_pace.specs.declared.pace.Pace.{Pace}
-use Rattle.df_replica.specs.Below.{DataFile, IsNotRefused, State as Replica}
+use Rattle.df_session.specs.Below.{DataFile, IsNotRefused, State as Replica}
 use Rattle.df_theory.specs.View.{View}
-use Rattle.df_replica.specs.Following.{MayOpen}
-use Rattle.df_replica.specs.Session.{Act}
-use Rattle.df_replica.proofs.Laws.{safe_is_not_refused}
+use Rattle.df_session.specs.Following.{MayOpen}
+use Rattle.df_session.specs.Session.{Act}
+use Rattle.df_session.proofs.Laws.{safe_is_not_refused}
 use Rattle.df_session.specs.Found.{FoundFile}
 use Rattle.df_top.specs.Completeness.{IsCarriedOut, IsWhole, NoneFailed, SafeIsRun, SafeIsServed}
 use Rattle.df_top.specs.Opening.{RefusesFile}

@@ -10,10 +10,10 @@ use Rattle.df_model.specs.declared.answers.Scrubbed.{Scrubbed}
 use Rattle.df_model.specs.declared.commands.Answer.TheVariants as answers
 use Rattle.df_model.specs.declared.answers.Verdict.{Verdict}
 use Rattle.df_model.specs.declared.answers.Verdict.TheVariants.{Sound}
-use Rattle.df_replica.specs.Answering.{GivesVerdict, Serves, ServesScrub, scrub_answer}
-use Rattle.df_replica.specs.Scrubbing.{IsCheckFound, check_found}
-use Rattle.df_replica.specs.Serving.{IsCall}
-use Rattle.df_replica.specs.Below.{verdict_in, State as Replica}
+use Rattle.df_session.specs.Answering.{GivesVerdict, Serves, ServesScrub, scrub_answer}
+use Rattle.df_session.specs.Scrubbing.{IsCheckFound, check_found}
+use Rattle.df_session.specs.Serving.{IsCall}
+use Rattle.df_session.specs.Below.{verdict_in, State as Replica}
 use Rattle.df_script_model.specs.Texts.{recent_text}
 use Rattle.df_top.specs.Findings.{items_of}
 use Rattle.df_session.specs.Links.{Makes}

@@ -12,10 +12,10 @@ use Rattle.df_units.specs.Bytes.{unit_at}
 use Rattle.df_model.specs.Work.{opened}
 use Rattle.df_model.specs.declared.errors.OpenError.{OpenError}
 use Rattle.df_model.specs.declared.errors.OpenError.TheVariants as opens
-use Rattle.df_replica.specs.Below.{State as Replica, shape, IsOpened}
-use Rattle.df_replica.specs.Opened.{MendsAll, ToldBy}
-use Rattle.df_replica.specs.Surveying.{TellsSurvey}
-use Rattle.df_replica.proofs.Laws.{found_keeps}
+use Rattle.df_session.specs.Below.{State as Replica, shape, IsOpened}
+use Rattle.df_session.specs.Opened.{MendsAll, ToldBy}
+use Rattle.df_session.specs.Surveying.{TellsSurvey}
+use Rattle.df_session.proofs.Laws.{found_keeps}
 use Rattle.df_pace.specs.Beats.{started}
 use Rattle.df_pace.specs.declared.pace.Pace.{Pace}
 use Rattle.df_session.specs.Found.{FoundFile}
@@ -27,7 +27,7 @@ use Rattle.df_top.specs.Opening.{FailsToFind, RefusesFile, StopsBefore}
 use Rattle.df_top.specs.Outside.{IsThrough, Outside}
 use Rattle.df_top.specs.Refusing.{PrintsError}
 use Rattle.df_top.specs.Run.{ComesTo, ServesScript, start}
-use Rattle.df_replica.specs.Session.{Act}
+use Rattle.df_session.specs.Session.{Act}
 use Rattle.df_top.specs.Lines.{Failing, Turned, act_of, all_acts, all_answers}
 use Rattle.df_top.specs.Session.{Ended, EndsWith, State, state}
 use Rattle.df_top.specs.declared.mode.Mode.{Mode}

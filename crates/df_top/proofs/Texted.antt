@@ -23,9 +23,9 @@ use Rattle.df_model.specs.Supply.{Shown}
 use Rattle.df_model.specs.Work.{Work, opened}
 use Rattle.df_pace.specs.declared.pace.Pace.{Pace}
 use Rattle.df_pace.proofs.Laws.{idle_law}
-use Rattle.df_replica.specs.Below.{DataFile, IsOpened, State as Replica, shape}
-use Rattle.df_replica.specs.Reading.{shown_of}
-use Rattle.df_replica.proofs.Laws.{one_super, same_file}
+use Rattle.df_session.specs.Below.{DataFile, IsOpened, State as Replica, shape}
+use Rattle.df_session.specs.Reading.{shown_of}
+use Rattle.df_session.proofs.Laws.{one_super, same_file}
 use Rattle.df_session.specs.Below.{AgreeShown, codec}
 use Rattle.df_session.specs.Found.{FoundFile}
 use Rattle.df_top.specs.Lines.{Failing, Turned, act_of, all_said, all_text, command_of, printed, said_of}

@@ -13,9 +13,9 @@ use Rattle.df_model.specs.declared.answers.Scrubbed.{Scrubbed}
 use Rattle.df_model.specs.declared.answers.Scrubbed.TheVariants.{Checked, TourEnd}
 use Rattle.df_model.specs.declared.answers.Verdict.{Verdict}
 use Rattle.df_model.specs.declared.answers.Verdict.TheVariants.{Sound, Failing}
-use Rattle.df_replica.specs.Below.{ScrubState, State as Replica}
+use Rattle.df_session.specs.Below.{ScrubState, State as Replica}
 use Rattle.df_script_model.specs.Texts.{scrubbed_text}
-use Rattle.df_replica.specs.Scrubbing.{IsScrub, scrub_of, with_scrub}
+use Rattle.df_session.specs.Scrubbing.{IsScrub, scrub_of, with_scrub}
 use Rattle.df_top.specs.Scrubs.{PrintsTour, failing_blocks, tour_report, tour_status}
 use Rattle.df_top.specs.Touring.{EndsTour, TakesStep, TellsFound, TellsStep}
 use Rattle.df_top.specs.declared.status.Status.{Status}

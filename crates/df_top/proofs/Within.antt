@@ -10,12 +10,12 @@ use Rattle.df_units.specs.Within.{AddsWithin, AreWithin}
 use Rattle.df_model.specs.Commands.{Answer}
 use Rattle.df_model.specs.declared.errors.FormatError.{FormatError}
 use Rattle.df_model.specs.declared.errors.FormatError.TheVariants as formats
-use Rattle.df_replica.specs.Below.{DataFile, State as Replica}
-use Rattle.df_replica.specs.Formatting.{AddsFormat, RefusesCluster}
-use Rattle.df_replica.specs.Making.{making_events, making_steps}
-use Rattle.df_replica.specs.Opened.{Mends, StopsOpening}
-use Rattle.df_replica.specs.Serving.{IsCall}
-use Rattle.df_replica.specs.Session.{Act}
+use Rattle.df_session.specs.Below.{DataFile, State as Replica}
+use Rattle.df_session.specs.Formatting.{AddsFormat, RefusesCluster}
+use Rattle.df_session.specs.Making.{making_events, making_steps}
+use Rattle.df_session.specs.Opened.{Mends, StopsOpening}
+use Rattle.df_session.specs.Serving.{IsCall}
+use Rattle.df_session.specs.Session.{Act}
 use Rattle.df_session.specs.Found.{FoundFile}
 use Rattle.df_session.specs.Links.{AreCalls, EndsCalls}
 use Rattle.df_top.specs.Acknowledging.{run_calls, script_calls}

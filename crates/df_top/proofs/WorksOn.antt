@@ -13,9 +13,9 @@ use Rattle.df_layout.specs.declared.damage.Class.{Class}
 use Rattle.df_layout.specs.declared.places.Place.{Place}
 use Rattle.df_script_model.specs.Texts.{damaged_text}
 use Rattle.df_layout.specs.declared.layout.Layout.{Layout}
-use Rattle.df_replica.specs.Below.{IsOpened, State as Replica}
-use Rattle.df_replica.specs.Opened.{MendsAll, ToldBy}
-use Rattle.df_replica.specs.Session.{Act}
+use Rattle.df_session.specs.Below.{IsOpened, State as Replica}
+use Rattle.df_session.specs.Opened.{MendsAll, ToldBy}
+use Rattle.df_session.specs.Session.{Act}
 use Rattle.df_workload.specs.Rounds.{start}
 use Rattle.df_workload.specs.declared.state.State.{State as Run}
 use Rattle.df_session.specs.Endings.{is_disk}

@@ -6,7 +6,7 @@ use Rattle.df_lines.specs.Text.{after_line, taken}
 use Rattle.df_disk.specs.Told.{Told}
 use Rattle.df_pace.specs.declared.beat.Beat.{Beat}
 use Rattle.df_pace.specs.declared.pace.Pace.{Pace}
-use Rattle.df_replica.specs.Below.{State as Replica}
+use Rattle.df_session.specs.Below.{State as Replica}
 use Rattle.df_top.specs.Lines.{Turned, all_said, all_text, said_by, told_by}
 use Rattle.df_top.specs.Pacing.{AreTurns, behind}
 

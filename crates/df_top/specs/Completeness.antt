@@ -6,9 +6,9 @@ use Rattle.df_layout.specs.declared.layout.Layout.{Layout}
 use Rattle.df_lines.specs.Grammar.{Said}
 use Rattle.df_lines.specs.Room.{line_bound}
 use Rattle.df_lines.specs.Script.{Begins}
-use Rattle.df_replica.specs.Below.{DataFile, IsUnformatted}
+use Rattle.df_session.specs.Below.{DataFile, IsUnformatted}
 use Rattle.df_theory.specs.View.{View}
-use Rattle.df_replica.specs.Following.{MayOpen}
+use Rattle.df_session.specs.Following.{MayOpen}
 use Rattle.df_top.specs.Formats.{Formats}
 use Rattle.df_top.specs.Mode.{IsOfFile}
 use Rattle.df_top.specs.Outside.{Faults, HasCauses, Outside}

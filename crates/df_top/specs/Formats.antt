@@ -13,9 +13,9 @@ use Rattle.df_units.specs.Making.{IsMadeOnDisk, first_view}
 use Rattle.df_model.specs.declared.errors.FormatError.{FormatError}
 use Rattle.df_model.specs.declared.errors.FormatError.TheVariants.{ClusterZero, NotBlank}
 use Rattle.df_model.specs.declared.errors.FormatError.TheVariants as formats
-use Rattle.df_replica.specs.Below.{IsUnformatted, shape}
-use Rattle.df_replica.specs.Formatting.{IsFirstWritten, OnlyOnBlank}
-use Rattle.df_replica.specs.Making.{MayMakeOn, file_of, making_events}
+use Rattle.df_session.specs.Below.{IsUnformatted, shape}
+use Rattle.df_session.specs.Formatting.{IsFirstWritten, OnlyOnBlank}
+use Rattle.df_session.specs.Making.{MayMakeOn, file_of, making_events}
 use Rattle.df_top.specs.declared.status.Status.{Status}
 use Rattle.df_top.specs.declared.status.Status.TheVariants.{Done, Refused, DiskFault, WriteFault, Memory}
 

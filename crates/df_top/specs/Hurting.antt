@@ -6,7 +6,7 @@ use Rattle.df_layout.specs.declared.layout.Layout.{Layout}
 use Rattle.df_theory.specs.View.{View}
 use Rattle.df_units.specs.Bytes.{unit_at}
 use Rattle.df_model.specs.Work.{Work, opened}
-use Rattle.df_replica.specs.Below.{DataFile, shape, FindsHad, IsNeedless, RefusesHurt, IsAtRest, MayBeHurt, HasTwoCopies, IsHurtFile, MayBeOfDamage}
+use Rattle.df_session.specs.Below.{DataFile, shape, FindsHad, IsNeedless, RefusesHurt, IsAtRest, MayBeHurt, HasTwoCopies, IsHurtFile, MayBeOfDamage}
 use Rattle.df_session.specs.Found.{FoundFile}
 use Rattle.df_session.specs.Owning.{ReadsOwn}
 use Rattle.df_top.specs.Acknowledging.{run_calls, script_calls}

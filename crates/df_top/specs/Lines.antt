@@ -5,7 +5,7 @@ use Rattle.df_lines.specs.Grammar.{Said}
 use Rattle.df_lines.specs.Grammar as lines
 use Rattle.df_model.specs.Commands.{Advance, Answer, Append, Begin, Command, ReadBlock, ReadPrepare, ReadReply, Recent, Release, Reply, Scrub, WriteBlock}
 use Rattle.df_pace.specs.declared.beat.Piece.{Piece}
-use Rattle.df_replica.specs.Session.{Act}
+use Rattle.df_session.specs.Session.{Act}
 use Rattle.df_script_model.specs.Script.{answer_text}
 
 -- the call that a line asks for

@@ -16,8 +16,8 @@ use Rattle.df_theory.specs.View.{View}
 use Rattle.df_units.specs.Bytes.{unit_at}
 use Rattle.df_units.specs.Wanted.{class_at}
 use Rattle.df_pace.specs.declared.pace.Pace.{Pace}
-use Rattle.df_replica.specs.Below.{shape}
-use Rattle.df_replica.specs.Leaving.{IsReadPlace}
+use Rattle.df_session.specs.Below.{shape}
+use Rattle.df_session.specs.Leaving.{IsReadPlace}
 use Rattle.df_session.specs.Found.{FoundFile}
 use Rattle.df_top.specs.Outside.{IsThrough, Outside}
 use Rattle.df_top.specs.Resulting.{script_text_of}

@@ -8,8 +8,8 @@ use Rattle.df_inspect.specs.Opening.{open_refusal}
 use Rattle.df_layout.specs.declared.layout.Layout.{Layout}
 use Rattle.df_model.specs.declared.errors.OpenError.{OpenError}
 use Rattle.df_model.specs.declared.errors.OpenError.TheVariants as opens
-use Rattle.df_replica.specs.Below.{IsLayoutShown, Refuses, Surveys}
-use Rattle.df_replica.specs.Opened.{StopsOpening}
+use Rattle.df_session.specs.Below.{IsLayoutShown, Refuses, Surveys}
+use Rattle.df_session.specs.Opened.{StopsOpening}
 use Rattle.df_top.specs.Outside.{Outside, PrintsLine}
 use Rattle.df_top.specs.declared.mode.Mode.{Mode}
 use Rattle.df_top.specs.declared.mode.Mode.TheVariants.{Inspect}

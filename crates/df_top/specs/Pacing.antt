@@ -5,7 +5,7 @@ use Rattle.df_model.specs.Commands.{Answer, Command}
 use Rattle.df_pace.specs.Beats.{behind_line, behind_piece, command_of as piece_command, is_begun, next_piece}
 use Rattle.df_pace.specs.declared.beat.Beat.{Beat}
 use Rattle.df_pace.specs.declared.pace.Pace.{Pace}
-use Rattle.df_replica.specs.Below.{State as Replica, is_running, memory}
+use Rattle.df_session.specs.Below.{State as Replica, is_running, memory}
 use Rattle.df_session.specs.Links.{AreCalls, Calls, EndsCalls}
 use Rattle.df_top.specs.Lines.{Asker, ByLine, ByLoop, Failing, Turned, act_of, all_acts, all_answers, command_of}
 use Rattle.df_top.specs.declared.status.Status.{Status}

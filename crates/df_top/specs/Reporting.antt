@@ -6,9 +6,9 @@ use Rattle.df_disk.specs.Told.{Told, did}
 use Rattle.df_inspect.specs.Reports.{inspection_text, summary_text}
 use Rattle.df_layout.specs.declared.damage.Mend.{Mend}
 use Rattle.df_layout.specs.declared.layout.Layout.{Layout}
-use Rattle.df_replica.specs.Below.{IsOpened}
-use Rattle.df_replica.specs.Replica.{Survey, summary_of}
-use Rattle.df_replica.specs.Surveying.{IsMendable}
+use Rattle.df_session.specs.Below.{IsOpened}
+use Rattle.df_session.specs.Replica.{Survey, summary_of}
+use Rattle.df_session.specs.Surveying.{IsMendable}
 use Rattle.df_session.specs.Found.{FoundFile, no_calls}
 use Rattle.df_session.specs.Laws.{CallsKeep}
 use Rattle.df_top.specs.Outside.{Outside, PrintsLine}

@@ -7,8 +7,8 @@ use Rattle.df_units.specs.Bytes.{unit_at}
 use Rattle.df_model.specs.Commands.{Command}
 use Rattle.df_model.specs.Supply.{Shown}
 use Rattle.df_model.specs.Work.{Work, opened}
-use Rattle.df_replica.specs.Below.{DataFile, shape}
-use Rattle.df_replica.specs.Reading.{shown_of}
+use Rattle.df_session.specs.Below.{DataFile, shape}
+use Rattle.df_session.specs.Reading.{shown_of}
 use Rattle.df_session.specs.Below.{codec}
 use Rattle.df_pace.specs.Beats.{idle}
 use Rattle.df_pace.specs.Loop.{all_commands, paced, start}

@@ -14,8 +14,8 @@ use Rattle.df_model.specs.Work.{opened}
 use Rattle.df_model.specs.declared.errors.OpenError.{OpenError}
 use Rattle.df_pace.specs.Beats.{idle, started}
 use Rattle.df_pace.specs.declared.pace.Pace.{Pace}
-use Rattle.df_replica.specs.Below.{IsLayoutShown, Refuses, State as Replica, shape}
-use Rattle.df_replica.specs.Reading.{shown_of}
+use Rattle.df_session.specs.Below.{IsLayoutShown, Refuses, State as Replica, shape}
+use Rattle.df_session.specs.Reading.{shown_of}
 use Rattle.df_session.specs.Below.{AgreeShown}
 use Rattle.df_session.specs.Found.{FoundFile}
 use Rattle.df_session.specs.Links.{events_made}

@@ -8,10 +8,10 @@ use Rattle.df_layout.specs.declared.damage.Finding.{Finding}
 use Rattle.df_layout.specs.declared.layout.Layout.{Layout}
 use Rattle.df_model.specs.Memory.{referenced_of}
 use Rattle.df_model.specs.declared.answers.Scrubbed.TheVariants.{TourEnd}
-use Rattle.df_replica.specs.Below.{failing_in, State as Replica, grid_with, memory}
+use Rattle.df_session.specs.Below.{failing_in, State as Replica, grid_with, memory}
 use Rattle.df_script_model.specs.Texts.{scrubbed_text}
-use Rattle.df_replica.specs.Leaving.{SparesReads}
-use Rattle.df_replica.specs.Scrubbing.{IsMachineTour}
+use Rattle.df_session.specs.Leaving.{SparesReads}
+use Rattle.df_session.specs.Scrubbing.{IsMachineTour}
 use Rattle.df_session.specs.Found.{FoundFile, no_calls}
 use Rattle.df_session.specs.Laws.{CallsKeep}
 use Rattle.df_top.specs.Outside.{Outside, PrintsLine}

@@ -11,8 +11,8 @@ use Rattle.df_lines.specs.Text.{line_of, unread}
 use Rattle.df_model.specs.Commands.{Command}
 use Rattle.df_pace.specs.declared.beat.Beat.{Beat}
 use Rattle.df_pace.specs.declared.pace.Pace.{Pace}
-use Rattle.df_replica.specs.Below.{State as Replica}
-use Rattle.df_replica.specs.Session.{Act}
+use Rattle.df_session.specs.Below.{State as Replica}
+use Rattle.df_session.specs.Session.{Act}
 use Rattle.df_script_model.specs.Texts.{damaged_text}
 use Rattle.df_session.specs.Endings.{IsDamaged}
 use Rattle.df_top.specs.Lines.{Failing, Turned, act_of, all_said, printed, said_of}

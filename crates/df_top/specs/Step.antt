@@ -11,7 +11,7 @@ use Rattle.df_pace.specs.Beats.{behind_piece, is_begun}
 use Rattle.df_pace.specs.declared.beat.Beat.{Beat}
 use Rattle.df_pace.specs.declared.beat.Piece.{Piece}
 use Rattle.df_pace.specs.declared.pace.Pace.{Pace}
-use Rattle.df_replica.specs.Below.{State as Replica}
+use Rattle.df_session.specs.Below.{State as Replica}
 use Rattle.df_script_model.specs.Script.{answer_text}
 use Rattle.df_session.specs.Links.{Makes}
 use Rattle.df_top.specs.Lines.{Turned}

@@ -8,8 +8,8 @@ use Rattle.df_model.specs.Reading.{with_finding}
 use Rattle.df_model.specs.declared.answers.Scrubbed.{Scrubbed}
 use Rattle.df_model.specs.declared.answers.Scrubbed.TheVariants.{Checked, TourEnd}
 use Rattle.df_script_model.specs.Texts.{scrubbed_text}
-use Rattle.df_replica.specs.Below.{State as Replica}
-use Rattle.df_replica.specs.Scrubbing.{IsScrub}
+use Rattle.df_session.specs.Below.{State as Replica}
+use Rattle.df_session.specs.Scrubbing.{IsScrub}
 use Rattle.df_top.specs.Scrubs.{tour_status}
 use Rattle.df_top.specs.declared.status.Status.{Status}
 use Rattle.df_top.specs.declared.status.Status.TheVariants.{DiskFault, Done, Found, WriteFault}

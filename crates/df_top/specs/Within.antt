@@ -4,7 +4,7 @@ use Rattle.df_base.specs.Image.{IsImage}
 use Rattle.df_disk.specs.Told.{Told}
 use Rattle.df_layout.specs.declared.layout.Layout.{Layout}
 use Rattle.df_units.specs.Within.{AddsWithin}
-use Rattle.df_replica.specs.Below.{IsLayoutShown}
+use Rattle.df_session.specs.Below.{IsLayoutShown}
 
 -- in rooms of a layout: all that is added to the log of a disk that tells lies within the zones of a file of that layout
 abbrev pub WritesIn : Layout → (old new : Option Told) → Type 0

@@ -5,9 +5,9 @@ use Rattle.df_disk.specs.Told.{Told}
 use Rattle.df_inspect.specs.Reports.{workload_text}
 use Rattle.df_inspect.specs.declared.counts.Workload.{Workload}
 use Rattle.df_model.specs.Commands.{Answer as Answered, Command}
-use Rattle.df_replica.specs.Session.{Act}
-use Rattle.df_replica.specs.Stepping.{OfRunning}
-use Rattle.df_replica.specs.Below.{State as Replica}
+use Rattle.df_session.specs.Session.{Act}
+use Rattle.df_session.specs.Stepping.{OfRunning}
+use Rattle.df_session.specs.Below.{State as Replica}
 use Rattle.df_workload.specs.Asking.{asks}
 use Rattle.df_workload.specs.Following.{Follows}
 use Rattle.df_workload.specs.Hearing.{outcome_of, runs_after}

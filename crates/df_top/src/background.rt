@@ -20,8 +20,7 @@ use df_disk::Disk;
 use df_layout::ROOT;
 use df_model::{Answer, Command};
 use df_pace::Piece;
-use df_replica::Replica;
-use df_session::{Fault, make};
+use df_session::{Fault, Replica, make};
 
 // The durable root, in a list of its own: a call that changes the replica can't be lent what the replica has.
 fn durable_root(replica: &Replica) -> ArrayVec<u8, ROOT>

@@ -22,7 +22,7 @@ use df_buffers::ProbeRoom;
 use df_disk::Disk;
 use df_layout::Layout;
 use df_lines::LineRoom;
-use df_replica::{Rooms, probe};
+use df_session::{Rooms, probe};
 use std::alloc::Global;
 
 /// The line that says which words have a meaning.

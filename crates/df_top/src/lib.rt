@@ -21,7 +21,7 @@ mod works;
 
 pub use completeness::{a_blank_disk_is_formatted, a_safe_file_is_served};
 pub use df_pace::Pace;
-pub use df_replica::Rooms;
+pub use df_session::Rooms;
 pub use engine::run;
 pub use mode::{Mode, mode_of, words_have_one_meaning};
 pub use reporting::an_image_has_one_report;

@@ -12,7 +12,7 @@ use df_base::Sink;
 use df_disk::Disk;
 use df_inspect::{print_format_refusal, print_formatted};
 use df_layout::Layout;
-use df_replica::{FormatError, Rooms, format};
+use df_session::{FormatError, Rooms, format};
 use std::alloc::Global;
 
 // Prints why no file is made; a failing disk has no line.

@@ -11,8 +11,7 @@ use df_base::Sink;
 use df_disk::Disk;
 use df_inspect::{print_block, print_prepare, print_reply};
 use df_model::{Answer, Command};
-use df_replica::Replica;
-use df_session::hear;
+use df_session::{Replica, hear};
 
 /// Reads a prepare, and prints it or why it isn't read.
 pub fn prepare<D: Disk, W: Sink>(disk: &mut D, sink: &mut W, replica: &mut Replica, op: u64) -> Turn

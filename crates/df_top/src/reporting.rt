@@ -3,7 +3,7 @@ ghost use Rattle.std.specs.Prelude.{◌≡◌, ℕ, [], ◌∷◌, List, Option}
 ghost use Rattle.df_base.specs.Log.{Sync};
 ghost use Rattle.df_disk.specs.Adds.{AddsPart};
 ghost use Rattle.df_inspect.specs.Reports.{summary_text};
-ghost use Rattle.df_replica.specs.Replica.{summary_of};
+ghost use Rattle.df_session.specs.Replica.{summary_of};
 ghost use Rattle.df_top.specs.declared.mode.Mode.{Mode};
 ghost use Rattle.df_top.specs.Outside.{Blames, HasCauses, PrintsLine};
 ghost use Rattle.df_top.specs.Reporting.{OneReport, report_of, status_of};
@@ -15,7 +15,7 @@ use df_base::Sink;
 use df_disk::Disk;
 use df_inspect::{print_inspection, print_summary};
 use df_layout::Mend;
-use df_replica::{Replica, Rooms, Surveyed, survey};
+use df_session::{Replica, Rooms, Surveyed, survey};
 
 // Whether something is to be mended.
 fn found(mends: &[Mend]) -> Status

@@ -2,7 +2,7 @@
 ghost use Rattle.std.specs.Prelude.{◌≡◌, ◌<◌, ◌≤◌, ◌+◌, ◌++◌, ℕ, length, take, Option, Some, true};
 ghost use Rattle.df_disk.specs.Told.{Told};
 ghost use Rattle.df_model.specs.Commands.{Recent, Scrub, ToRecent};
-ghost use Rattle.df_replica.specs.Answering.{Serves};
+ghost use Rattle.df_session.specs.Answering.{Serves};
 ghost use Rattle.df_top.specs.Findings.{items_of};
 ghost use Rattle.df_top.specs.Step.{Answers};
 ghost use Rattle.df_top.specs.Turning.{BlamesIfEnds};
@@ -15,7 +15,7 @@ use df_disk::Disk;
 use df_inspect::print_recent;
 use df_layout::{Class, Finding};
 use df_model::{Answer, Command};
-use df_replica::Replica;
+use df_session::Replica;
 
 // How many findings the ring keeps.
 const FINDINGS: u64 = 64;

@@ -20,7 +20,7 @@ use df_base::Sink;
 use df_disk::Disk;
 use df_inspect::{print_failing, print_tour};
 use df_layout::Finding;
-use df_replica::{Replica, Rooms, Scrubbed, Verdict};
+use df_session::{Replica, Rooms, Scrubbed, Verdict};
 
 // How a tour ends that listed so many blocks.
 fn listed(failing: u64) -> Status

@@ -23,7 +23,7 @@ use df_disk::Disk;
 use df_inspect::print_open_refusal;
 use df_lines::LineRoom;
 use df_pace::{Beat, Pace};
-use df_replica::{OpenError, Replica, Rooms};
+use df_session::{OpenError, Replica, Rooms};
 
 /// Prints why a file isn't opened; a failing disk has no line.
 pub(crate) fn refuse_file<W: Sink>(sink: &mut W, error: &OpenError) -> Status

@@ -1,7 +1,7 @@
 // A session: the replica that it works with, the memory that serves a script, how far the script has come, and the work beside it.
 use df_lines::LineRoom;
 use df_pace::{Beat, Pace};
-use df_replica::Replica;
+use df_session::Replica;
 
 /// What a session works with. All of its memory is taken before the first command.
 #[derive(Drop)]

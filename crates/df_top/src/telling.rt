@@ -13,8 +13,7 @@ use df_base::{Failed, Sink};
 use df_disk::Disk;
 use df_inspect::print_answer;
 use df_model::{Answer, Command, StepError};
-use df_replica::Replica;
-use df_session::{Fault, make};
+use df_session::{Fault, Replica, make};
 
 /// Goes on where the answer was printed.
 pub fn printed(done: Result<(), Failed>) -> Turn

@@ -18,8 +18,7 @@ use df_base::Sink;
 use df_disk::Disk;
 use df_inspect::{Workload, print_workload};
 use df_model::Command;
-use df_replica::{Replica, Rooms};
-use df_session::Fault;
+use df_session::{Fault, Replica, Rooms};
 use df_workload::Generator;
 
 // Makes the next call of a run, and lets the run hear of its answer.

@@ -10,8 +10,7 @@ ghost use Rattle.df_top.specs.Works.{HearsOf, RunsOn, StepsOn};
 
 use df_disk::Disk;
 use df_model::Command;
-use df_replica::Replica;
-use df_session::{Fault, make};
+use df_session::{Fault, Replica, make};
 use df_workload::{Asked, Generator, Outcome, number_body, outcome_in};
 
 /// Makes the call that a command asks for, and says what a run hears of its answer.

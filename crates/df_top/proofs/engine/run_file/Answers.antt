@@ -3,7 +3,7 @@ use Rattle.std.proofs.Common.{inr, subst}
 use Rattle.std.specs.Prelude.{Option, Ok}
 use Rattle.df_disk.specs.Told.{Told}
 use Rattle.df_layout.specs.declared.layout.Layout.{Layout}
-use Rattle.df_replica.specs.Below.{TellsLayout}
+use Rattle.df_session.specs.Below.{TellsLayout}
 use Rattle.df_top.specs.Outside.{Outside}
 use Rattle.df_top.specs.Run.{ServesIn}
 use Rattle.df_top.proofs.engine.run_file.Goals as goal

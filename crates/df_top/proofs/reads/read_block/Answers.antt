@@ -1,10 +1,10 @@
 -- A read comes to a turn by what was found and by what was printed of it.
 use Rattle.std.proofs.Common.{◌≡◌, ap, subst, sym, ◌∙◌, Result}
-use Rattle.df_replica.specs.Below.{State as Replica}
+use Rattle.df_session.specs.Below.{State as Replica}
 use Rattle.df_model.specs.Commands.{ReadBlock}
 use Rattle.df_model.specs.Faults.{is_read_fault}
 use Rattle.df_model.specs.declared.commands.Answer.{Answer}
-use Rattle.df_replica.specs.Stopping.{left_by}
+use Rattle.df_session.specs.Stopping.{left_by}
 use Rattle.df_session.specs.declared.hearing.Fault.{Fault}
 use Rattle.df_top.specs.Step.{Answers}
 use Rattle.df_top.specs.Turning.{Tells}

@@ -1,6 +1,6 @@
 -- The survey answers of the file that the disk shows, and adds no event but a sync.
 use Rattle.std.proofs.Common.{inr, refl}
-use Rattle.df_replica.specs.Below.{State}
+use Rattle.df_session.specs.Below.{State}
 use Rattle.df_top.specs.Outside.{Outside}
 use Rattle.df_top.specs.Reporting.{report_of, status_of}
 use Rattle.df_top.proofs.Causes.{calm_report, line_causes, never_printed, open_causes, refused_never}

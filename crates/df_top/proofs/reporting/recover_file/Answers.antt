@@ -3,9 +3,9 @@ use Rattle.std.proofs.Common.{inr, refl, subst}
 use Rattle.std.specs.Prelude.{Option, Ok}
 use Rattle.df_disk.specs.Told.{Told}
 use Rattle.df_inspect.specs.Reports.{summary_text}
-use Rattle.df_replica.specs.Below.{State}
-use Rattle.df_replica.specs.Replica.{summary_of}
-use Rattle.df_replica.specs.Surveying.{TellsSurvey}
+use Rattle.df_session.specs.Below.{State}
+use Rattle.df_session.specs.Replica.{summary_of}
+use Rattle.df_session.specs.Surveying.{TellsSurvey}
 use Rattle.df_top.specs.Outside.{Outside}
 use Rattle.df_top.specs.declared.mode.Mode.TheVariants.{Recover}
 use Rattle.df_top.specs.declared.status.Status.TheVariants.{Done}

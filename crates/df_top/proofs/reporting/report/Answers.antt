@@ -1,7 +1,7 @@
 -- What is printed is what the survey tells, and the status is that of its list.
 use Rattle.std.proofs.Common.{◌∙◌, ap, inl, inr, refl}
 use Rattle.df_base.specs.Streams.{Appends, AppendsPart}
-use Rattle.df_replica.specs.Replica.{summary_of}
+use Rattle.df_session.specs.Replica.{summary_of}
 use Rattle.df_top.specs.Reporting.{status_of}
 use Rattle.df_top.proofs.Reported.{same_report}
 use Rattle.df_top.proofs.reporting.report.Goals as goal

@@ -1,7 +1,7 @@
 -- What is printed is what the replica tells.
 use Rattle.std.proofs.Common.{inl, inr, refl}
 use Rattle.df_base.specs.Streams.{Appends, AppendsPart}
-use Rattle.df_replica.specs.Replica.{summary_of}
+use Rattle.df_session.specs.Replica.{summary_of}
 use Rattle.df_top.proofs.Reported.{same_summary}
 use Rattle.df_top.proofs.reporting.summarise.Goals as goal
 

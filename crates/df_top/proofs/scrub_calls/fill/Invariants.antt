@@ -2,7 +2,7 @@
 use Rattle.std.proofs.Common.{◌≡◌, ◌≤◌, ◌<◌, ◌-◌, Option, Some, length, take}
 use Rattle.df_disk.specs.Told.{Told}
 use Rattle.df_model.specs.Commands.{Recent, ToRecent}
-use Rattle.df_replica.specs.Answering.{Serves}
+use Rattle.df_session.specs.Answering.{Serves}
 use Rattle.df_top.proofs.scrub_calls.fill.Given as goal
 
 abbrev pub invariant-loop-place : goal.invariant-loop-place

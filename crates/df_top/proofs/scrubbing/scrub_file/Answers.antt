@@ -2,8 +2,8 @@
 use Rattle.std.proofs.Common.{ℕ, inr, refl, subst, sym}
 use Rattle.std.specs.Prelude.{Ok, Option}
 use Rattle.df_disk.specs.Told.{Told}
-use Rattle.df_replica.specs.Below.{State}
-use Rattle.df_replica.specs.Surveying.{TellsSurvey}
+use Rattle.df_session.specs.Below.{State}
+use Rattle.df_session.specs.Surveying.{TellsSurvey}
 use Rattle.df_session.specs.Found.{FoundFile}
 use Rattle.df_top.specs.Outside.{Blames, Outside}
 use Rattle.df_top.specs.Scrubs.{ScrubsFile}

@@ -3,8 +3,8 @@ use Rattle.std.proofs.Common.{◌∙◌, Ok, Option, ap, refl, subst}
 use Rattle.df_base.proofs.Laws.{appends_none}
 use Rattle.df_disk.specs.Told.{Told}
 use Rattle.df_model.specs.declared.answers.Scrubbed.TheVariants.{Checked}
-use Rattle.df_replica.specs.Scrubbing.{IsScrub}
-use Rattle.df_replica.specs.Below.{State}
+use Rattle.df_session.specs.Scrubbing.{IsScrub}
+use Rattle.df_session.specs.Below.{State}
 use Rattle.df_top.specs.Touring.{TakesStep}
 use Rattle.df_top.specs.declared.status.Status.{Status}
 use Rattle.df_top.specs.declared.turns.Turn.TheVariants.{Ends}

@@ -2,8 +2,8 @@
 use Rattle.std.proofs.Common.{ℕ, refl, inr, subst}
 use Rattle.std.specs.Prelude.{Option, Ok}
 use Rattle.df_disk.specs.Told.{Told}
-use Rattle.df_replica.specs.Below.{State}
-use Rattle.df_replica.specs.Surveying.{TellsSurvey}
+use Rattle.df_session.specs.Below.{State}
+use Rattle.df_session.specs.Surveying.{TellsSurvey}
 use Rattle.df_top.specs.Outside.{Blames, Outside}
 use Rattle.df_top.specs.declared.mode.Mode.TheVariants.{Run}
 use Rattle.df_top.specs.declared.status.Status.TheVariants.{DiskFault}

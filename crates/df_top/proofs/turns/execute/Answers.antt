@@ -4,7 +4,7 @@ use Rattle.df_disk.specs.Told.{Told}
 use Rattle.df_lines.specs.declared.line.Line.{Line}
 use Rattle.df_lines.specs.Grammar.{said_with}
 use Rattle.df_model.specs.Commands.{Append, Begin, Reply, WriteBlock}
-use Rattle.df_replica.specs.Below.{State as Replica}
+use Rattle.df_session.specs.Below.{State as Replica}
 use Rattle.df_top.specs.Lines.{command_of}
 use Rattle.df_top.specs.Step.{Answers}
 use Rattle.df_top.specs.declared.turns.Turn.{Turn}

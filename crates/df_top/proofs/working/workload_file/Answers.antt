@@ -5,8 +5,8 @@ use Rattle.df_base.specs.Causes.{IsBlamed}
 use Rattle.df_disk.specs.Told.{Told}
 use Rattle.df_layout.specs.declared.layout.Layout.{Layout}
 use Rattle.df_model.specs.declared.answers.Summary.{Summary}
-use Rattle.df_replica.specs.Below.{State}
-use Rattle.df_replica.specs.Surveying.{TellsSurvey}
+use Rattle.df_session.specs.Below.{State}
+use Rattle.df_session.specs.Surveying.{TellsSurvey}
 use Rattle.df_workload.specs.Rounds.{start}
 use Rattle.df_workload.specs.declared.state.State.{State as Run}
 use Rattle.df_top.specs.Outside.{Outside}
