@@ -13,7 +13,7 @@ use Rattle.df_model.specs.Work.{opened}
 use Rattle.df_model.specs.declared.errors.OpenError.{OpenError}
 use Rattle.df_model.specs.declared.errors.OpenError.TheVariants as opens
 use Rattle.df_session.specs.Below.{State as Replica, shape, IsOpened}
-use Rattle.df_session.specs.Opened.{MendsAll, ToldBy}
+use Rattle.df_session.specs.Opened.{MendsAll, StopsOpening, ToldBy}
 use Rattle.df_session.specs.Surveying.{TellsSurvey}
 use Rattle.df_session.proofs.Laws.{found_keeps}
 use Rattle.df_pace.specs.Beats.{started}
@@ -26,11 +26,13 @@ use Rattle.df_top.specs.Acknowledging.{script_calls}
 use Rattle.df_top.specs.Opening.{FailsToFind, RefusesFile, StopsBefore}
 use Rattle.df_top.specs.Outside.{IsThrough, Outside}
 use Rattle.df_top.specs.Refusing.{PrintsError}
-use Rattle.df_top.specs.Run.{ComesTo, ServesScript, start}
+use Rattle.df_top.specs.Mode.{Executes}
+use Rattle.df_top.specs.Run.{ComesTo, Does, ServesScript, start}
 use Rattle.df_session.specs.Session.{Act}
 use Rattle.df_top.specs.Lines.{Failing, Turned, act_of, all_acts, all_answers}
 use Rattle.df_top.specs.Session.{Ended, EndsWith, State, state}
 use Rattle.df_top.specs.declared.mode.Mode.{Mode}
+use Rattle.df_top.specs.declared.mode.Mode.TheVariants.{Run, Paced}
 use Rattle.df_top.specs.declared.session.Session.{Session}
 use Rattle.df_top.specs.declared.status.Status.{Status}
 use Rattle.df_top.specs.declared.status.Status.TheVariants.{Done, Script, Words, Refused, Memory, DiskFault, ReadFault, WriteFault, Found}
@@ -166,3 +168,18 @@ not_opened mode layout t old new status e whole told answer unread barrier stops
     by_fault (λ x. ComesTo mode layout t old new status) e
     (λ is. inr (inl (fails mode layout t old new status e is (stops whole is) unread prints)))
     (λ no. inl (refuses layout t old new status e no whole told answer unread (barrier no) prints))
+
+-- ---- a word that executes a script
+
+-- it serves it
+pub executed : (mode : Mode) (pace : Pace) → Executes mode pace → (layout : Layout) (t : Told) (old new : Outside) (status : Status) → (found : FoundFile layout t) × ServesScript pace layout t found old new status → Does mode layout t old new status
+executed Run pace is layout t old new status served = (tt, inr (inr (served.0, subst (λ (p : Pace). ServesScript p layout t served.0 old new status) is served.1)))
+executed (Paced given) pace is layout t old new status served = (tt, inr (inr (served.0, subst (λ (p : Pace). ServesScript p layout t served.0 old new status) is served.1)))
+executed mode pace is layout t old new status served = absurd is
+
+-- or the file isn't opened
+pub not_executed : (mode : Mode) (pace : Pace) → Executes mode pace → (layout : Layout) (t : Told) (old new : Outside) (status : Status) (e : OpenError) → IsImage t.shown → old.told ≡ Some t → TellsSurvey layout old.told (Err e) → new.left ≡ old.left → ((e ≡ opens.DiskFault → ⊥) → new.told ≡ after Sync old.told)
+    → (IsImage t.shown → e ≡ opens.DiskFault → StopsOpening layout t new.told) → PrintsError e old.written new.written status → Does mode layout t old new status
+not_executed Run pace is layout t old new status e whole told answer unread barrier stops prints = (tt, not_opened Run layout t old new status e whole told answer unread barrier stops prints)
+not_executed (Paced given) pace is layout t old new status e whole told answer unread barrier stops prints = (tt, not_opened (Paced given) layout t old new status e whole told answer unread barrier stops prints)
+not_executed mode pace is layout t old new status e whole told answer unread barrier stops prints = absurd is
