@@ -11,7 +11,7 @@ pub use calls::{
 };
 pub use df_replica::{
     AppendError, BeginError, BlockError, FormatError, LookupError, NotLive, OpenError,
-    PrepareError, Progress, ReadError, Replica, ReplyError, StepError,
+    PrepareError, Progress, ReadError, Replica, ReplyError, Rooms, StepError,
 };
 pub use files::{
     SURVEY_CALLS, first_copy, forge_copies, format_in, found, lists, new_file, open, open_in,

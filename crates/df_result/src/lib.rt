@@ -1,5 +1,5 @@
 //! What a call of a replica answers over a disk is what the machine answers over the image that the disk shows, whatever image that is: the checksums that the units of
-//! a file get, as a function of what they say, and one call after the other.
+//! a file get, as a function of what they say, and one call after the other. The crates above have the replica through this one.
 #![tactic(auto)]
 
 mod calls;

@@ -1,5 +1,5 @@
 //! A list of calls on an open file, whatever they are and whoever asks for them: each is made and answered, and what of all of them is
-//! kept. The programs that work with a file make their calls through it, and cite what it says of them.
+//! kept. The programs that work with a file make their calls through it, cite what it says of them, and have the replica through it.
 #![tactic(auto)]
 
 mod calls;
