@@ -121,7 +121,7 @@ pub goes_on : (pace : Pace) (bound : ℕ) (old new : State) (said : Said) → Ta
     → (done : IsAnswered (command_of said) old.replica new.replica old.outside.told new.outside.told (λ line. Appends old.outside.written new.outside.written line)) → new.lines ≡ old.lines + 1
     → new.beat ≡ behind pace old.beat (ByLine said) new.replica done.0 → GoesOn pace bound old new
 goes_on pace bound old new said takes idle done lines beat origin turns so_far =
-    call_done pace bound old new (ByLine said) takes done.1.act (done.1.is, idle) done.0 done.1.calls origin turns so_far done.2 lines beat
+    call_done pace bound old new (ByLine said) takes done.1.act (done.1.is, idle) done.0 done.1.calls origin turns so_far done.2 (omega (arith, lines)) beat
 
 -- a piece of the loop's work was done
 module _ (pace : Pace) (bound : ℕ) (old new : State) (p : Piece) (text : new.text ≡ old.text) (budget : new.budget ≡ old.budget) (due : next_piece old.beat.due (runs old.replica) ≡ Some p) where
