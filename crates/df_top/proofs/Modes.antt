@@ -237,3 +237,7 @@ only_paced scrub every steps none (Paced p) says =
 -- a number out of its range
 pub out_of_range : (count : List ℕ) (found n : ℕ) → count ≡ decimal found → count ≡ decimal n → found < 2 ^ 64 → 1 ≤ n → n ≤ 1000000 → found ≡ n
 out_of_range count found n one other fits some million = one_number found n (omega arith) (omega arith) (sym one ∙ other)
+
+-- a number of a pace
+pub past_pieces : (text : List ℕ) (found n : ℕ) → text ≡ decimal found → text ≡ decimal n → found < 2 ^ 64 → n ≤ 64 → found ≡ n
+past_pieces text found n one other fits few = one_number found n (omega arith) (omega arith) (sym one ∙ other)

@@ -40,8 +40,8 @@ use Rattle.df_top.proofs.Progress.{ends_damaged, ends_damaged_fault, ends_disk, 
 -- ---- whether a checkpoint was begun
 
 begun_if : (fault : Bool) (x y : Said) → is_begun y ≡ false → (if fault then None else Some y) ≡ Some x → false ≡ is_begun x
-begun_if true x y no is = absurd (none-some x is)
-begun_if false x y no is = let one : y ≡ x = cc is in sym no ∙ ap is_begun one
+begun_if true x y plain is = absurd (none-some x is)
+begun_if false x y plain is = let one : y ≡ x = cc is in sym plain ∙ ap is_begun one
 
 begun_of : (x y : Said) (b : Bool) → b ≡ is_begun y → Some y ≡ Some x → b ≡ is_begun x
 begun_of x y b so is = let one : y ≡ x = cc is in so ∙ ap is_begun one
@@ -115,5 +115,5 @@ module _ (pace : Pace) (bound : ℕ) (old new : State) (p : Piece) (text : new.t
 
 pub fewer_behind : (p : Piece) (command : Command) (s t : Replica) (old new : Option Told) (written took : Option (List ℕ)) (b c : Beat) (turn : Turn) → next_piece b.due (runs s) ≡ Some p → Passes p command s t old new written took b c turn
     → OnGoing turn (pieces_left c.due < pieces_left b.due)
-fewer_behind p command s t old new written took b c GoesOn due did = subst (λ (x : Beat). pieces_left x.due < pieces_left b.due) (sym did.3) (fewer_due b.due (runs s) p due)
-fewer_behind p command s t old new written took b c (Ends status) due did = tt
+fewer_behind p asked s t old new written took b c GoesOn due did = subst (λ (x : Beat). pieces_left x.due < pieces_left b.due) (sym did.3) (fewer_due b.due (runs s) p due)
+fewer_behind p asked s t old new written took b c (Ends status) due did = tt

@@ -88,11 +88,11 @@ module _ (pace : Pace) (file : DataFile) where
     line_over c is said due more =
         let z : Stand = by_script sh cd x c in
         let rest : rest_due sh cd e z ≡ commands_due sh cd pace z = ap (λ (d : Due). rest_due sh cd d z) due ∙ sym (whole_due sh cd pace z) in
-        let then : from e z ≡ passed sh cd pace x c = ap (λ (cs : List Command). all_by_loop sh cd z cs) rest in
+        let later_is : from e z ≡ passed sh cd pace x c = ap (λ (cs : List Command). all_by_loop sh cd z cs) rest in
         let here : from d x ≡ x = ap (λ (cs : List Command). all_by_loop sh cd x cs) none in
-        let text : all_text turns ≡ joined (paced sh cd pace (passed sh cd pace x c) (lines_in turns)) = more.text ∙ ap (λ (u : Stand). joined (paced sh cd pace u (lines_in turns))) then in
+        let text : all_text turns ≡ joined (paced sh cd pace (passed sh cd pace x c) (lines_in turns)) = more.text ∙ ap (λ (u : Stand). joined (paced sh cd pace u (lines_in turns))) later_is in
         let commands : commands_due sh cd pace z ++ all_commands sh cd pace (passed sh cd pace x c) (lines_in turns) ≡ map command_in (all_acts turns) ++ more.rest =
-        sym (λ i. rest i ++ all_commands sh cd pace (then i) (lines_in turns)) ∙ more.commands in (
+        sym (λ i. rest i ++ all_commands sh cd pace (later_is i) (lines_in turns)) ∙ more.commands in (
           (λ i. answer_text c (said i) ++ text i) ∙ sym (ap (λ (u : Stand). joined (paced sh cd pace u (c ∷ lines_in turns))) here),
           (λ i. none i ++ all_commands sh cd pace (here i) (c ∷ lines_in turns)) ∙ (λ i. sym is i ∷ commands i),
         )
@@ -104,9 +104,9 @@ module _ (pace : Pace) (file : DataFile) where
   piece_over d p x act turns idle due is more =
       let c : Command = piece_command p x.work.view.checkpoint.parts.root in
       let left : rest_due sh cd d x ≡ c ∷ rest_due sh cd (without p d) (by_loop sh cd x c) = piece_due sh cd d x p due in
-      let then : from d x ≡ from (without p d) (by_loop sh cd x c) = ap (λ (cs : List Command). all_by_loop sh cd x cs) left in (
-        more.text ∙ sym (ap (λ (u : Stand). joined (paced sh cd pace u (lines_in turns))) then),
-        (λ i. left i ++ all_commands sh cd pace (then i) (lines_in turns)) ∙ (λ i. sym is i ∷ more.commands i),
+      let later_is : from d x ≡ from (without p d) (by_loop sh cd x c) = ap (λ (cs : List Command). all_by_loop sh cd x cs) left in (
+        more.text ∙ sym (ap (λ (u : Stand). joined (paced sh cd pace u (lines_in turns))) later_is),
+        (λ i. left i ++ all_commands sh cd pace (later_is i) (lines_in turns)) ∙ (λ i. sym is i ∷ more.commands i),
       )
 
   -- ---- all calls
@@ -125,11 +125,11 @@ module _ (pace : Pace) (file : DataFile) where
         let c : Command = command_of said in
         let is : IsResult file x.shown x.work c answer v n = subst (λ (d : Command). IsResult file x.shown x.work d answer v n) next.0 result in
         let z : Stand = by_script sh cd x c in
-        let then : Stands v z = stands v z is.file_is is.keeps in
+        let there : Stands v z = stands v z is.file_is is.keeps in
         let count : IsCounted z b.since = line_counts sh cd x c b.since here.sense counted in
         let more = later z is.keeps is.shown_is count in
         let none : rest_due sh cd b.due x ≡ [] = nothing_due sh cd b.due x (ap (λ (r : Bool). next_piece b.due r) (sym (runs_is s x here)) ∙ next.1) in
-        let due : due_at pace (v.head - b.since) (runs v) ≡ due_at pace z.appended (runs_at sh cd z) = λ i. due_at pace (grown z b.since v.head count (head_is v z then) i) (runs_is v z then i) in
+        let due : due_at pace (v.head - b.since) (runs v) ≡ due_at pace z.appended (runs_at sh cd z) = λ i. due_at pace (grown z b.since v.head count (head_is v z there) i) (runs_is v z there i) in
         let both = line_over b.due (due_at pace (v.head - b.since) (runs v)) x act answer turns idle none c next.0 is.answer_is due more in
         record { text = both.0; rest = more.rest; commands = both.1; whole = more.whole }
     call_over (ByLoop p) next later =
@@ -137,9 +137,9 @@ module _ (pace : Pace) (file : DataFile) where
         let asked : act.command ≡ c = next.0 ∙ ap (piece_command p) (root_is s x here) in
         let is : IsResult file x.shown x.work c answer v n = subst (λ (d : Command). IsResult file x.shown x.work d answer v n) asked result in
         let z : Stand = by_loop sh cd x c in
-        let then : Stands v z = stands v z is.file_is is.keeps in
+        let there : Stands v z = stands v z is.file_is is.keeps in
         let count : IsCounted z (if is_begun answer then v.head else b.since) =
-        subst (λ (k : ℕ). IsCounted z k) (λ i. if is_begun (sym is.answer_is i) then sym (head_is v z then) i else b.since) (piece_counts sh cd x p b.since here.sense counted) in
+        subst (λ (k : ℕ). IsCounted z k) (λ i. if is_begun (sym is.answer_is i) then sym (head_is v z there) i else b.since) (piece_counts sh cd x p b.since here.sense counted) in
         let more = later z is.keeps is.shown_is count in
         let both = piece_over b.due p x act turns idle (ap (λ (r : Bool). next_piece b.due r) (sym (runs_is s x here)) ∙ next.1) asked more in
         record { text = both.0; rest = more.rest; commands = both.1; whole = more.whole }

@@ -7,7 +7,7 @@ use Rattle.df_top.proofs.background.pass.Goals as goal
 pub returns-in-Ok-clause-passes : goal.returns-in-Ok-clause-passes
 returns-in-Ok-clause-passes g c =
     let does = c.in-Ok.ensures.does in
-    (does.0, does.1, refl, c.behind_piece.ensures ∙ (λ i. behind_piece c.args.piece (does.2 i) c.args.session.now.beat (c.summary.ensures i).head))
+    (does.0, does.1, refl, c.behind_piece-session.ensures ∙ (λ i. behind_piece c.args.piece (does.2 i) c.args.session.now.beat (c.summary-head.ensures i).head))
 
 pub returns-in-Ok-clause-live : goal.returns-in-Ok-clause-live
 returns-in-Ok-clause-live g c = c.in-Ok.ensures.does.1.calls.call.live

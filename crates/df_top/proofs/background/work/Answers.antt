@@ -6,8 +6,8 @@ use Rattle.df_top.specs.Step.{EndsIn, GoesOn}
 use Rattle.df_top.proofs.Progress.{on_ends, on_more, on_none}
 use Rattle.df_top.proofs.background.work.Goals as goal
 
-pub loop-disk-init : goal.loop-disk-init
-loop-disk-init g c = record {
+pub loop-piece-init : goal.loop-piece-init
+loop-piece-init g c = record {
   turns = λ left bound. let here : State = state (record { told = g.D.Disk.told c.args.disk.now; left = left; written = g.W.Sink.written c.args.sink.now }) c.args.session.now in on_none c.args.session.now.pace bound here here refl;
   lines = refl;
   count = refl;
@@ -17,9 +17,9 @@ loop-disk-init g c = record {
   sink_faults = refl;
 }
 
-pub loop-disk-preserved : goal.loop-disk-preserved
-loop-disk-preserved g c =
-    let now = c.loop-disk in
+pub loop-piece-preserved : goal.loop-piece-preserved
+loop-piece-preserved g c =
+    let now = c.loop-piece in
     record {
       turns = λ left bound.
           let old : State = state (record { told = g.D.Disk.told c.args.disk.now; left = left; written = g.W.Sink.written c.args.sink.now }) c.args.session.now in
@@ -36,7 +36,7 @@ loop-disk-preserved g c =
 
 pub returns-in-Ends-clause-turns : goal.returns-in-Ends-clause-turns
 returns-in-Ends-clause-turns g c = λ left bound.
-    let now = c.loop-disk in
+    let now = c.loop-piece in
     let old : State = state (record { told = g.D.Disk.told c.args.disk.now; left = left; written = g.W.Sink.written c.args.sink.now }) c.args.session.now in
     let mid : State = state (record { told = g.D.Disk.told now.disk; left = left; written = g.W.Sink.written now.sink }) now.session in
     let new : State = state (record { told = g.D.Disk.told c.do_next.new.disk; left = left; written = g.W.Sink.written c.do_next.new.sink }) c.do_next.new.session in

@@ -5,8 +5,8 @@ use Rattle.df_top.specs.Session.{state}
 use Rattle.df_top.specs.Step.{GoesOn}
 use Rattle.df_top.proofs.background.work.Given as goal
 
-abbrev pub invariant-loop-disk : goal.invariant-loop-disk
-invariant-loop-disk g l = record {
+abbrev pub invariant-loop-piece : goal.invariant-loop-piece
+invariant-loop-piece g l = record {
   turns : (left : Option (List ℕ)) (bound : ℕ) → GoesOn l.fn.session.pace bound (state (record { told = g.D.Disk.told l.fn.disk; left = left; written = g.W.Sink.written l.fn.sink }) l.fn.session)
       (state (record { told = g.D.Disk.told l.disk; left = left; written = g.W.Sink.written l.sink }) l.session);
   lines : l.session.lines ≡ l.fn.session.lines;
@@ -17,5 +17,5 @@ invariant-loop-disk g l = record {
   sink_faults : g.W.Sink.faults l.sink ≡ g.W.Sink.faults l.fn.sink;
 }
 
-abbrev pub decreases-loop-disk : goal.decreases-loop-disk
-decreases-loop-disk g l = pieces_left l.session.beat.due
+abbrev pub decreases-loop-piece : goal.decreases-loop-piece
+decreases-loop-piece g l = pieces_left l.session.beat.due
