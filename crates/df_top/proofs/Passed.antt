@@ -90,6 +90,19 @@ module _ (p : Piece) (command : Command) (s t : Replica) (old new : Option Told)
   fault_passes Disk status does blamed printed = subst (λ (q : Status). Comes (Ends q)) (sym printed.0) ((does.0, printed.1), disk_rose before now (Ends DiskFault) refl blamed.1)
   fault_passes (Damaged place class) status does same printed = line_passes (damaged_text place class) status does.0 (damaged_line command new place class does.1) same printed
 
+-- nothing is read for it
+pub passes_unread : (p : Piece) (asked : Command) (s t : Replica) (old new : Option Told) (written took : Option (List ℕ)) (b c : Beat) (turn : Turn) → Passes p asked s t old new written took b c turn → (faults : ℕ) → BlamesIfEnds ReadFault faults faults turn
+passes_unread p asked s t old new written took b c GoesOn did = λ faults. refl
+passes_unread p asked s t old new written took b c (Ends DiskFault) did = λ faults. record { rose = λ is. absurd (cc); same = λ other. refl }
+passes_unread p asked s t old new written took b c (Ends Refused) did = λ faults. record { rose = λ is. absurd (cc); same = λ other. refl }
+passes_unread p asked s t old new written took b c (Ends WriteFault) did = λ faults. record { rose = λ is. absurd (cc); same = λ other. refl }
+passes_unread p asked s t old new written took b c (Ends Done) did = absurd did
+passes_unread p asked s t old new written took b c (Ends Found) did = absurd did
+passes_unread p asked s t old new written took b c (Ends Words) did = absurd did
+passes_unread p asked s t old new written took b c (Ends Script) did = absurd did
+passes_unread p asked s t old new written took b c (Ends ReadFault) did = absurd did
+passes_unread p asked s t old new written took b c (Ends Memory) did = absurd did
+
 -- ---- what it does to a session
 
 module _ (pace : Pace) (bound : ℕ) (old new : State) (p : Piece) (text : new.text ≡ old.text) (budget : new.budget ≡ old.budget) (lines : new.lines ≡ old.lines) (due : next_piece old.beat.due (runs old.replica) ≡ Some p) where

@@ -118,6 +118,7 @@ fn pass<D: Disk, W: Sink>(
     ensures pace { session.new.pace ≡ session.old.pace }
     ensures live { OnGoing result (session.new.replica.live ≡ true) }
     ensures disk { BlamesIfEnds Status.DiskFault (D.faults disk.old) (D.faults disk.new) result }
+    ensures source { (faults : ℕ) → BlamesIfEnds Status.ReadFault faults faults result }
     ensures sink { BlamesIfEnds Status.WriteFault (W.faults sink.old) (W.faults sink.new) result }
 {
     match do_piece(disk, &mut session.replica, piece) {
@@ -148,6 +149,7 @@ fn do_next<D: Disk, W: Sink>(
     ensures live { OnGoing result (session.new.replica.live ≡ true) }
     ensures fewer { OnGoing result (pieces_left session.new.beat.due < pieces_left session.old.beat.due) }
     ensures disk { BlamesIfEnds Status.DiskFault (D.faults disk.old) (D.faults disk.new) result }
+    ensures source { (faults : ℕ) → BlamesIfEnds Status.ReadFault faults faults result }
     ensures sink { BlamesIfEnds Status.WriteFault (W.faults sink.old) (W.faults sink.new) result }
 {
     pass(disk, sink, session, piece)
@@ -172,6 +174,7 @@ pub fn work<D: Disk, W: Sink>(disk: &mut D, sink: &mut W, session: &mut Session)
     ensures pace { session.new.pace ≡ session.old.pace }
     ensures live { OnGoing result (session.new.replica.live ≡ true) }
     ensures disk { BlamesIfEnds Status.DiskFault (D.faults disk.old) (D.faults disk.new) result }
+    ensures source { (faults : ℕ) → BlamesIfEnds Status.ReadFault faults faults result }
     ensures sink { BlamesIfEnds Status.WriteFault (W.faults sink.old) (W.faults sink.new) result }
 {
     while let Some(piece) = next(session) {

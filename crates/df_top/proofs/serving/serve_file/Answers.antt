@@ -10,6 +10,7 @@ use Rattle.df_pace.specs.Beats.{next_piece, started}
 use Rattle.df_pace.specs.declared.beat.Beat.{Beat}
 use Rattle.df_pace.proofs.Laws.{starts_idle}
 use Rattle.df_top.specs.Pacing.{runs}
+use Rattle.df_top.specs.declared.session.Session.{Session}
 use Rattle.df_top.specs.declared.status.Status.TheVariants.{DiskFault}
 use Rattle.df_top.specs.Session.{state}
 use Rattle.df_top.proofs.Causes.{ended_never, open_causes, refused_never}
@@ -20,14 +21,12 @@ pub returns-in-Ok-clause-serves : goal.returns-in-Ok-clause-serves
 returns-in-Ok-clause-serves g c = λ mode executes t told whole.
     let old : Outside = record { told = g.D.Disk.told c.args.disk.now; left = g.S.Source.left c.args.source.now; written = g.W.Sink.written c.args.sink.now } in
     let new : Outside = record { told = g.D.Disk.told c.serve_script.new.disk; left = g.S.Source.left c.serve_script.new.source; written = g.W.Sink.written c.serve_script.new.sink } in
+    let session : Session = record { replica = c.in-Ok.replica; lines = c.args.lines; count = 0; pace = c.args.pace; beat = c.start-beat.result } in
     executed mode c.args.pace executes c.args.rooms.layout t old new c.serve_script.result
     (serves c.args.pace c.args.rooms.layout t old new c.serve_script.result c.in-Ok.replica (g.D.Disk.told c.open.new.disk) whole told c.in-Ok.ensures.live c.in-Ok.ensures.kept
     ((subst (λ (o : Option Told). TellsSurvey c.args.rooms.layout o (Ok c.in-Ok.replica)) told c.in-Ok.ensures.answer) whole) (c.in-Ok.ensures.opened t told)
     (state new c.serve_script.new.session) refl
-    (from_start c.args.pace (g.D.Disk.told c.open.new.disk) old _ c.args.rooms.layout (state new c.serve_script.new.session) c.serve_script.result c.requires.lines refl (c.start-beat.ensures ∙ ap (λ (s : Summary). started s.head) c.summary.ensures) c.serve_script.ensures.session))
-
-pub serve_script-requires-idle : goal.serve_script-requires-idle
-serve_script-requires-idle g c = subst (λ (b : Beat). next_piece b.due (runs c.in-Ok.replica) ≡ None) (sym c.start-beat.ensures) (starts_idle c.summary.result.head (runs c.in-Ok.replica))
+    (from_start c.args.pace (g.D.Disk.told c.open.new.disk) old session c.args.rooms.layout (state new c.serve_script.new.session) c.serve_script.result c.requires.lines refl (c.start-beat.ensures ∙ ap (λ (s : Summary). started s.head) c.summary.ensures) c.serve_script.ensures.session))
 
 pub returns-in-Err-clause-serves : goal.returns-in-Err-clause-serves
 returns-in-Err-clause-serves g c = λ mode executes t told whole.

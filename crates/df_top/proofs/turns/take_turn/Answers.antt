@@ -1,8 +1,10 @@
 -- The line, and then the work behind it.
-use Rattle.std.proofs.Common.{subst}
+use Rattle.std.proofs.Common.{ℕ, subst}
 use Rattle.df_pace.specs.declared.pace.Pace.{Pace}
 use Rattle.df_top.specs.Session.{State, state}
 use Rattle.df_top.specs.Step.{Turns}
+use Rattle.df_top.specs.Turning.{BlamesIfEnds}
+use Rattle.df_top.specs.declared.status.Status.TheVariants.{ReadFault}
 use Rattle.df_top.proofs.LineEnds.{then_turns}
 use Rattle.df_top.proofs.turns.take_turn.Goals as goal
 
@@ -14,3 +16,7 @@ returns-in-GoesOn-clause-turns g c =
     let bound = c.args.session.now.lines.reading.bound in
     then_turns c.args.session.now.pace bound old mid new c.in-GoesOn.ensures.turns c.work.result
     (subst (λ (p : Pace). Turns p bound mid new c.work.result) c.take_line.ensures.pace (c.work.ensures.turns (g.S.Source.left c.take_line.new.source) bound))
+
+pub returns-in-GoesOn-clause-source : goal.returns-in-GoesOn-clause-source
+returns-in-GoesOn-clause-source g c =
+    subst (λ (n : ℕ). BlamesIfEnds ReadFault n (g.S.Source.faults c.take_line.new.source) c.work.result) c.in-GoesOn.ensures.source (c.work.ensures.source (g.S.Source.faults c.take_line.new.source))
