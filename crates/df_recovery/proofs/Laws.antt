@@ -3,8 +3,8 @@ pub use Rattle.df_recovery.proofs.OneAnswer.{one_refusal, one_super, super_or_re
 pub use Rattle.df_recovery.proofs.Written.{super_is_written, written_is}
 pub use Rattle.df_recovery.proofs.FilesRead.{file_is_read}
 pub use Rattle.df_recovery.proofs.OpenAnswers.{kept_is_answer, refused_is_answer}
--- ---- a file is its layout and its cluster
-pub use Rattle.df_rooms.proofs.Laws.{same_file}
+-- ---- a file is its layout and its cluster, and a state that goes on
+pub use Rattle.df_rooms.proofs.Laws.{asked_noted, course_on, same_file}
 -- ---- the mends of the slots, one slot more
 pub use Rattle.df_recovery.proofs.Plans.{filter_more, slot_mends_more}
 -- ---- the checksums that wait

@@ -14,5 +14,11 @@ pub use Rattle.df_journal.specs.Seen.{class_of, header_of_seen}
 pub use Rattle.df_journal.specs.Shows.{ShowsTable, Tells}
 pub use Rattle.df_journal.specs.Tail.{AreNumbered, AreUnstored}
 pub use Rattle.df_checkpoint.specs.Below.{AreFieldsOf, IsBlamed, parse_of}
-pub use Rattle.df_rooms.specs.State.{AreAsked, Represents, State, shape}
+pub use Rattle.df_rooms.specs.Below.{IsMachineStep, IsMachines, IsStep, IsVerdict, ListsFailing, ScrubState, after_step, failing_among, failing_in, left_in, verdict_in, with_check}
+pub use Rattle.df_rooms.specs.Courses.{running_of, running_state}
+pub use Rattle.df_rooms.specs.Parts.{AreFound, AreWhole, state_in, summary_of}
+pub use Rattle.df_rooms.specs.State.{AreAsked, IsCourse, IsRunning, IsState, Represents, RunningState, State, captured_text, course_in, course_of, grid_with, memory, prepare_sum, reply_sum, shape, spelling, stored_sum, sum_of}
 pub use Rattle.df_rooms.specs.declared.file.DataFile.{DataFile}
+pub use Rattle.df_rooms.specs.declared.log_rooms.LogRooms.{LogRooms}
+pub use Rattle.df_rooms.specs.declared.parts.Parts.{Parts}
+pub use Rattle.df_rooms.specs.declared.running.RunningCheckpoint.{RunningCheckpoint}

@@ -33,7 +33,7 @@ use Rattle.df_replica.specs.Answering.{Serves, answer_of, as_append}
 use Rattle.df_replica.specs.Appending.{append_events, appended, header_given, next_unit, receipt_of}
 use Rattle.df_replica.specs.Serving.{IsCall, format, next}
 use Rattle.df_replica.specs.Supply.{IsSupplied}
-use Rattle.df_rooms.specs.State.{IsState, Represents, State, memory, shape, spelling}
+use Rattle.df_opening.specs.Below.{IsState, Represents, State, memory, shape, spelling}
 use Rattle.df_replica.proofs.AppendCalls.{allowed_does, allowed_makes, allowed_puts, refused_does, refused_makes, refused_puts, ring_then, test_is}
 use Rattle.df_replica.proofs.AppendMemory.{appended_memory}
 use Rattle.df_replica.proofs.AppendTests.{may_next}

@@ -39,10 +39,11 @@ use Rattle.df_model.specs.Supply.{puts_of, unless}
 use Rattle.df_model.specs.Work.{Work}
 use Rattle.df_model.specs.declared.errors.AppendError.{AppendError}
 use Rattle.df_model.proofs.Laws.{append_may_law}
-use Rattle.df_rooms.specs.State.{IsState, Represents, State, memory, shape, spelling}
+use Rattle.df_opening.specs.Below.{IsState, Represents, State, memory, shape, spelling}
 use Rattle.df_replica.specs.Appending.{append_events, next_unit}
 use Rattle.df_replica.specs.Serving.{Grade, IsKept, format}
-use Rattle.df_replica.proofs.Calls.{AreCalls, firmly}
+use Rattle.df_replica.proofs.Calls.{AreCalls}
+use Rattle.df_opening.proofs.Laws.{firmly}
 use Rattle.df_replica.proofs.Leaves.{Makes, makes_nothing}
 use Rattle.df_replica.proofs.Makes.{OfMade, Unless}
 use Rattle.df_replica.proofs.WritesOn.{StandsIn, steps_stand}

@@ -16,7 +16,7 @@ use Rattle.df_theory.specs.Units as theory
 use Rattle.df_units.specs.Meaning.{header_of, message_of, number_of}
 use Rattle.df_model.specs.Memory.{Memory}
 use Rattle.df_model.specs.Changing.{appended_in, unstored}
-use Rattle.df_rooms.specs.State.{IsState, State, memory, prepare_sum, stored_sum, sum_of}
+use Rattle.df_opening.specs.Below.{IsState, State, memory, prepare_sum, stored_sum, sum_of}
 use Rattle.df_replica.specs.Appending.{appended, next_unit}
 
 -- ---- the sessions

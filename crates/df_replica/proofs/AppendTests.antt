@@ -18,7 +18,7 @@ use Rattle.df_theory.specs.Units.{Header, Session}
 use Rattle.df_model.specs.Refusals.{append_refusals, first_refusal, is_new, last_op, next_request, session_of_client}
 use Rattle.df_journal.specs.Tail.{AreNumbered}
 use Rattle.df_model.proofs.Laws.{all_pass, known_asks, new_asks}
-use Rattle.df_rooms.specs.State.{IsState, State, memory}
+use Rattle.df_opening.specs.Below.{IsState, State, memory}
 use Rattle.df_replica.specs.Refusing.{session_at}
 use Rattle.df_replica.specs.Appending.{MayNext}
 

@@ -18,7 +18,7 @@ use Rattle.df_model.specs.Sense.{IsWork}
 use Rattle.df_model.specs.Work.{Work}
 use Rattle.df_model.proofs.Laws.{change_law}
 use Rattle.df_model.specs.declared.errors.BeginError.{BeginError}
-use Rattle.df_rooms.specs.State.{Represents, State, shape, spelling}
+use Rattle.df_opening.specs.Below.{Represents, State, shape, spelling}
 use Rattle.df_replica.specs.Answering.{Serves, begin_answer}
 use Rattle.df_replica.specs.Beginning.{begin_refusal, begun, needed}
 use Rattle.df_replica.specs.Serving.{IsCall, next}

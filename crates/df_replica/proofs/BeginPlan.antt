@@ -12,7 +12,7 @@ use Rattle.df_trailer.specs.Spelling.{is_referenced, text_size}
 use Rattle.df_trailer.specs.Text.{ones}
 use Rattle.df_trailer.specs.Writing.{captured_blocks}
 use Rattle.df_trailer.proofs.Laws.{text_sized}
-use Rattle.df_rooms.specs.State.{State, memory}
+use Rattle.df_opening.specs.Below.{State, memory}
 use Rattle.df_replica.specs.Beginning.{IsPlan, text_to_write}
 
 -- one more of a list

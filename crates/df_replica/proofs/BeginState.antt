@@ -5,7 +5,7 @@ use Rattle.df_sessions.specs.Table.{IsTable}
 use Rattle.df_theory.specs.Trailer.{IsCount}
 use Rattle.df_model.specs.Blocks.{Blocks}
 use Rattle.df_model.specs.Memory.{free_of}
-use Rattle.df_rooms.specs.State.{RunningState, IsCourse, IsRunning, IsState, State, memory}
+use Rattle.df_opening.specs.Below.{RunningState, IsCourse, IsRunning, IsState, State, memory}
 use Rattle.df_replica.specs.declared.begin.Plan.{Plan}
 use Rattle.df_replica.specs.Beginning.{MayBegin, begun, captured, needed}
 

@@ -42,7 +42,7 @@ use Rattle.df_model.specs.Supply.{puts_of, unless}
 use Rattle.df_model.specs.Work.{Work}
 use Rattle.df_model.proofs.Laws.{change_law}
 use Rattle.df_model.specs.declared.errors.BlockError.{BlockError}
-use Rattle.df_rooms.specs.State.{Represents, State, memory, shape, spelling}
+use Rattle.df_opening.specs.Below.{Represents, State, memory, shape, spelling}
 use Rattle.df_replica.specs.Answering.{Serves, answer_of, as_write_block}
 use Rattle.df_replica.specs.Blocks.{block_events, block_given, next_block, reference_of, written}
 use Rattle.df_replica.specs.Serving.{Grade, IsCall, IsKept, format, next}

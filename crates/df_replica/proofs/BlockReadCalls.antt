@@ -26,7 +26,7 @@ use Rattle.df_model.specs.Refusals.{first_refusal, read_refusals}
 use Rattle.df_model.specs.Work.{is_known}
 use Rattle.df_model.specs.declared.reading.ReadError.{ReadError}
 use Rattle.df_model.specs.declared.reading.ReadError.TheVariants as read
-use Rattle.df_rooms.specs.State.{State, memory}
+use Rattle.df_opening.specs.Below.{State, memory}
 use Rattle.df_replica.specs.Answering.{GivesBlock, ServesBlockRead}
 use Rattle.df_replica.specs.BlockReads.{IsBlockFound, IsReadBlock}
 use Rattle.df_replica.specs.Supply.{IsSupplied}

@@ -11,8 +11,7 @@ use Rattle.df_model.specs.Refusals.{block_refusals, first_refusal}
 use Rattle.df_model.specs.Work.{is_known}
 use Rattle.df_model.proofs.Laws.{all_pass, known_none, without_none}
 use Rattle.df_model.specs.declared.errors.BlockError.{BlockError}
-use Rattle.df_rooms.specs.declared.file.DataFile.{DataFile}
-use Rattle.df_rooms.specs.State.{RunningState, IsCourse, IsState, State, course_in, grid_with, memory}
+use Rattle.df_opening.specs.Below.{DataFile, RunningState, IsCourse, IsState, State, course_in, grid_with, memory}
 use Rattle.df_replica.specs.Blocks.{MayWriteNext, address_or, with_blocks}
 use Rattle.df_replica.proofs.BeginState.{with_course}
 

@@ -22,7 +22,7 @@ use Rattle.df_model.specs.Memory.{Course, block_room}
 use Rattle.df_model.specs.Supply.{puts_of}
 use Rattle.df_model.specs.Work.{Work}
 use Rattle.df_model.specs.declared.answers.Progress.TheVariants.{Working}
-use Rattle.df_rooms.specs.State.{RunningState, IsCourse, IsRunning, IsState, Represents, State, course_in, course_of, memory, shape, spelling}
+use Rattle.df_opening.specs.Below.{RunningState, IsCourse, IsRunning, IsState, Represents, State, course_in, course_of, memory, shape, spelling}
 use Rattle.df_replica.specs.Answering.{Serves}
 use Rattle.df_replica.specs.Serving.{Grade, IsCall, IsKept, format, next}
 use Rattle.df_replica.specs.Stepping.{OfRunning, advanced, block_events, block_sum, block_to_write, made_by, made_for, trailer_unit}

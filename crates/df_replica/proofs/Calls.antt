@@ -1,75 +1,33 @@
 -- Every call: whose device calls are the machine's has good moments, and where it answered what is kept goes on.
-use Rattle.std.proofs.Common.{◌≡◌, ℕ, Bool, ◌||◌, inl, inr, true, false, List, [], ◌∷◌, ◌++◌, append_assoc, Option, Some, None, refl, sym, ◌∙◌, ap, subst}
+use Rattle.std.proofs.Common.{◌≡◌, inl, inr, true, false, List, [], ◌∷◌, Option, Some, None, refl, sym, subst}
 use Rattle.std.proofs.lemmas.Option.{same_Some}
-use Rattle.df_base.specs.Image.{covers}
-use Rattle.df_base.specs.Log.{Event, IsLog, Log, Stop, Sync, Write, now}
+use Rattle.df_base.specs.Log.{Event, IsLog, Log, now}
 use Rattle.df_base.specs.Moments.{EachMoment, Extends, adds}
 use Rattle.df_base.proofs.Laws.{extends_self, extends_on}
 use Rattle.df_disk.specs.Told as told
 use Rattle.df_disk.specs.Told.{Told, did}
 use Rattle.df_disk.specs.Adds.{AddsPart, after_all}
 use Rattle.df_disk.proofs.Laws.{all_is_part, tells_on}
-use Rattle.df_damage.specs.Written.{IsWritten}
+use Rattle.df_opening.specs.Below.{IsWritten, DataFile, Represents, State, shape, spelling}
 use Rattle.df_journal.specs.Append.{ShowsRing}
-use Rattle.df_theory.specs.Device.{AreSteps, Format, IsSafeDisk, units_log}
-use Rattle.df_theory.specs.Runs.{Step}
+use Rattle.df_theory.specs.Device.{Format, units_log}
 use Rattle.df_theory.specs.Shape.{Shape}
-use Rattle.df_theory.specs.UnitLog.{UnitLog}
-use Rattle.df_theory.specs.Units.{AnyUnit, BlockPlace, BlockUnit, Parts, Place}
-use Rattle.df_theory.specs.View.{View}
+use Rattle.df_theory.specs.Units.{AnyUnit, BlockPlace, BlockUnit, Place}
 use Rattle.df_units.proofs.Laws.{all_added, is_format, part_moments, steps_within}
 use Rattle.df_model.specs.Commands.{Answer, Command, Given, IsInput}
-use Rattle.df_model.specs.Laws.{IsKeptBy}
 use Rattle.df_model.specs.OnDisk.{BacksOnDisk, DoesOnDisk, LeadsOnDisk}
 use Rattle.df_model.specs.Sense.{IsBacked, IsWork}
 use Rattle.df_model.specs.Work.{Work, kept}
 use Rattle.df_model.proofs.Laws.{disk_command_law, sense_law}
-use Rattle.df_rooms.specs.declared.file.DataFile.{DataFile}
-use Rattle.df_rooms.specs.State.{Represents, State, shape, spelling}
-use Rattle.df_replica.specs.Leaving.{writes_to}
 use Rattle.df_replica.specs.Serving.{EachIsGood, Firm, GoesOnTo, Grade, IsCall, IsGoodFor, IsKept, Keeps, KeptFor, Whole, format, next}
 use Rattle.df_replica.specs.Supply.{IsSupplied}
 use Rattle.df_replica.specs.WrittenFor.{IsWrittenFor, WritesOn}
-use Rattle.df_replica.proofs.Fronts.{FrontSteps, all_front, no_front, one_more, others_spared}
-use Rattle.df_replica.proofs.Leaves.{Makes, leaves_copies, leaves_shown, settles_on, spares_held}
+use Rattle.df_opening.proofs.Laws.{front_of, all_front, good_safe, firmly}
+use Rattle.df_replica.proofs.Leaves.{others_spared, Makes, leaves_copies, leaves_shown, settles_on, spares_held}
 use Rattle.df_replica.proofs.Makes.{HasEach, OfMade, after_has, made_weaker}
 use Rattle.df_replica.proofs.WritesOn.{StandsIn, brought_is_written, stays_written}
 
 -- ---- logs that go on
-
--- a front of the events, told of any log
-pub record Front (events : List Event) (old new : Option Told) : Type 0 where
-  pub part : List Event
-  pub is : new ≡ after_all part old
-  pub again : (base : Option Told) → AddsPart events base (after_all part base)
-  pub dry : (sector : ℕ) → writes_to events sector ≡ false → writes_to part sector ≡ false
-  pub steps : (f : Format) (ss : List Step) → AreSteps f events ss → FrontSteps f part ss
-
-none_added : (events : List Event) (base : Option Told) → AddsPart events base base
-none_added [] base = refl
-none_added (e ∷ es) base = inl refl
-
-both_dry : (x y z : Bool) → (y ≡ false → z ≡ false) → (x || y) ≡ false → (x || z) ≡ false
-both_dry true y z on dry = dry
-both_dry false y z on dry = on dry
-
-dry_on : (e : Event) (es part : List Event) (sector : ℕ) → (writes_to es sector ≡ false → writes_to part sector ≡ false) → writes_to (e ∷ es) sector ≡ false → writes_to (e ∷ part) sector ≡ false
-dry_on (Write at bytes) es part sector on dry = both_dry (covers at bytes sector) (writes_to es sector) (writes_to part sector) on dry
-dry_on Sync es part sector on dry = on dry
-dry_on (Stop changes) es part sector on dry = on dry
-
-pub front_of : (events : List Event) (old new : Option Told) → AddsPart events old new → Front events old new
-front_of [] old new is = record { part = []; is = is; again = none_added []; dry = λ sector dry. refl; steps = λ f ss are. no_front f ss }
-front_of (e ∷ es) old new (inl is) = record { part = []; is = is; again = none_added (e ∷ es); dry = λ sector dry. refl; steps = λ f ss are. no_front f ss }
-front_of (e ∷ es) old new (inr more) =
-    let rest = front_of es (told.after e old) new more in
-    record {
-      part = e ∷ rest.part;
-      is = rest.is;
-      again = λ base. inr (rest.again (told.after e base));
-      dry = λ sector dry. dry_on e es rest.part sector (rest.dry sector) dry;
-      steps = λ f ss are. one_more f es rest.part (rest.steps f) e ss are;
-    }
 
 tells_none : (events : List Event) (n : Told) → AddsPart events None (Some n) → ⊥
 tells_none [] n part = cc
@@ -81,19 +39,6 @@ grows : (events : List Event) (t n : Told) → AddsPart events (Some t) (Some n)
 grows [] t n is = subst (λ (x : Told). Extends x.log t.log) (sym (same_Some _ _ is)) (extends_self t.log)
 grows (e ∷ es) t n (inl is) = subst (λ (x : Told). Extends x.log t.log) (sym (same_Some _ _ is)) (extends_self t.log)
 grows (e ∷ es) t n (inr more) = extends_on n.log (did e t).log t.log (grows es (did e t) n more) (e ∷ [], refl, refl)
-
--- a good log is safe
-pub good_safe : (file : DataFile) (g : Grade) (v u : View) (log : Log) → IsGoodFor g (format file) (shape file) v u log → IsSafeDisk (format file) (shape file) log
-good_safe file Firm v u log good = good.safe
-good_safe file Whole v u log good = good.safe
-
--- what is kept, whether the referenced blocks are shown or not
-pub firm_of : (g : Grade) (sh : Shape) (spell : Parts → List ℕ) (log : UnitLog) (w : Work) → KeptFor g sh spell log w → IsKeptBy sh spell log w
-firm_of Firm sh spell log w by = by
-firm_of Whole sh spell log w by = by.0
-
-pub firmly : (g : Grade) (s : State) (w : Work) (log : Log) → IsKept g s w log → IsKeptBy (shape s.file) (spelling s.file) (units_log (format s.file) log) w
-firmly g s w log k = firm_of g (shape s.file) (spelling s.file) (units_log (format s.file) log) w k.kept_by
 
 -- ---- a call whose device calls are the machine's
 

@@ -10,7 +10,7 @@ use Rattle.df_format.specs.SuperRules.{IsSuper, fault_of}
 use Rattle.df_grid.specs.Table.{last_of}
 use Rattle.df_grid.specs.Writes.{first_address, first_sum}
 use Rattle.df_units.specs.Meaning.{number_of}
-use Rattle.df_rooms.specs.State.{RunningState, IsRunning, IsState, State}
+use Rattle.df_opening.specs.Below.{RunningState, IsRunning, IsState, State}
 use Rattle.df_replica.specs.Stepping.{next_fields}
 
 -- the last trailer block is the first of those that are listed

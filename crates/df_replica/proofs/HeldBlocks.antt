@@ -27,8 +27,7 @@ use Rattle.df_model.specs.Work.{Running, Work, is_captured, is_held, is_known}
 use Rattle.df_model.specs.declared.answers.Verdict.{Verdict}
 use Rattle.df_model.specs.declared.answers.Verdict.TheVariants.{Sound, Failing}
 use Rattle.df_model.proofs.Laws.{block_may_law, entry_at, sense_law}
-use Rattle.df_rooms.specs.declared.file.DataFile.{DataFile}
-use Rattle.df_rooms.specs.State.{State, shape, spelling}
+use Rattle.df_opening.specs.Below.{DataFile, State, shape, spelling}
 use Rattle.df_replica.specs.HeldBlocks.{AreInputs, HeldBlocksAreShown, HoldsBlock, IsCaptured, IsDurable, IsLive, ShowsHeld, StaysHeld}
 use Rattle.df_replica.specs.Reading.{shown_of}
 use Rattle.df_replica.specs.Serving.{IsKept, Keeps, Whole, format, next}

@@ -30,11 +30,12 @@ use Rattle.df_model.specs.Work.{Work}
 use Rattle.df_model.specs.declared.answers.Progress.TheVariants.{Done}
 use Rattle.df_model.specs.declared.errors.StepError.{StepError}
 use Rattle.df_model.specs.declared.errors.StepError.TheVariants as step
-use Rattle.df_rooms.specs.State.{RunningState, IsCourse, IsRunning, IsState, Represents, State, course_of, memory, shape, spelling}
+use Rattle.df_opening.specs.Below.{RunningState, IsCourse, IsRunning, IsState, Represents, State, course_of, memory, shape, spelling}
 use Rattle.df_replica.specs.Answering.{Serves, answer_of, is_step_unanswered}
 use Rattle.df_replica.specs.Serving.{Grade, IsCall, IsKept, format, next}
 use Rattle.df_replica.specs.Stepping.{IsMade, OfRunning, finished, last_events, made_by, made_for, next_fields}
-use Rattle.df_replica.proofs.Calls.{AreCalls, firmly}
+use Rattle.df_replica.proofs.Calls.{AreCalls}
+use Rattle.df_opening.proofs.Laws.{firmly}
 use Rattle.df_replica.proofs.Leaves.{Makes, copies_made, copies_over}
 use Rattle.df_replica.proofs.RingSpared.{ring_spared}
 use Rattle.df_replica.proofs.Makes.{OfStep}

@@ -5,7 +5,7 @@ use Rattle.std.specs.List.{slice_get}
 use Rattle.std.proofs.lemmas.Bool.Decides.{nat_tests}
 use Rattle.std.proofs.lemmas.Bool.{not-false}
 use Rattle.df_disk.specs.Told.{Told}
-use Rattle.df_damage.specs.Written.{IsTheOne, WasWritten}
+use Rattle.df_opening.specs.Below.{IsTheOne, WasWritten, Represents, State, memory, shape, spelling}
 use Rattle.df_model.specs.After.{place_of_client}
 use Rattle.df_model.specs.Blocks.{addresses, entries, sum_at}
 use Rattle.df_model.specs.Memory.{Memory, memory_of, prepare_sum, reply_sum, stored_sum, sum_of_message}
@@ -26,7 +26,6 @@ use Rattle.df_replica.specs.BlockReads.{IsReadBlock}
 use Rattle.df_replica.specs.Lookups.{IsReadReply, place_for}
 use Rattle.df_replica.specs.Reading.{IsReadPrepare}
 use Rattle.df_replica.specs.Serving.{format}
-use Rattle.df_rooms.specs.State.{Represents, State, memory, shape, spelling}
 use Rattle.df_replica.specs.Lending.{BlockIsLent, BlockIsTheOne, IsReplyTo, LendsWrittenBlock, LendsWrittenPrepare, LendsWrittenReply, PrepareIsLent, PrepareIsTheOne, ReplyIsLent, ReplyIsTheOne}
 use Rattle.df_replica.proofs.LentFinds.{block_in, chain_get, client_at, joined_at, mapped, prepare_in, reply_in, stored_in}
 

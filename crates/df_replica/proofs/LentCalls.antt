@@ -13,8 +13,7 @@ use Rattle.df_theory.specs.Units.{Block, Message}
 use Rattle.df_replica.specs.BlockReads.{IsBlockFound, IsReadBlock}
 use Rattle.df_replica.specs.Reading.{IsFoundBy, IsReadPrepare}
 use Rattle.df_replica.specs.Serving.{Firm, IsCall, Keeps, format, next}
-use Rattle.df_rooms.specs.declared.file.DataFile.{DataFile}
-use Rattle.df_rooms.specs.State.{State, shape, spelling}
+use Rattle.df_opening.specs.Below.{DataFile, State, shape, spelling}
 use Rattle.df_replica.specs.Lending.{AnswersOwn, CallIsOwn, CallIsTheOne}
 use Rattle.df_replica.specs.Lookups.{IsReadReply}
 use Rattle.df_replica.specs.Striking.{StruckReadsAreOwn}

@@ -1,8 +1,8 @@
 -- What a state has was written, where a file is kept for it, and where an open found it on a disk that may be hurt.
 use Rattle.std.proofs.Common.{◌≡◌, ℕ, List, Some, None, sym, subst}
 use Rattle.df_base.specs.Log.{Sync, add}
-use Rattle.df_damage.specs.Written.{IsWritten}
-use Rattle.df_damage.proofs.Laws.{had_is_written}
+use Rattle.df_opening.specs.Below.{IsWritten, DataFile, shape, spelling}
+use Rattle.df_opening.proofs.Laws.{had_is_written, firm_of}
 use Rattle.df_model.specs.Laws.{IsKeptBy}
 use Rattle.df_model.specs.Work.{Work, opened}
 use Rattle.df_theory.specs.Device.{units_log}
@@ -11,12 +11,9 @@ use Rattle.df_theory.specs.UnitLog.{UnitLog, now}
 use Rattle.df_theory.specs.Units.{AnyUnit, BlockPlace, BlockUnit, Parts, Place}
 use Rattle.df_theory.proofs.Laws.{pool_pools}
 use Rattle.df_units.specs.Bytes.{unit_at}
-use Rattle.df_rooms.specs.declared.file.DataFile.{DataFile}
-use Rattle.df_rooms.specs.State.{shape, spelling}
 use Rattle.df_replica.specs.Lending.{KeptIsWritten, OpenedIsWrittenFor}
 use Rattle.df_replica.specs.Serving.{Firm, Grade, KeptFor, Whole, format}
 use Rattle.df_replica.specs.WrittenFor.{IsWrittenFor}
-use Rattle.df_replica.proofs.Calls.{firm_of}
 
 pub kept_is_written : KeptIsWritten
 kept_is_written g s w log is =

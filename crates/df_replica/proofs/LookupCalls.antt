@@ -23,7 +23,7 @@ use Rattle.df_model.specs.Memory as memory
 use Rattle.df_model.specs.Refusals.{first_refusal, is_new, last_op, lookup_refusals, session_of_client}
 use Rattle.df_model.specs.declared.reading.LookupError.{LookupError}
 use Rattle.df_model.specs.declared.reading.LookupError.TheVariants as lookup
-use Rattle.df_rooms.specs.State.{State, memory, reply_sum as known_sum}
+use Rattle.df_opening.specs.Below.{State, memory, reply_sum as known_sum}
 use Rattle.df_replica.specs.Answering.{Gives, ServesRead, answer_of}
 use Rattle.df_replica.specs.declared.lookup.Stored.{Stored}
 use Rattle.df_replica.specs.Lookups.{HoldsKnown, IsReadReply, IsStoredFor, Tells, place_for, reply_found, reply_shown}

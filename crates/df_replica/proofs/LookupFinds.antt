@@ -22,8 +22,7 @@ use Rattle.df_units.specs.Meaning.{message_of, number_of}
 use Rattle.df_model.specs.Commands.{ReadReply}
 use Rattle.df_model.specs.Memory as memory
 use Rattle.df_model.specs.Supply.{class_or, reply_at, reply_given}
-use Rattle.df_rooms.specs.declared.file.DataFile.{DataFile}
-use Rattle.df_rooms.specs.State.{State, memory, reply_sum as known_sum}
+use Rattle.df_opening.specs.Below.{DataFile, State, memory, reply_sum as known_sum}
 use Rattle.df_replica.specs.declared.lookup.Stored.{Stored}
 use Rattle.df_replica.specs.Lookups.{IsStoredFor, Tells, place_for, reply_shown}
 use Rattle.df_replica.specs.Reading.{IsFoundBy, IsKnownUnit, message_at, shown_of}

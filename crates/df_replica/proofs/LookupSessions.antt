@@ -14,7 +14,7 @@ use Rattle.df_model.specs.Memory as memory
 use Rattle.df_model.specs.Refusals.{first_refusal, is_new, last_op, lookup_refusals, session_of_client}
 use Rattle.df_model.specs.declared.reading.LookupError.{LookupError}
 use Rattle.df_model.specs.declared.reading.LookupError.TheVariants.{NoClient, ReplyPending}
-use Rattle.df_rooms.specs.State.{IsState, State, memory, reply_sum, stored_sum}
+use Rattle.df_opening.specs.Below.{IsState, State, memory, reply_sum, stored_sum}
 use Rattle.df_replica.specs.Lookups.{IsStoredFor}
 use Rattle.df_replica.specs.Refusing.{session_at}
 use Rattle.df_replica.proofs.AppendTests.{session_found, no_session}

@@ -25,7 +25,7 @@ use Rattle.df_model.specs.Memory.{Memory, prepare_sum}
 use Rattle.df_model.specs.Refusals.{first_refusal, prepare_refusals}
 use Rattle.df_model.specs.declared.reading.PrepareError.{PrepareError}
 use Rattle.df_model.specs.declared.reading.PrepareError.TheVariants as prepare
-use Rattle.df_rooms.specs.State.{State, memory}
+use Rattle.df_opening.specs.Below.{State, memory}
 use Rattle.df_replica.specs.Answering.{Gives, ServesRead, answer_of}
 use Rattle.df_replica.specs.Reading.{IsFoundBy, IsKnownUnit, IsReadPrepare, check_in, prepare_found, prepare_wanted}
 use Rattle.df_replica.specs.Supply.{IsSupplied}

@@ -36,8 +36,7 @@ use Rattle.df_model.specs.Refusals.{first_refusal, prepare_refusals}
 use Rattle.df_model.specs.Supply.{class_or, given_if, is_sum, prepare_at, prepare_given}
 use Rattle.df_model.proofs.Laws.{all_pass}
 use Rattle.df_places.specs.Shelves.{IsFound, IsOf, IsRead}
-use Rattle.df_rooms.specs.declared.file.DataFile.{DataFile}
-use Rattle.df_rooms.specs.State.{State, memory, prepare_sum, sum_of}
+use Rattle.df_opening.specs.Below.{DataFile, State, memory, prepare_sum, sum_of}
 use Rattle.df_replica.specs.Reading.{IsFoundBy, IsKnownUnit, check_in, prepare_wanted, shown_of}
 
 -- ---- the message that an image shows

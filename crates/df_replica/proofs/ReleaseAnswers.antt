@@ -15,7 +15,7 @@ use Rattle.df_model.specs.Sense.{IsWork}
 use Rattle.df_model.specs.Work.{Work, is_known}
 use Rattle.df_model.proofs.Laws.{change_law}
 use Rattle.df_model.specs.declared.errors.NotLive.{NotLive}
-use Rattle.df_rooms.specs.State.{Represents, State, memory, shape, spelling}
+use Rattle.df_opening.specs.Below.{Represents, State, memory, shape, spelling}
 use Rattle.df_replica.specs.Answering.{Serves}
 use Rattle.df_replica.specs.Blocks.{released}
 use Rattle.df_replica.specs.Serving.{IsCall, next}

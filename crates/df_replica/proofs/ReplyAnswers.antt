@@ -39,7 +39,7 @@ use Rattle.df_model.specs.Supply.{puts_of, unless}
 use Rattle.df_model.specs.Work.{Work}
 use Rattle.df_model.proofs.Laws.{change_law}
 use Rattle.df_model.specs.declared.errors.ReplyError.{ReplyError}
-use Rattle.df_rooms.specs.State.{IsState, Represents, State, memory, shape, spelling}
+use Rattle.df_opening.specs.Below.{IsState, Represents, State, memory, shape, spelling}
 use Rattle.df_replica.specs.Answering.{Serves, answer_of, as_reply}
 use Rattle.df_replica.specs.Replying.{first_check, next_reply, replied, reply_events, reply_given}
 use Rattle.df_replica.specs.Serving.{Grade, IsCall, IsKept, format, next}

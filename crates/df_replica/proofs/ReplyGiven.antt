@@ -15,7 +15,7 @@ use Rattle.df_sessions.specs.declared.session.Session as told
 use Rattle.df_sessions.specs.Requests.{session_of}
 use Rattle.df_sessions.specs.Table.{IsTable}
 use Rattle.df_model.specs.Making.{client_of, request_of}
-use Rattle.df_rooms.specs.State.{IsState, State}
+use Rattle.df_opening.specs.Below.{IsState, State}
 use Rattle.df_replica.specs.Replying.{MayReplyNext, first_check, place_waiting, reply_given, session_waiting}
 use Rattle.df_replica.proofs.ReplyTests.{client_named, place_inside, session_told, waiting_told}
 

@@ -9,7 +9,7 @@ use Rattle.df_theory.specs.Units as theory
 use Rattle.df_units.specs.Meaning.{number_of}
 use Rattle.df_model.specs.Memory.{Memory}
 use Rattle.df_model.specs.Changing.{replied_in}
-use Rattle.df_rooms.specs.State.{State, memory, stored_sum}
+use Rattle.df_opening.specs.Below.{State, memory, stored_sum}
 use Rattle.df_replica.specs.Replying.{place_waiting, replied}
 
 -- a stored reply changes no request

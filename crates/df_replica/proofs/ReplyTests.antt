@@ -1,10 +1,9 @@
 -- What a reply that isn't refused may rely on: the session of the prepare that waits the longest, and its place.
-use Rattle.std.proofs.Common.{◌≡◌, ◌≢◌, ◌∙◌, ℕ, zero, suc, ◌+◌, ◌^◌, ◌<◌, ◌≤◌, ◌==◌, true, false, List, [], ◌∷◌, length, map, Option, Some, None, refl, sym, ap, subst, arith, ltb-false}
+use Rattle.std.proofs.Common.{◌≡◌, ◌≢◌, ◌∙◌, ℕ, zero, suc, ◌+◌, ◌<◌, ◌==◌, true, false, List, [], ◌∷◌, length, map, Option, Some, None, refl, sym, ap, subst, arith, ltb-false}
 use Rattle.std.specs.Prelude.{option_map}
 use Rattle.std.specs.List.{AllByRecursion, slice_get}
 use Rattle.std.proofs.lemmas.Bool.{eq-eqb, ne_eqb, eqb-false}
 use Rattle.std.proofs.lemmas.Option.{slice_get-map, slice_get_within, same_Some}
-use Rattle.df_journal.specs.Tail.{AreNumbered}
 use Rattle.df_sessions.specs.declared.session.Session as told
 use Rattle.df_sessions.specs.Requests.{session_of, sessions_of}
 use Rattle.df_sessions.specs.Table.{clients_of}
@@ -12,7 +11,7 @@ use Rattle.df_theory.specs.Units.{Session}
 use Rattle.df_model.specs.Making.{place_of_op}
 use Rattle.df_model.specs.Refusals.{first_refusal, reply_refusals}
 use Rattle.df_model.proofs.Laws.{all_pass, op_found}
-use Rattle.df_rooms.specs.State.{IsState, State, memory}
+use Rattle.df_opening.specs.Below.{IsState, State, memory}
 use Rattle.df_replica.specs.Replying.{MayReplyNext, place_waiting, session_waiting}
 
 -- ---- where an op's session is found
@@ -73,13 +72,3 @@ may_reply s op body is none =
       waits = (let some = eqb-false _ _ tests.0 in omega (arith, is.waiting));
       fits = (let fits = ltb-false _ _ tests.1.1.0 in omega (arith, s.file.layout.message_size_within.0));
     }
-
--- sessions with the same requests are within the same limit
-pub numbered_by : (before after : List told.Session) → sessions_of after ≡ sessions_of before → AreNumbered before → AreNumbered after
-numbered_by before after same within k s at = from (slice_get before k) refl (sym (slice_get-map session_of before k) ∙ sym (ap (λ (ss : List Session). slice_get ss k) same) ∙ slice_get-map session_of after k ∙ ap (option_map session_of) at)
-  where
-    from : (o : Option told.Session) → slice_get before k ≡ o → option_map session_of (slice_get before k) ≡ Some (session_of s) → s.request ≤ 2 ^ 62
-    from None there is = absurd (let no : option_map session_of None ≡ Some (session_of s) = subst (λ (x : Option told.Session). option_map session_of x ≡ Some (session_of s)) there is in cc)
-    from (Some t) there is =
-        let both : Some (session_of t) ≡ Some (session_of s) = subst (λ (x : Option told.Session). option_map session_of x ≡ Some (session_of s)) there is in
-        subst (λ (n : ℕ). n ≤ 2 ^ 62) (ap (λ (x : Session). x.request) (same_Some _ _ both)) (within k t there)

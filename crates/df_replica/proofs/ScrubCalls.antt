@@ -16,8 +16,7 @@ use Rattle.df_model.proofs.Laws.{change_law}
 use Rattle.df_model.specs.declared.answers.Scrubbed.{Scrubbed}
 use Rattle.df_model.specs.declared.answers.Verdict.{Verdict}
 use Rattle.df_model.specs.declared.answers.Verdict.TheVariants.{Sound, Failing}
-use Rattle.df_rooms.specs.Below.{IsMachineStep, IsMachines, ScrubState, verdict_in}
-use Rattle.df_rooms.specs.State.{Represents, State, grid_with, memory, shape, spelling}
+use Rattle.df_opening.specs.Below.{IsMachineStep, IsMachines, ScrubState, verdict_in, Represents, State, grid_with, memory, shape, spelling}
 use Rattle.df_replica.specs.Answering.{GivesVerdict, Serves, ServesScrub}
 use Rattle.df_replica.specs.Scrubbing.{scrub_of, with_scrub}
 use Rattle.df_replica.specs.Serving.{next}

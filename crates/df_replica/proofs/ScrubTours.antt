@@ -16,7 +16,7 @@ use Rattle.df_model.specs.Work.{Work, first_tour}
 use Rattle.df_model.proofs.Laws.{tour_law, newest_few}
 use Rattle.df_grid.specs.Grid as grid
 use Rattle.df_grid.specs.Grid.{GridState}
-use Rattle.df_rooms.specs.State.{Represents, State, memory, shape, spelling}
+use Rattle.df_opening.specs.Below.{Represents, State, memory, shape, spelling}
 use Rattle.df_replica.specs.Answering.{ServesTour}
 use Rattle.df_replica.specs.Reading.{shown_of}
 use Rattle.df_replica.specs.Scrubbing.{TellsTour, at_start, toured, work_toured}

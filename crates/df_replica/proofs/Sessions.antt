@@ -11,13 +11,13 @@ use Rattle.df_theory.specs.View.{View}
 use Rattle.df_theory.specs.Device.{NoChanceOf}
 use Rattle.df_model.specs.Commands.{Answer, ForRecent, Recent}
 use Rattle.df_model.specs.Work.{Work, kept}
-use Rattle.df_rooms.specs.declared.file.DataFile.{DataFile}
-use Rattle.df_rooms.specs.State.{State, shape}
+use Rattle.df_opening.specs.Below.{DataFile, State, shape}
 use Rattle.df_replica.specs.Leaving.{AreSettled}
 use Rattle.df_replica.specs.Serving.{EachIsGood, Firm, Grade, IsGoodFor, IsKept, Keeps, Whole, format, next}
 use Rattle.df_replica.specs.Session.{Act, AnsweredIsThere, EachIsMidway, FaultStopsThem, HasView, HoldsFor, HoldsSome, IsMidway, LeavesEither, LeavesView, NothingIsServed, OneMoreIsServed, answers_of, work_after}
 use Rattle.df_replica.specs.WrittenFor.{IsWrittenIn}
-use Rattle.df_replica.proofs.Calls.{good_safe, firmly, moments}
+use Rattle.df_replica.proofs.Calls.{moments}
+use Rattle.df_opening.proofs.Laws.{good_safe, firmly}
 
 -- ---- the acts with one more
 

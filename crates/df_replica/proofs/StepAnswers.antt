@@ -23,8 +23,7 @@ use Rattle.df_model.specs.Work.{Running, Work}
 use Rattle.df_model.proofs.Laws.{change_law}
 use Rattle.df_model.specs.declared.answers.Progress.{Progress}
 use Rattle.df_model.specs.declared.errors.StepError.TheVariants as step
-use Rattle.df_rooms.specs.declared.file.DataFile.{DataFile}
-use Rattle.df_rooms.specs.State.{RunningState, Represents, State, course_in, course_of, memory, shape, spelling}
+use Rattle.df_opening.specs.Below.{DataFile, RunningState, Represents, State, course_in, course_of, memory, shape, spelling}
 use Rattle.df_replica.specs.Serving.{Grade, IsCall, IsKept, format, next}
 use Rattle.df_replica.specs.Stepping.{made_by, made_for, next_fields, pending, trailer_unit}
 use Rattle.df_replica.specs.Supply.{IsSupplied}

@@ -9,7 +9,7 @@ use Rattle.df_model.specs.Changing.{after_step_in, course_on, step_in, trailer_s
 use Rattle.df_model.specs.Making as making
 use Rattle.df_model.specs.Memory.{Course, Memory}
 use Rattle.df_grid.specs.Table.{written_of}
-use Rattle.df_rooms.specs.State.{RunningState, State, course_in, course_of, memory, prepare_sum}
+use Rattle.df_opening.specs.Below.{RunningState, State, course_in, course_of, memory, prepare_sum}
 use Rattle.df_replica.specs.Stepping.{advanced, block_sum, finished, next_fields}
 
 -- what a step makes of the memory

@@ -4,10 +4,7 @@ use Rattle.df_format.specs.declared.superblock.SuperFields.{SuperFields}
 use Rattle.df_model.specs.Blocks.{Blocks}
 use Rattle.df_grid.specs.Grid.{GridState}
 use Rattle.df_grid.specs.Table.{next_written, written_of}
-use Rattle.df_rooms.specs.declared.running.RunningCheckpoint.{RunningCheckpoint}
-use Rattle.df_rooms.specs.declared.file.DataFile.{DataFile}
-use Rattle.df_rooms.specs.Courses.{running_state, running_of}
-use Rattle.df_rooms.specs.State.{RunningState, IsCourse, IsRunning, State, grid_with}
+use Rattle.df_opening.specs.Below.{RunningCheckpoint, DataFile, running_state, running_of, RunningState, IsCourse, IsRunning, State, grid_with}
 use Rattle.df_replica.specs.Stepping.{OfRunning}
 
 -- the checkpoint that runs is the one that was taken

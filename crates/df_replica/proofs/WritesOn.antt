@@ -5,7 +5,7 @@ use Rattle.df_base.specs.Image.{blank}
 use Rattle.df_base.specs.Log.{Event, Log, Stop, Sync, Write, add}
 use Rattle.df_base.specs.Moments.{adds}
 use Rattle.df_base.proofs.Laws.{blank_is_image}
-use Rattle.df_damage.specs.Written.{IsWritten}
+use Rattle.df_opening.specs.Below.{IsWritten}
 use Rattle.df_theory.specs.Device.{AreSteps, Format, IsPut, stands, units_log}
 use Rattle.df_theory.specs.Runs.{Puts, Step, Syncs}
 use Rattle.df_theory.specs.Units.{AnyUnit, Place, Units, is_some, or_else}

@@ -18,8 +18,7 @@ use Rattle.df_model.specs.declared.errors.StepError.{StepError}
 use Rattle.df_model.specs.declared.errors.StepError.TheVariants as step
 use Rattle.df_model.specs.declared.answers.Scrubbed.{Scrubbed}
 use Rattle.df_model.specs.Work.{Work}
-use Rattle.df_rooms.specs.Below.{verdict_in}
-use Rattle.df_rooms.specs.State.{State}
+use Rattle.df_opening.specs.Below.{verdict_in, State}
 use Rattle.df_replica.specs.Scrubbing.{TellsTour, toured, work_toured}
 use Rattle.df_replica.specs.Serving.{Grade, IsCall, Keeps}
 use Rattle.df_replica.specs.Supply.{IsSupplied}

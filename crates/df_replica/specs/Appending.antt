@@ -27,7 +27,7 @@ use Rattle.df_model.specs.Refusals.{append_refusals, first_refusal}
 use Rattle.df_model.specs.declared.answers.Receipt.{Receipt}
 use Rattle.df_model.specs.declared.errors.AppendError.{AppendError}
 use Rattle.df_model.specs.declared.errors.AppendError.TheVariants as append
-use Rattle.df_rooms.specs.State.{State, memory}
+use Rattle.df_opening.specs.Below.{State, memory}
 use Rattle.df_replica.specs.Stopping.{stopped}
 
 -- ---- a unit that a call makes and writes

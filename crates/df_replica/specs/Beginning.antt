@@ -7,7 +7,7 @@ use Rattle.df_model.specs.Making.{needed_of, parts_of}
 use Rattle.df_model.specs.Memory.{free_of}
 use Rattle.df_model.specs.Refusals.{begin_refusals, first_refusal}
 use Rattle.df_model.specs.declared.errors.BeginError.{BeginError}
-use Rattle.df_rooms.specs.State.{RunningState, State, memory, spelling}
+use Rattle.df_opening.specs.Below.{RunningState, State, memory, spelling}
 use Rattle.df_replica.specs.declared.begin.Plan.{Plan}
 
 -- the text of the trailer of a checkpoint that is begun now, and how many blocks it needs

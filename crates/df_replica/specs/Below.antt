@@ -2,13 +2,10 @@
 pub use Rattle.df_base.specs.Fields.{spelled}
 pub use Rattle.df_base.specs.Image.{IsImage}
 pub use Rattle.df_disk.specs.Told.{after}
-pub use Rattle.df_format.specs.First.{first_super}
-pub use Rattle.df_format.specs.SuperRules.{IsUsable}
 pub use Rattle.df_buffers.specs.Below.{AreBytes, ClientReplies, Prepare, WalPrepares}
 pub use Rattle.df_buffers.specs.Sounds.{Holding}
-pub use Rattle.df_units.specs.Making.{header_writes}
 pub use Rattle.df_model.specs.Commands.{Advance, Append, Begin, ReadBlock, ReadPrepare, ReadReply, Recent, Release, ToAdvance, ToReadBlock, ToReadPrepare, ToReadReply, ToRecent, WriteBlock}
-pub use Rattle.df_model.specs.Faults.{is_append_fault, is_block_fault, is_format_fault, is_lookup_fault, is_prepare_fault, is_read_fault, is_reply_fault, is_step_fault}
+pub use Rattle.df_model.specs.Faults.{is_append_fault, is_block_fault, is_lookup_fault, is_prepare_fault, is_read_fault, is_reply_fault, is_step_fault}
 pub use Rattle.df_model.specs.Making.{next_address, place_of_op}
 pub use Rattle.df_model.specs.Memory.{Memory, block_room, free_of, prepare_sum, referenced_of}
 pub use Rattle.df_model.specs.Refusals.{append_refusals, block_refusals, first_refusal, is_running, lookup_refusals, prepare_refusals, reply_refusals, session_of_client}
@@ -21,25 +18,6 @@ pub use Rattle.df_grid.specs.Below.{Adds, AreSteps, Block, Grid, HasCause, IsChe
 pub use Rattle.df_grid.specs.Grid.{IsKnownUnit, IsUnheld}
 pub use Rattle.df_grid.specs.Writes.{first_sum}
 pub use Rattle.df_journal.specs.Append.{with_header}
-pub use Rattle.df_journal.specs.Below.{EachMoment, sector_writes}
+pub use Rattle.df_journal.specs.Below.{EachMoment}
 pub use Rattle.df_checkpoint.specs.Below.{block_steps, made_events, with_blocks}
-pub use Rattle.df_rooms.specs.Below.{IsStep, IsVerdict, ListsFailing, ScrubState, after_step, failing_among, failing_in, left_in, verdict_in, with_check}
-pub use Rattle.df_rooms.specs.Courses.{running_state}
-pub use Rattle.df_rooms.specs.State.{RunningState, IsState, grid_with, memory, reply_sum, spelling, stored_sum}
-pub use Rattle.df_recovery.specs.Below.{DataFile, IsBlamed, State, Told, View, fault_of, is_open_fault, sessions_of, shape}
-pub use Rattle.df_recovery.specs.Checkpoints.{AreOfCheckpoint}
-pub use Rattle.df_recovery.specs.Finding.{IsDamage}
-pub use Rattle.df_recovery.specs.Found.{IsLayoutShown, Syncs, TellsLayout}
-pub use Rattle.df_recovery.specs.Opening.{IsUnformatted, Refuses}
-pub use Rattle.df_recovery.specs.Plan.{if_wanted, needs_header, slot_mends}
-pub use Rattle.df_recovery.specs.Scanning.{without_rooms}
-pub use Rattle.df_recovery.specs.Starting.{start_of}
-pub use Rattle.df_recovery.specs.Surveys.{IsOpened, Surveys}
-pub use Rattle.df_recovery.specs.Waiting.{waiting_in}
-pub use Rattle.df_damage.specs.Anew.{MayBegin, begun, told_after}
-pub use Rattle.df_damage.specs.Answers.{FindsHad, IsNeedless, RefusesHurt, TellsHurt}
-pub use Rattle.df_damage.specs.Disks.{IsAtRest, MayBeHurt}
-pub use Rattle.df_damage.specs.Hurt.{HasTwoCopies, IsHurtFile}
-pub use Rattle.df_damage.specs.Openings.{OpensAsLeft}
-pub use Rattle.df_damage.specs.Refusals.{MayBeOfDamage}
-pub use Rattle.df_damage.specs.Unrefused.{IsNotRefused}
+pub use Rattle.df_opening.specs.Below.{IsStep, IsVerdict, ListsFailing, ScrubState, after_step, failing_among, failing_in, left_in, verdict_in, with_check, running_state, RunningState, IsState, grid_with, memory, reply_sum, spelling, stored_sum, DataFile, FindsHad, HasTwoCopies, IsAtRest, IsBlamed, IsHurtFile, IsLayoutShown, IsNeedless, IsNotRefused, IsOpened, IsUnformatted, MayBeHurt, MayBeOfDamage, OpensAsLeft, Refuses, RefusesHurt, State, Surveys, Syncs, TellsHurt, TellsLayout, Told, View, begun, fault_of, if_wanted, is_open_fault, needs_header, sessions_of, shape, slot_mends, start_of, told_after, without_rooms}

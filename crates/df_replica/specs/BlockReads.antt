@@ -13,7 +13,7 @@ use Rattle.df_model.specs.Refusals.{first_refusal, read_refusals}
 use Rattle.df_model.specs.Supply.{block_read}
 use Rattle.df_model.specs.declared.reading.ReadError.{ReadError}
 use Rattle.df_model.specs.declared.reading.ReadError.TheVariants as read
-use Rattle.df_rooms.specs.State.{State, memory}
+use Rattle.df_opening.specs.Below.{State, memory}
 use Rattle.df_replica.specs.Reading.{shown_of}
 
 -- what a read finds at an address over an image: the block with the checksum that is known, no trailer's, else the class of what is shown

@@ -19,7 +19,7 @@ use Rattle.df_model.specs.Refusals.{block_refusals, first_refusal, release_refus
 use Rattle.df_model.specs.declared.errors.BlockError.{BlockError}
 use Rattle.df_model.specs.declared.errors.BlockError.TheVariants as block
 use Rattle.df_model.specs.declared.errors.NotLive.{NotLive}
-use Rattle.df_rooms.specs.State.{State, grid_with, memory}
+use Rattle.df_opening.specs.Below.{State, grid_with, memory}
 use Rattle.df_replica.specs.Appending.{MayBeMade, unit_of}
 use Rattle.df_replica.specs.Stopping.{stopped}
 

@@ -7,8 +7,7 @@ use Rattle.df_theory.specs.Units.{Block, BlockPlace, BlockUnit}
 use Rattle.df_model.specs.Commands.{Answer, IsInput}
 use Rattle.df_model.specs.Supply.{block_at, no_trailer}
 use Rattle.df_model.specs.Work.{Running, Work}
-use Rattle.df_rooms.specs.declared.file.DataFile.{DataFile}
-use Rattle.df_rooms.specs.State.{State}
+use Rattle.df_opening.specs.Below.{DataFile, State}
 use Rattle.df_replica.specs.Reading.{shown_of}
 use Rattle.df_replica.specs.Serving.{Keeps, Whole, format, next}
 use Rattle.df_replica.specs.Session.{Act, IsServed, work_after}

@@ -4,8 +4,7 @@ use Rattle.std.specs.List.{slice_get}
 use Rattle.df_base.specs.Log.{Log, Sync, add}
 use Rattle.df_base.specs.Moments.{Extends}
 use Rattle.df_disk.specs.Told.{Told}
-use Rattle.df_damage.specs.Answers.{FindsHad}
-use Rattle.df_damage.specs.Written.{IsTheOne, WasWritten}
+use Rattle.df_opening.specs.Below.{FindsHad, IsTheOne, WasWritten, DataFile, Represents, State, memory, shape}
 use Rattle.df_model.specs.Blocks.{sum_at}
 use Rattle.df_model.specs.Commands.{Answer, Command, Given, ReadBlock, ReadPrepare, ReadReply, ToReadBlock, ToReadPrepare, ToReadReply}
 use Rattle.df_model.specs.Memory.{prepare_sum, reply_sum}
@@ -16,8 +15,6 @@ use Rattle.df_theory.specs.Tails.{In}
 use Rattle.df_theory.specs.Units.{Block, BlockPlace, BlockUnit, Message, PreparePlace, PrepareUnit, ReplyPlace, ReplyUnit, Session}
 use Rattle.df_theory.specs.View.{View, sessions}
 use Rattle.df_units.specs.Bytes.{unit_at}
-use Rattle.df_rooms.specs.declared.file.DataFile.{DataFile}
-use Rattle.df_rooms.specs.State.{Represents, State, memory, shape}
 use Rattle.df_replica.specs.BlockReads.{IsReadBlock}
 use Rattle.df_replica.specs.Lookups.{IsReadReply, place_for}
 use Rattle.df_replica.specs.Reading.{IsReadPrepare}

@@ -1,13 +1,7 @@
-pub mod Formatting
 pub mod WrittenFor
 pub mod Leaving
 pub mod Serving
-pub mod Making
 pub mod Replica
-pub mod Mending
-pub mod Surveying
-pub mod Held
-pub mod Parts
 pub mod Refusing
 pub mod Stopping
 pub mod Appending
@@ -24,8 +18,11 @@ pub mod Supply
 pub mod Session
 pub mod Lending
 pub mod Striking
-pub mod Opened
 pub mod HeldBlocks
-pub mod Following
-pub mod Completeness
 pub mod Below
+-- what is passed on of the crate that opens a file
+pub use Rattle.df_opening.specs.Formatting
+pub use Rattle.df_opening.specs.Making
+pub use Rattle.df_opening.specs.Following
+pub use Rattle.df_opening.specs.Opened
+pub use Rattle.df_opening.specs.Surveying

@@ -17,8 +17,7 @@ use Rattle.df_model.specs.Refusals.{first_refusal, lookup_refusals}
 use Rattle.df_model.specs.Supply.{reply_at}
 use Rattle.df_model.specs.declared.reading.LookupError.{LookupError}
 use Rattle.df_model.specs.declared.reading.LookupError.TheVariants as lookup
-use Rattle.df_rooms.specs.declared.file.DataFile.{DataFile}
-use Rattle.df_rooms.specs.State.{State, memory, reply_sum}
+use Rattle.df_opening.specs.Below.{DataFile, State, memory, reply_sum}
 use Rattle.df_replica.specs.declared.lookup.Stored.{Stored}
 use Rattle.df_replica.specs.Reading.{IsFoundBy, IsKnownUnit, shown_of}
 

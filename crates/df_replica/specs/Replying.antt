@@ -20,7 +20,7 @@ use Rattle.df_model.specs.Making.{client_of, place_of_op, request_of}
 use Rattle.df_model.specs.Refusals.{first_refusal, reply_refusals}
 use Rattle.df_model.specs.declared.errors.ReplyError.{ReplyError}
 use Rattle.df_model.specs.declared.errors.ReplyError.TheVariants as reply
-use Rattle.df_rooms.specs.State.{State, memory}
+use Rattle.df_opening.specs.Below.{State, memory}
 use Rattle.df_replica.specs.Appending.{unit_of}
 use Rattle.df_replica.specs.Stopping.{stopped}
 

@@ -12,8 +12,7 @@ use Rattle.df_model.specs.Supply.{Codec, first_check}
 use Rattle.df_model.specs.Work.{Work, first_tour}
 use Rattle.df_model.specs.declared.answers.Scrubbed.{Scrubbed}
 use Rattle.df_model.specs.declared.answers.Verdict.{Verdict}
-use Rattle.df_rooms.specs.Below.{IsStep, ScrubState}
-use Rattle.df_rooms.specs.State.{Represents, State, grid_with, memory, shape, spelling}
+use Rattle.df_opening.specs.Below.{IsStep, ScrubState, Represents, State, grid_with, memory, shape, spelling}
 use Rattle.df_replica.specs.Reading.{shown_of}
 use Rattle.df_replica.specs.Stopping.{stopped}
 

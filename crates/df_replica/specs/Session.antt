@@ -13,8 +13,7 @@ use Rattle.df_theory.specs.Device.{IsSafeDisk, NoChanceOf}
 use Rattle.df_model.specs.Commands.{Answer, Command, Given}
 use Rattle.df_model.specs.Views.{SomeKeeps}
 use Rattle.df_model.specs.Work.{Work, kept}
-use Rattle.df_rooms.specs.declared.file.DataFile.{DataFile}
-use Rattle.df_rooms.specs.State.{State, shape}
+use Rattle.df_opening.specs.Below.{DataFile, State, shape}
 use Rattle.df_replica.specs.Leaving.{AreSettled}
 use Rattle.df_replica.specs.Serving.{Firm, Grade, IsCall, Keeps, Whole, format, next}
 use Rattle.df_replica.specs.WrittenFor.{WritesOn}

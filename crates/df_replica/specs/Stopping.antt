@@ -1,6 +1,6 @@
 -- What the failing of its disk makes of a replica.
 use Rattle.std.specs.Prelude.{Bool, false, if◌then◌else◌, Result, Ok, Err}
-use Rattle.df_rooms.specs.State.{State}
+use Rattle.df_opening.specs.Below.{State}
 
 -- it isn't live, so no call may follow; nothing else moved
 abbrev pub stopped : State → State

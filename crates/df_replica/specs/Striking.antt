@@ -4,7 +4,7 @@ use Rattle.df_base.specs.Log.{Log}
 use Rattle.df_disk.specs.Told.{Told}
 use Rattle.df_model.specs.Commands.{Answer, Command, Given}
 use Rattle.df_model.specs.Work.{Work}
-use Rattle.df_rooms.specs.State.{State}
+use Rattle.df_opening.specs.Below.{State}
 use Rattle.df_replica.specs.Lending.{GivesOwn}
 use Rattle.df_replica.specs.Serving.{Firm, IsCall, Keeps, next}
 use Rattle.df_replica.specs.WrittenFor.{IsWrittenFor}

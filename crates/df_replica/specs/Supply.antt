@@ -3,7 +3,7 @@ use Rattle.std.specs.Prelude.{◌≡◌, [], ◌∷◌, Option}
 use Rattle.df_disk.specs.Told.{Told}
 use Rattle.df_units.specs.Meaning.{number_of}
 use Rattle.df_model.specs.Commands.{Advance, Append, Begin, Command, ForAdvance, ForAppend, ForBegin, ForReadBlock, ForReadPrepare, ForReadReply, ForRecent, ForRelease, ForReply, ForScrub, ForWriteBlock, Given, ReadBlock, ReadPrepare, ReadReply, Recent, Release, Reply, Scrub, WriteBlock, supplied_block, supplied_message, supplied_verdict}
-use Rattle.df_rooms.specs.State.{State}
+use Rattle.df_opening.specs.Below.{State}
 use Rattle.df_replica.specs.Appending.{next_unit}
 use Rattle.df_replica.specs.Blocks.{next_block}
 use Rattle.df_replica.specs.BlockReads.{IsBlockFound}

@@ -2,13 +2,12 @@
 use Rattle.std.specs.Prelude.{◌≡◌, ℕ, Option, Some, None}
 use Rattle.df_base.specs.Log.{Log}
 use Rattle.df_disk.specs.Told.{Told}
-use Rattle.df_damage.specs.Written.{IsWritten, WasWritten}
+use Rattle.df_opening.specs.Below.{IsWritten, WasWritten, DataFile}
 use Rattle.df_model.specs.Work.{Running, Work, kept}
 use Rattle.df_theory.specs.Device.{units_log}
 use Rattle.df_theory.specs.Trailer.{InChain}
 use Rattle.df_theory.specs.Units.{Block, BlockPlace, BlockUnit}
 use Rattle.df_units.specs.Format.{format_of}
-use Rattle.df_rooms.specs.declared.file.DataFile.{DataFile}
 
 -- each unit that its view needs was written at its place, and so was each block of the running trailer, as far as it is written
 pub record IsWrittenFor (file : DataFile) (log : Log) (w : Work) : Type 0 where

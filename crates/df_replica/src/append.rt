@@ -5,7 +5,7 @@ ghost use Rattle.df_replica.specs.Below.{HasCause, IsBlamed, Adds, WalPrepares, 
 ghost use Rattle.df_journal.specs.Below.{IsInOwnSlot};
 ghost use Rattle.df_sessions.specs.Table.{IsTable as IsSessions};
 ghost use Rattle.df_replica.specs.Answering.{Serves, answer_of, as_append};
-ghost use Rattle.df_replica.specs.Held.{AreRoomsOf};
+ghost use Rattle.df_opening.specs.Held.{AreRoomsOf};
 ghost use Rattle.df_replica.specs.Refusing.{AreCounters};
 ghost use Rattle.df_replica.specs.Appending.{IsAppend, IsMadeUnit, MayBeMade, MayNext, MayNote, append_events, appended, header_given, next_unit, noted, receipt_of, unit_events, unit_of, with_header};
 
@@ -16,7 +16,7 @@ use df_disk::Disk;
 use df_format::{Header, Kind};
 use df_journal::append;
 use df_model::{AppendError, Receipt};
-use df_rooms::LogRooms;
+use df_opening::LogRooms;
 
 // Makes a prepare in its room, and makes it durable, with its header.
 fn append_in<D: Disk>(

@@ -12,7 +12,7 @@ use arrayvec::ArrayVec;
 use df_checkpoint::Capture;
 use df_layout::ROOT;
 use df_model::BeginError;
-use df_rooms::RunningCheckpoint;
+use df_opening::RunningCheckpoint;
 use df_sessions::{Session, SessionTable};
 use df_trailer::{blocks_needed, trailer_size};
 

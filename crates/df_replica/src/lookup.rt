@@ -5,7 +5,7 @@ ghost use Rattle.std.specs.Io.BufRead.{Rests};
 ghost use Rattle.df_replica.specs.Below.{HasCause, IsBlamed, ClientReplies, place_in, Holding, number_of, ReadReply, ToReadReply, is_lookup_fault, first_refusal, lookup_refusals, memory};
 ghost use Rattle.df_format.specs.declared.kind.Kind.TheVariants.{Reply as AsReply};
 ghost use Rattle.df_model.specs.Memory.{reply_sum};
-ghost use Rattle.df_rooms.specs.State.{reply_sum as known_sum};
+ghost use Rattle.df_opening.specs.Below.{reply_sum as known_sum};
 ghost use Rattle.df_replica.specs.Answering.{ServesRead, answer_of};
 ghost use Rattle.df_replica.specs.Lending.{LendsWrittenReply};
 ghost use Rattle.df_replica.specs.Lookups.{HoldsKnown, IsReadReply, IsStoredFor, Tells, place_for, reply_found, reply_shown};

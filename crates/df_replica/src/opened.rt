@@ -1,11 +1,12 @@
-// An open: a survey, and then the mending of what it lists.
+// An open, which hands out the replica.
 ghost use Rattle.std.specs.Prelude.{◌≡◌, IfOk, IfErr, Some, true};
 ghost use Rattle.df_replica.specs.Below.{IsBlamed, IsImage, Sync, Told, after, is_open_fault, TellsHurt, without_rooms};
-ghost use Rattle.df_replica.specs.Opened.{MendsAll, StopsOpening, ToldBy};
-ghost use Rattle.df_replica.specs.Surveying.{TellsSurvey};
+ghost use Rattle.df_opening.specs.Opened.{MendsAll, StopsOpening, ToldBy};
+ghost use Rattle.df_opening.specs.Surveying.{TellsSurvey};
 
-use crate::{OpenError, Replica, Rooms, survey};
+use crate::{OpenError, Replica, Rooms};
 use df_disk::Disk;
+use df_opening::open_file;
 
 impl Replica {
     /// Opens a file: finds its state, with the refusals of `survey`, and mends it. A fault of the disk may come before the
@@ -23,13 +24,9 @@ impl Replica {
         ensures stopped { (t : Told) → D.told disk.old ≡ Some t → IfErr result (λ refused. IsImage t.shown → refused.1 ≡ OpenError.DiskFault → StopsOpening rooms.layout t (D.told disk.new)) }
         ensures cause { IsBlamed is_open_fault (D.faults disk.old) (D.faults disk.new) (without_rooms result) }
     {
-        let surveyed = match survey(disk, rooms) {
-            Ok(surveyed) => surveyed,
-            Err(refused) => return Err(refused),
-        };
-        match surveyed.mend(disk) {
-            Ok(replica) => Ok(replica),
-            Err((rooms, _)) => Err((rooms, OpenError::DiskFault)),
+        match open_file(disk, rooms) {
+            Ok(parts) => Ok(Replica { parts }),
+            Err(refused) => Err(refused),
         }
     }
 }

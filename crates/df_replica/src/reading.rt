@@ -5,7 +5,7 @@ ghost use Rattle.std.specs.Io.BufRead.{Rests};
 ghost use Rattle.df_replica.specs.Below.{HasCause, IsBlamed, WalPrepares, Prepare as AsPrepare, place_in, IsCheck, ReadPrepare, ToReadPrepare, is_prepare_fault, prepare_sum, first_refusal, prepare_refusals, IsState, memory};
 ghost use Rattle.df_headers.specs.Ring.{IsTable};
 ghost use Rattle.df_replica.specs.Answering.{ServesRead, answer_of};
-ghost use Rattle.df_replica.specs.Held.{AreAsBefore, AreRoomsOf};
+ghost use Rattle.df_opening.specs.Held.{AreAsBefore, AreRoomsOf};
 ghost use Rattle.df_replica.specs.Lending.{LendsWrittenPrepare};
 ghost use Rattle.df_replica.specs.Reading.{IsKnownUnit, IsLoaded, IsReadPrepare, check_in, in_words, prepare_found, prepare_wanted};
 ghost use Rattle.df_replica.specs.contracts.replica.Replica.{the_row};
@@ -20,7 +20,7 @@ use df_disk::Disk;
 use df_headers::HeaderTable;
 use df_layout::{Class, Layout, Place, Zone};
 use df_model::PrepareError;
-use df_rooms::LogRooms;
+use df_opening::LogRooms;
 
 // The place of the prepare of an op.
 fn prepare_place(layout: &Layout, op: u64) -> Place

@@ -5,8 +5,8 @@ ghost use Rattle.df_replica.specs.Replica.{summary_of};
 ghost use Rattle.df_replica.specs.Stopping.{stopped};
 
 use crate::Rooms;
-use crate::parts::Parts;
 use df_model::Summary;
+use df_opening::Parts;
 use df_sessions::Session;
 use std::marker::Model;
 
@@ -17,8 +17,7 @@ pub struct Replica {
 }
 
 impl Model for Replica {
-    ghost use Rattle.df_rooms.specs.State.{State};
-    ghost use Rattle.df_replica.specs.Parts.{AreWhole, state_in};
+    ghost use Rattle.df_opening.specs.Below.{State, AreWhole, state_in};
 
     ghost Value = { State };
 

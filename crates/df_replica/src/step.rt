@@ -13,7 +13,7 @@ use df_checkpoint::{Capture, write_piece};
 use df_disk::Disk;
 use df_format::{Reference, Super, SuperFields, test_fields};
 use df_model::{Progress, StepError};
-use df_rooms::{DataFile, RunningCheckpoint};
+use df_opening::{DataFile, RunningCheckpoint};
 use df_superblock::{UpdateError, update};
 
 // What a superblock says of a checkpoint whose trailer ends with a block.

@@ -1,17 +1,17 @@
 // A file that was surveyed: its state, and what is to be mended before calls may work on it.
-ghost use Rattle.std.specs.Prelude.{◌≡◌, IfOk, IfErr, slice_get};
-ghost use Rattle.df_replica.specs.Below.{HasCause, EachMoment, Told, Adds, told_after, AreSteps, View, shape};
+ghost use Rattle.std.specs.Prelude.{◌≡◌, IfOk, IfErr, Some, slice_get};
+ghost use Rattle.df_replica.specs.Below.{HasCause, EachMoment, IsBlamed, Syncs, TellsHurt, Told, Adds, is_open_fault, told_after, AreSteps, View, shape};
 ghost use Rattle.df_replica.specs.Replica.{summary_of};
-ghost use Rattle.df_replica.specs.Mending.{IsMended, IsPlanned, RestsOnDisk, live_state, mending_events, mending_steps};
-ghost use Rattle.df_replica.specs.Serving.{Grade, IsGoodFor, format};
+ghost use Rattle.df_opening.specs.Mending.{IsMended, IsPlanned, RestsOnDisk, live_state, mending_events, mending_steps};
+ghost use Rattle.df_opening.specs.Keeping.{Grade, IsGoodFor, format};
+ghost use Rattle.df_opening.specs.Surveying.{TellsMends, TellsSurvey, state_of};
 
-use crate::parts::Parts;
-use crate::{Replica, Rooms};
+use crate::{OpenError, Replica, Rooms};
 use df_base::Failed;
 use df_disk::Disk;
 use df_layout::Mend;
 use df_model::Summary;
-use df_quorum::Chosen;
+use df_opening::{SurveyedFile, mend_file, survey_file};
 use df_sessions::Session;
 use std::marker::Model;
 
@@ -19,19 +19,18 @@ use std::marker::Model;
 /// of the superblock, and the list of what is to be mended.
 #[derive(Drop)]
 pub struct Surveyed {
-    pub(crate) parts: Parts,
-    pub(crate) chosen: Chosen,
+    found: SurveyedFile,
 }
 
 impl Model for Surveyed {
-    ghost use Rattle.df_replica.specs.Replica.{Survey};
-    ghost use Rattle.df_replica.specs.Parts.{AreFound, state_in};
+    ghost use Rattle.df_opening.specs.Survey.{Survey, survey_in};
+    ghost use Rattle.df_opening.specs.Below.{AreFound};
 
     ghost Value = { Survey };
 
-    ghost view = { λ s. record { state = state_in s.parts; chosen = s.chosen; mends = s.parts.rooms.mends.items } };
+    ghost view = { λ s. survey_in s.found };
 
-    ghost invariant = { λ s. AreFound s.parts };
+    ghost invariant = { λ s. AreFound s.found.parts };
 }
 
 impl Surveyed {
@@ -39,28 +38,28 @@ impl Surveyed {
     pub fn summary(&self) -> Summary
         ensures { result ≡ summary_of self.now.state }
     {
-        self.parts.summary()
+        self.found.parts.summary()
     }
 
     /// The root of the durable checkpoint; it is empty while no checkpoint has one.
     pub fn root(&self) -> &[u8]
         ensures { result.now ≡ self.now.state.root }
     {
-        self.parts.root.as_slice()
+        self.found.parts.root.as_slice()
     }
 
     /// The session at a place, None exactly where the place is past the table.
     pub fn session(&self, place: u64) -> Option<Session>
         ensures { result ≡ slice_get self.now.state.table.sessions place }
     {
-        self.parts.sessions.get(place)
+        self.found.parts.sessions.get(place)
     }
 
     /// The sessions in order of their places.
     pub fn sessions(&self) -> &[Session]
         ensures { result.now ≡ self.now.state.table.sessions }
     {
-        self.parts.sessions.as_slice()
+        self.found.parts.sessions.as_slice()
     }
 
     /// What is to be mended: copies of the superblock in order of number, then header slots in order, each with the class of
@@ -68,14 +67,15 @@ impl Surveyed {
     pub fn to_mend(&self) -> &[Mend]
         ensures { result.now ≡ self.now.mends }
     {
-        self.parts.rooms.mends.as_slice()
+        self.found.parts.rooms.mends.as_slice()
     }
 
     /// Gives the rooms back; nothing is mended. It touches no disk.
     pub fn close(self) -> Rooms
         ensures { result.layout ≡ self.state.file.layout }
     {
-        let Surveyed { parts, .. } = self;
+        let Surveyed { found } = self;
+        let SurveyedFile { parts, .. } = found;
         parts.into_rooms()
     }
 
@@ -96,10 +96,31 @@ impl Surveyed {
             → IsMended g self.state.file view self.state.headers (told_after (mending_events self.state.file.layout self.state.headers self.mends self.state.fields self.chosen.members) base) }
         ensures cause { HasCause (D.faults disk.old) (D.faults disk.new) result }
     {
-        let Surveyed { mut parts, chosen } = self;
-        match parts.mend(disk, chosen.members) {
-            Ok(()) => Ok(Replica { parts }),
-            Err(failed) => Err((parts.into_rooms(), failed)),
+        let Surveyed { found } = self;
+        match mend_file(disk, found) {
+            Ok(parts) => Ok(Replica { parts }),
+            Err(refused) => Err(refused),
         }
+    }
+}
+
+/// What a file shows: its state, and what is to be mended before calls may work on it; or the first reason of the order of
+/// open why it isn't opened, and the rooms. It syncs once, then reads each copy of the superblock once, each block of the
+/// trailer that it names twice, and each sector of the header ring, each slot of the ring of prepares and each reply slot
+/// once, and writes nothing. Where sectors of the file were damaged, lost or swapped before, it finds a state that the file had,
+/// or refuses it because of a sector that is hurt.
+pub fn survey<D: Disk>(disk: &mut D, rooms: Rooms) -> Result<Surveyed, (Rooms, OpenError)>
+    ensures kept { IfOk result (λ survey. survey.state.file.layout ≡ rooms.layout) }
+    ensures given_back { IfErr result (λ refused. refused.0.layout ≡ rooms.layout) }
+    ensures answer { TellsSurvey rooms.layout (D.told disk.old) (state_of result) }
+    ensures hurt { TellsHurt rooms.layout (D.told disk.old) (state_of result) }
+    ensures mends { IfOk result (TellsMends rooms.layout (D.told disk.old)) }
+    ensures barrier { Syncs (D.told disk.old) (D.told disk.new) (state_of result) }
+    ensures planned { (t : Told) → D.told disk.new ≡ Some t → IfOk result (λ survey. IsPlanned survey.state.file survey.state.headers survey.mends survey.state.fields survey.chosen.members t) }
+    ensures cause { IsBlamed is_open_fault (D.faults disk.old) (D.faults disk.new) (state_of result) }
+{
+    match survey_file(disk, rooms) {
+        Ok(found) => Ok(Surveyed { found }),
+        Err(refused) => Err(refused),
     }
 }

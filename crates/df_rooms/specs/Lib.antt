@@ -1,3 +1,4 @@
 pub mod State
 pub mod Courses
+pub mod Parts
 pub mod Below

@@ -4,6 +4,7 @@
 mod file;
 mod grid_rooms;
 mod log_rooms;
+mod parts;
 mod rooms;
 mod running;
 mod scrub_rooms;
@@ -12,6 +13,7 @@ mod trailer_rooms;
 pub use file::DataFile;
 pub use grid_rooms::GridRooms;
 pub use log_rooms::LogRooms;
+pub use parts::{Parts, rooms_of};
 pub use rooms::Rooms;
 pub use running::RunningCheckpoint;
 pub use scrub_rooms::ScrubRooms;

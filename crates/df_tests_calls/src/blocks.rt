@@ -1,9 +1,6 @@
 // Calls of blocks and checkpoints of a replica in order, with what each answers, and how many device calls and events it makes.
-use crate::steps::{Step, first_other};
-use df_images::{
-    BeginError, BlockError, NotLive, Progress, ReadError, StepError, open, small_file,
-};
-use df_layout::Layout;
+use crate::steps::{Step, first_other_of};
+use df_images::{BeginError, BlockError, NotLive, Progress, ReadError, StepError, small_file};
 use std::test::Fail;
 
 // A block is written by one device call and read by one. The last step of a checkpoint is a sync, a write and a sync for each of
@@ -11,10 +8,7 @@ use std::test::Fail;
 #[test]
 fn blocks_and_checkpoints_are_answered_in_order(rt: HostRuntime) -> Result<(), Fail> {
     let mut disk = small_file(rt.alloc(), 0)?;
-    let Ok(mut replica) = open(rt.alloc(), &mut disk, &Layout::small())? else {
-        return Err("a new file is refused".into());
-    };
-    let long = vec![in rt.alloc(); 0xddu8; 16_129]?;
+    let long = vec![in rt.alloc(); 0xddu8; 16_129].expect(&rt, "memory of a body");
     let most = long.len() - 1;
     let rows = [
         (Step::Write(0, &[], Err(BlockError::KindZero)), 0, 0),
@@ -46,6 +40,6 @@ fn blocks_and_checkpoints_are_answered_in_order(rt: HostRuntime) -> Result<(), F
         (Step::Read(1, Ok((255, &long[..most]))), 1, 0),
         (Step::Read(4, Ok((1, &[0xbb]))), 1, 0),
     ];
-    assert_eq!(rt; first_other(&mut disk, &mut replica, &rows)?, None);
+    assert_eq!(rt; first_other_of(rt.alloc(), &mut disk, &rows)?, None);
     Ok(())
 }

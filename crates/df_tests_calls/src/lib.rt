@@ -9,6 +9,8 @@ mod blocks;
 #[cfg(test)]
 mod faults;
 #[cfg(test)]
+mod opened;
+#[cfg(test)]
 mod reads;
 #[cfg(test)]
 mod steps;

@@ -1,11 +1,14 @@
 // Calls of a replica, each with the answer that is wanted, and how many device calls and events it makes. A caller's proof is told
 // nothing of the calls.
+use crate::opened::opened;
 use df_format::Header;
 use df_images::{
     AppendError, BeginError, BlockError, LookupError, NotLive, PrepareError, Progress, ReadError,
     Replica, ReplyError, StepError,
 };
+use df_layout::Layout;
 use df_memdisk::MemoryDisk;
+use std::alloc::Global;
 use std::test::Fail;
 
 // A unit of the first checkpoint's file, as a read lends it.
@@ -50,14 +53,14 @@ pub(crate) fn is_prepare(
     replica: &mut Replica,
     op: u64,
     wanted: &Result<Unit<'_>, PrepareError>,
-) -> Result<bool, Fail> {
+) -> bool {
     if !replica.live() {
-        return Err("the replica isn't live".into());
+        return false;
     }
     match (replica.read_prepare(disk, op), wanted) {
-        (Ok(lent), Ok(unit)) => Ok(unit.is(lent.header(), lent.body())),
-        (Err(error), Err(wanted)) => Ok(error == *wanted),
-        _ => Ok(false),
+        (Ok(lent), Ok(unit)) => unit.is(lent.header(), lent.body()),
+        (Err(error), Err(wanted)) => error == *wanted,
+        _ => false,
     }
 }
 
@@ -67,14 +70,14 @@ pub(crate) fn is_reply(
     replica: &mut Replica,
     client: u128,
     wanted: &Result<Unit<'_>, LookupError>,
-) -> Result<bool, Fail> {
+) -> bool {
     if !replica.live() {
-        return Err("the replica isn't live".into());
+        return false;
     }
     match (replica.read_reply(disk, client), wanted) {
-        (Ok(lent), Ok(unit)) => Ok(unit.is(lent.header(), lent.body())),
-        (Err(error), Err(wanted)) => Ok(error == *wanted),
-        _ => Ok(false),
+        (Ok(lent), Ok(unit)) => unit.is(lent.header(), lent.body()),
+        (Err(error), Err(wanted)) => error == *wanted,
+        _ => false,
     }
 }
 
@@ -85,13 +88,13 @@ fn is_appended(
     request: u64,
     body: &[u8],
     wanted: Result<u64, AppendError>,
-) -> Result<bool, Fail> {
+) -> bool {
     if !replica.live() {
-        return Err("the replica isn't live".into());
+        return false;
     }
     match replica.append(disk, client, request, body) {
-        Ok(receipt) => Ok(wanted == Ok(receipt.op)),
-        Err(error) => Ok(wanted == Err(error)),
+        Ok(receipt) => wanted == Ok(receipt.op),
+        Err(error) => wanted == Err(error),
     }
 }
 
@@ -101,13 +104,13 @@ fn is_replied(
     op: u64,
     body: &[u8],
     wanted: Result<(), ReplyError>,
-) -> Result<bool, Fail> {
+) -> bool {
     if !replica.live() {
-        return Err("the replica isn't live".into());
+        return false;
     }
     match replica.reply(disk, op, body) {
-        Ok(_) => Ok(wanted == Ok(())),
-        Err(error) => Ok(wanted == Err(error)),
+        Ok(_) => wanted == Ok(()),
+        Err(error) => wanted == Err(error),
     }
 }
 
@@ -118,29 +121,25 @@ fn is_written(
     kind: u8,
     body: &[u8],
     wanted: Result<u64, BlockError>,
-) -> Result<bool, Fail> {
+) -> bool {
     if !replica.live() {
-        return Err("the replica isn't live".into());
+        return false;
     }
     match replica.write_block(disk, kind, body) {
-        Ok(made) => Ok(
-            wanted == Ok(made.address) && replica.reference(made.address) == Some(made.checksum),
-        ),
-        Err(error) => Ok(wanted == Err(error)),
+        Ok(made) => {
+            wanted == Ok(made.address) && replica.reference(made.address) == Some(made.checksum)
+        }
+        Err(error) => wanted == Err(error),
     }
 }
 
 // Behind a release nothing is known of the address.
-fn is_released(
-    replica: &mut Replica,
-    address: u64,
-    wanted: Result<(), NotLive>,
-) -> Result<bool, Fail> {
+fn is_released(replica: &mut Replica, address: u64, wanted: Result<(), NotLive>) -> bool {
     if !replica.live() {
-        return Err("the replica isn't live".into());
+        return false;
     }
     let answer = replica.release(address);
-    Ok(answer == wanted && replica.reference(address).is_none())
+    answer == wanted && replica.reference(address).is_none()
 }
 
 fn is_read(
@@ -148,46 +147,36 @@ fn is_read(
     replica: &mut Replica,
     address: u64,
     wanted: Result<(u8, &[u8]), ReadError>,
-) -> Result<bool, Fail> {
+) -> bool {
     if !replica.live() {
-        return Err("the replica isn't live".into());
+        return false;
     }
     match (replica.read_block(disk, address), wanted) {
-        (Ok(lent), Ok((kind, body))) => {
-            Ok(lent.header().block_kind == kind && lent.body() == body)
-        }
-        (Err(error), Err(wanted)) => Ok(error == wanted),
-        _ => Ok(false),
+        (Ok(lent), Ok((kind, body))) => lent.header().block_kind == kind && lent.body() == body,
+        (Err(error), Err(wanted)) => error == wanted,
+        _ => false,
     }
 }
 
-fn is_begun(
-    replica: &mut Replica,
-    root: &[u8],
-    wanted: Result<u64, BeginError>,
-) -> Result<bool, Fail> {
+fn is_begun(replica: &mut Replica, root: &[u8], wanted: Result<u64, BeginError>) -> bool {
     if !replica.live() {
-        return Err("the replica isn't live".into());
+        return false;
     }
-    Ok(replica.checkpoint_begin(root) == wanted)
+    replica.checkpoint_begin(root) == wanted
 }
 
 fn is_advanced(
     disk: &mut MemoryDisk,
     replica: &mut Replica,
     wanted: Result<Progress, StepError>,
-) -> Result<bool, Fail> {
+) -> bool {
     if !replica.live() {
-        return Err("the replica isn't live".into());
+        return false;
     }
-    Ok(replica.checkpoint_step(disk) == wanted)
+    replica.checkpoint_step(disk) == wanted
 }
 
-fn is_answered(
-    disk: &mut MemoryDisk,
-    replica: &mut Replica,
-    step: &Step<'_>,
-) -> Result<bool, Fail> {
+fn is_answered(disk: &mut MemoryDisk, replica: &mut Replica, step: &Step<'_>) -> bool {
     match *step {
         Step::Append(client, request, body, wanted) => {
             is_appended(disk, replica, client, request, body, wanted)
@@ -208,15 +197,25 @@ pub(crate) fn first_other(
     disk: &mut MemoryDisk,
     replica: &mut Replica,
     rows: &[(Step<'_>, u64, u64)],
-) -> Result<Option<usize>, Fail> {
+) -> Option<usize> {
     for (index, (step, calls, events)) in rows.iter().enumerate() {
         let before = (disk.calls(), disk.events());
-        let answered = is_answered(disk, replica, step)?;
+        let answered = is_answered(disk, replica, step);
         let made = disk.calls().saturating_sub(before.0);
         let added = disk.events().saturating_sub(before.1);
         if !answered || made != *calls || added != *events {
-            return Ok(Some(index));
+            return Some(index);
         }
     }
-    Ok(None)
+    None
+}
+
+// The same of a replica of a small file.
+pub(crate) fn first_other_of(
+    alloc: Global,
+    disk: &mut MemoryDisk,
+    rows: &[(Step<'_>, u64, u64)],
+) -> Result<Option<usize>, Fail> {
+    let mut replica = opened(alloc, disk, &Layout::small())?;
+    Ok(first_other(disk, &mut replica, rows))
 }

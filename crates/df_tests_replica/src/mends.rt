@@ -1,6 +1,8 @@
 // Small files on a disk in memory that are hurt, opened and mended: the calls and events of a mending, and each failing
 // call.
-use df_images::{OpenError, open, open_in, rooms_of, small_file, strike, survey_small};
+use df_images::{
+    OpenError, Replica, Rooms, open, open_in, rooms_of, small_file, strike, survey_small,
+};
 use df_layout::Layout;
 use df_memdisk::MemoryDisk;
 use std::alloc::Global;
@@ -22,33 +24,70 @@ fn left_to_mend(alloc: Global, disk: &mut MemoryDisk) -> Result<usize, Fail> {
     }
 }
 
-// The calls and events of a making and an open that mends what was hurt in between; nothing is left to mend behind it.
-fn open_hurt(alloc: Global, sectors: &[u64]) -> Result<(u64, u64), Fail> {
-    let mut disk = hurt_file(alloc, 0, sectors)?;
-    let Ok(replica) = open(alloc, &mut disk, &Layout::small())? else {
-        return Err("a file that can be mended is refused".into());
-    };
-    let done = (disk.calls(), disk.events());
+// Whether a replica serves a file as it was made.
+fn is_new(replica: &Replica) -> bool {
     let summary = replica.summary();
-    if !replica.live() || summary.sequence != 1 || summary.head != 0 {
+    replica.live() && summary.sequence == 1 && summary.head == 0
+}
+
+// Whether an open finds a file as it was made.
+fn opens_as_made(alloc: Global, disk: &mut MemoryDisk) -> Result<bool, Fail> {
+    Ok(match open(alloc, disk, &Layout::small())? {
+        Ok(replica) => is_new(&replica),
+        Err(_) => false,
+    })
+}
+
+// The calls and events of the disk behind an open, which leaves nothing to mend.
+fn mended(alloc: Global, disk: &mut MemoryDisk) -> Result<(u64, u64), Fail> {
+    if !opens_as_made(alloc, disk)? {
         return Err("another state is opened".into());
     }
-    if left_to_mend(alloc, &mut disk)? != 0 {
+    let done = (disk.calls(), disk.events());
+    if left_to_mend(alloc, disk)? != 0 {
         return Err("something is left to mend".into());
     }
     Ok(done)
 }
 
+// The same of a making and an open that mends what was hurt in between.
+fn open_hurt(alloc: Global, sectors: &[u64]) -> Result<(u64, u64), Fail> {
+    let mut disk = hurt_file(alloc, 0, sectors)?;
+    mended(alloc, &mut disk)
+}
+
+const HURT: [(&[u64], (u64, u64)); 5] = [
+    (&[], (58, 12)),
+    (&[1], (60, 14)),
+    (&[4], (60, 14)),
+    (&[4, 5], (61, 15)),
+    (&[5, 3, 1], (64, 18)),
+];
+
 // A making is 15 calls with 11 events, and a survey 43 calls with one sync. Each copy is a write and a sync; header
 // sectors are a write each and one sync.
 #[test]
 fn what_is_hurt_is_written_once(rt: HostRuntime) -> Result<(), Fail> {
-    assert_eq!(rt; open_hurt(rt.alloc(), &[])?, (58, 12));
-    assert_eq!(rt; open_hurt(rt.alloc(), &[1])?, (60, 14));
-    assert_eq!(rt; open_hurt(rt.alloc(), &[4])?, (60, 14));
-    assert_eq!(rt; open_hurt(rt.alloc(), &[4, 5])?, (61, 15));
-    assert_eq!(rt; open_hurt(rt.alloc(), &[5, 3, 1])?, (64, 18));
+    for (sectors, done) in &HURT {
+        assert_eq!(rt; open_hurt(rt.alloc(), sectors)?, *done);
+    }
     Ok(())
+}
+
+// An open that a failing call ends, with the rooms that it hands back.
+fn failing_open(alloc: Global, disk: &mut MemoryDisk) -> Result<(Rooms, OpenError), Fail> {
+    match open_in(disk, rooms_of(alloc, &Layout::small())?) {
+        Ok(_) => Err("a failing call is passed over".into()),
+        Err(refused) => Ok(refused),
+    }
+}
+
+// The layout of the rooms of an open, once its replica is closed.
+fn next_open(disk: &mut MemoryDisk, rooms: Rooms) -> Option<Layout> {
+    match open_in(disk, rooms) {
+        Ok(replica) => Some(replica.close().layout()),
+        Err(_) => None,
+    }
 }
 
 // The six calls of the mending of a header sector and two copies, one after the other, fail; the next open mends the rest.
@@ -56,16 +95,10 @@ fn what_is_hurt_is_written_once(rt: HostRuntime) -> Result<(), Fail> {
 fn a_mending_that_fails_is_gone_on_with(rt: HostRuntime) -> Result<(), Fail> {
     for listed in 59..65u64 {
         let mut disk = hurt_file(rt.alloc(), listed, &[5, 3, 1])?;
-        let Err((rooms, refusal)) = open_in(&mut disk, rooms_of(rt.alloc(), &Layout::small())?)
-        else {
-            return Err("a failing call is passed over".into());
-        };
+        let (rooms, refusal) = failing_open(rt.alloc(), &mut disk)?;
         assert_eq!(rt; refusal, OpenError::DiskFault, "call {listed}");
         assert_eq!(rt; (rooms.layout(), disk.calls()), (Layout::small(), listed));
-        let Ok(replica) = open_in(&mut disk, rooms) else {
-            return Err("the next open is refused".into());
-        };
-        assert_eq!(rt; replica.close().layout(), Layout::small());
+        assert_eq!(rt; next_open(&mut disk, rooms), Some(Layout::small()));
         assert_eq!(rt; left_to_mend(rt.alloc(), &mut disk)?, 0);
     }
     Ok(())

@@ -93,6 +93,18 @@ fn a_survey_of_a_checkpoint_reads_its_trailer_twice(rt: HostRuntime) -> Result<(
     assert_eq!(rt; (summary.sequence, summary.checkpoint_op), (2, 1));
     assert_eq!(rt; (summary.sessions, summary.references), (1, 1));
     assert_eq!(rt; surveyed.root(), [1u8, 2].as_slice());
+    Ok(())
+}
+
+// How many device calls that file has seen.
+fn calls_of_checkpoint(alloc: Global) -> Result<u64, Fail> {
+    let disk = file_of_checkpoint(alloc, 0)?;
+    Ok(disk.calls())
+}
+
+#[test]
+fn a_survey_of_a_checkpoint_ends_with_the_call_that_fails(rt: HostRuntime) -> Result<(), Fail> {
+    let calls = calls_of_checkpoint(rt.alloc())?;
     for call in 1..46u64 {
         let listed = calls.saturating_add(call);
         let mut disk = file_of_checkpoint(rt.alloc(), listed)?;

@@ -108,19 +108,21 @@ fn found(top: u64, checkpoint: u64, replies: u64, lacking: Option<Lacking>) -> F
     }
 }
 
+// A reply in a place that the table of sessions lacks.
+const PAST: Stored = Stored {
+    client: 9,
+    request: 1,
+    op: 9,
+    ahead: 0,
+    checkpoint: 1,
+    slot: 3,
+};
+
 // One more reply, over a file of two sessions whose replies are stored, and what is found then.
 fn cases() -> [(&'static str, Stored, Finding); 7] {
-    let past = Stored {
-        client: 9,
-        request: 1,
-        op: 9,
-        ahead: 0,
-        checkpoint: 1,
-        slot: 3,
-    };
     [
         ("the same reply again", FIRST, found(6, 1, 6, None)),
-        ("a place that the table lacks", past, found(9, 1, 9, None)),
+        ("a place that the table lacks", PAST, found(9, 1, 9, None)),
         (
             "an older request",
             Stored {

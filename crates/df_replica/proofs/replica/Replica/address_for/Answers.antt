@@ -4,7 +4,7 @@ use Rattle.std.specs.Prelude.{slice_get}
 use Rattle.df_layout.specs.declared.layout.Layout.{Layout}
 use Rattle.df_model.specs.Blocks.{free_in}
 use Rattle.df_units.specs.Meaning.{layout_of}
-use Rattle.df_rooms.specs.State.{State, memory}
+use Rattle.df_opening.specs.Below.{State, memory}
 use Rattle.df_replica.proofs.replica.Replica.address_for.Goals as goal
 
 pub returns-clause-why : goal.returns-clause-why

@@ -6,7 +6,7 @@ use Rattle.df_sessions.specs.declared.session.Session as told
 use Rattle.df_sessions.specs.Requests.{session_of}
 use Rattle.df_sessions.specs.Table.{has_client}
 use Rattle.df_model.specs.Refusals.{session_of_client}
-use Rattle.df_rooms.specs.State.{State, memory}
+use Rattle.df_opening.specs.Below.{State, memory}
 use Rattle.df_replica.proofs.AppendTests.{session_found, small_session}
 use Rattle.df_replica.proofs.replica.Replica.append_refusal.Goals as goal
 

@@ -6,7 +6,7 @@ use Rattle.df_format.specs.Making.{for_body}
 use Rattle.df_format.specs.Rules.{ObeysRules}
 use Rattle.df_format.proofs.Laws.{given_obeys}
 use Rattle.df_model.specs.Making.{next_address}
-use Rattle.df_rooms.specs.State.{IsState, memory}
+use Rattle.df_opening.specs.Below.{IsState, memory}
 use Rattle.df_replica.specs.Blocks.{block_given}
 use Rattle.df_replica.proofs.replica.Replica.block_given.Goals as goal
 

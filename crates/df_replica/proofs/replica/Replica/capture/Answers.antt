@@ -6,8 +6,7 @@ use Rattle.df_sessions.specs.declared.session.Session.{Session}
 use Rattle.df_model.specs.Blocks.{Blocks, blocks_captured, free_in}
 use Rattle.df_units.specs.Meaning.{layout_of}
 use Rattle.df_grid.specs.Grid.{GridState}
-use Rattle.df_rooms.specs.State.{IsRunning, State}
-use Rattle.df_replica.specs.Parts.{state_in}
+use Rattle.df_opening.specs.Below.{IsRunning, State, state_in}
 use Rattle.df_replica.specs.Beginning.{MayBegin, begun, captured}
 use Rattle.df_replica.proofs.BeginState.{is_running, with_course}
 use Rattle.df_replica.proofs.replica.Replica.capture.Goals as goal

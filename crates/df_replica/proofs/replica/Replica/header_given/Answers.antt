@@ -6,9 +6,8 @@ use Rattle.df_format.specs.declared.kind.Kind.TheVariants.{Prepare as AsPrepare}
 use Rattle.df_format.specs.Making.{for_body}
 use Rattle.df_format.specs.Rules.{ObeysRules}
 use Rattle.df_format.proofs.Laws.{given_obeys}
-use Rattle.df_rooms.specs.State.{State}
+use Rattle.df_opening.specs.Below.{State, state_in}
 use Rattle.df_replica.specs.Appending.{header_given}
-use Rattle.df_replica.specs.Parts.{state_in}
 use Rattle.df_replica.proofs.replica.Replica.header_given.Goals as goal
 
 small_slot : (op slots : ℕ) → 0 < slots → slots ≤ 1024 → op % slots < 2 ^ 32

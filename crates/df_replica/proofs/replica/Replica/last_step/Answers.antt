@@ -1,7 +1,7 @@
 -- The step is the machine's.
 use Rattle.std.proofs.Common.{◌≡◌, ap, subst}
 use Rattle.df_format.specs.declared.superblock.SuperFields.{SuperFields}
-use Rattle.df_rooms.specs.State.{State}
+use Rattle.df_opening.specs.Below.{State}
 use Rattle.df_replica.specs.Stepping.{OfRunning, finished}
 use Rattle.df_replica.proofs.LastSteps.{error_serves, last_serves}
 use Rattle.df_replica.proofs.replica.Replica.last_step.Goals as goal

@@ -5,11 +5,9 @@ use Rattle.df_format.specs.SuperRules.{fault_of}
 use Rattle.df_format.specs.declared.superblock.SuperFields.{SuperFields}
 use Rattle.df_grid.specs.Writes.{first_address, first_sum}
 use Rattle.df_layout.specs.declared.layout.Layout.{Layout}
-use Rattle.df_rooms.specs.Courses.{running_state}
-use Rattle.df_rooms.specs.State.{State}
+use Rattle.df_opening.specs.Below.{running_state, State, state_in}
 use Rattle.df_units.specs.Meaning.{number_of}
 use Rattle.df_units.proofs.Laws.{whole_check}
-use Rattle.df_replica.specs.Parts.{state_in}
 use Rattle.df_replica.specs.Stepping.{MayFinish, fields_for, next_fields}
 use Rattle.df_replica.proofs.FinishState.{first_pair, no_fault}
 use Rattle.df_replica.proofs.StepState.{of_running, taken_runs}

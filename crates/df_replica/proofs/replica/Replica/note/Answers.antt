@@ -3,9 +3,8 @@ use Rattle.std.proofs.Common.{◌≡◌, ◌+◌, ℕ, List, length, refl, sym, 
 use Rattle.std.proofs.lemmas.List.{length_push}
 use Rattle.df_journal.specs.Tail.{AreNumbered}
 use Rattle.df_replica.specs.Appending.{MayNote}
-use Rattle.df_rooms.specs.State.{AreAsked, State}
-use Rattle.df_rooms.proofs.Laws.{asked_noted, course_on}
-use Rattle.df_rooms.specs.Courses.{running_of}
+use Rattle.df_opening.specs.Below.{AreAsked, State, running_of}
+use Rattle.df_opening.proofs.Laws.{asked_noted, course_on}
 use Rattle.df_sessions.specs.Requests.{sessions_of}
 use Rattle.df_theory.specs.Sessions.{Tracks, noted}
 use Rattle.df_theory.specs.Units

@@ -2,8 +2,8 @@
 use Rattle.std.proofs.Common.{◌≡◌, ◌<◌, ◌+◌, length, sym, subst, ◌∙◌, arith}
 use Rattle.df_sessions.specs.Requests.{sessions_of}
 use Rattle.df_theory.specs.Sessions.{Tracks}
-use Rattle.df_rooms.specs.State.{AreAsked, State}
-use Rattle.df_replica.proofs.ReplyTests.{numbered_by}
+use Rattle.df_opening.specs.Below.{AreAsked, State}
+use Rattle.df_opening.proofs.Laws.{numbered_by}
 use Rattle.df_replica.proofs.replica.Replica.note_reply.Goals as goal
 
 pub invariant_of-self : goal.invariant_of-self

@@ -7,8 +7,7 @@ use Rattle.df_trailer.specs.Spelling.{is_referenced, text_size}
 use Rattle.df_trailer.specs.Text.{ones}
 use Rattle.df_trailer.specs.Writing.{captured_blocks}
 use Rattle.df_units.specs.Meaning.{layout_of}
-use Rattle.df_rooms.specs.State.{State}
-use Rattle.df_replica.specs.Parts.{state_in}
+use Rattle.df_opening.specs.Below.{State, state_in}
 use Rattle.df_replica.specs.Beginning.{IsPlan}
 use Rattle.df_replica.proofs.BeginPlan.{planned}
 use Rattle.df_replica.proofs.replica.Replica.plan.Goals as goal

@@ -1,5 +1,5 @@
 -- The refusal is the machine's, over the numbers in memory.
-use Rattle.df_rooms.specs.State.{memory}
+use Rattle.df_opening.specs.Below.{memory}
 use Rattle.df_replica.proofs.replica.Replica.prepare_refusal.Goals as goal
 
 pub returns-clause-why : goal.returns-clause-why

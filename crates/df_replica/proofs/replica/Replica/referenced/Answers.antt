@@ -1,8 +1,7 @@
 -- What the grid counts is what the machine references.
 use Rattle.std.proofs.Common.{refl, length, subst, ◌≡◌}
 use Rattle.df_model.specs.Memory.{referenced_of}
-use Rattle.df_rooms.specs.State.{State, memory}
-use Rattle.df_replica.specs.Parts.{state_in}
+use Rattle.df_opening.specs.Below.{State, memory, state_in}
 use Rattle.df_replica.proofs.ScrubTours.{counted}
 use Rattle.df_replica.proofs.replica.Replica.referenced.Goals as goal
 

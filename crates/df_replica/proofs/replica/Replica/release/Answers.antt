@@ -5,10 +5,9 @@ use Rattle.df_grid.specs.Grid.{GridState}
 use Rattle.df_model.specs.Blocks.{Blocks, sum_at, without_entry}
 use Rattle.df_model.specs.Commands.{Release, ToRelease}
 use Rattle.df_model.specs.Work.{is_known}
-use Rattle.df_rooms.specs.State.{State}
+use Rattle.df_opening.specs.Below.{State, AreWhole, state_in}
 use Rattle.df_replica.specs.Answering.{Serves}
 use Rattle.df_replica.specs.Blocks.{released}
-use Rattle.df_replica.specs.Parts.{AreWhole, state_in}
 use Rattle.df_replica.proofs.BlockStates.{live_state, not_live_stays}
 use Rattle.df_replica.proofs.ReleaseAnswers.{none_is, refused_is, refused_release, released_serves}
 use Rattle.df_replica.proofs.replica.Replica.release.Goals as goal

@@ -1,6 +1,6 @@
 -- What isn't refused may be the next reply, and each call is the machine's.
 use Rattle.std.proofs.Common.{refl, sym, ap, ◌∙◌}
-use Rattle.df_rooms.specs.State.{State}
+use Rattle.df_opening.specs.Below.{State}
 use Rattle.df_replica.specs.Stopping.{stopped}
 use Rattle.df_replica.proofs.ReplyAnswers.{fault_serves, refusal_serves, stored_serves}
 use Rattle.df_replica.proofs.ReplyTests.{may_reply}

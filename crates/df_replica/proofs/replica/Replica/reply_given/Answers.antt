@@ -8,8 +8,7 @@ use Rattle.df_format.specs.Own.{own_place}
 use Rattle.df_format.specs.Rules.{ObeysRules}
 use Rattle.df_format.specs.Spelling.{IsCheck}
 use Rattle.df_sessions.specs.Table.{IsTable}
-use Rattle.df_rooms.specs.State.{IsState, State}
-use Rattle.df_replica.specs.Parts.{state_in}
+use Rattle.df_opening.specs.Below.{IsState, State, state_in}
 use Rattle.df_replica.specs.Replying.{first_check, reply_given}
 use Rattle.df_replica.proofs.ReplyGiven.{given_own, given_rules, header_is, place_small}
 use Rattle.df_replica.proofs.ReplyTests.{place_inside}

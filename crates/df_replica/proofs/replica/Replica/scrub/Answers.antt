@@ -4,10 +4,8 @@ use Rattle.df_layout.specs.declared.damage.Finding.{Finding}
 use Rattle.df_grid.specs.Grid.{GridState}
 use Rattle.df_model.specs.After.{newest}
 use Rattle.df_model.specs.Work.{Tour, first_tour}
-use Rattle.df_rooms.specs.Below.{ListsFailing}
-use Rattle.df_rooms.specs.State.{State, grid_with}
+use Rattle.df_opening.specs.Below.{ListsFailing, State, grid_with, state_in}
 use Rattle.df_replica.specs.Scrubbing.{toured}
-use Rattle.df_replica.specs.Parts.{state_in}
 use Rattle.df_replica.proofs.ScrubTours.{tour_serves}
 use Rattle.df_replica.proofs.StepState.{grid_is}
 use Rattle.df_replica.proofs.replica.Replica.scrub.Goals as goal

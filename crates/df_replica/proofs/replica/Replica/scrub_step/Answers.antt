@@ -2,11 +2,9 @@
 use Rattle.std.proofs.Common.{◌≡◌, true, refl, sym, ap, subst}
 use Rattle.std.specs.Prelude.{Ok}
 use Rattle.df_grid.specs.Grid.{GridState}
-use Rattle.df_rooms.specs.Below.{IsMachines}
-use Rattle.df_rooms.specs.State.{State}
+use Rattle.df_opening.specs.Below.{IsMachines, State, state_in}
 use Rattle.df_replica.specs.Answering.{ServesScrub}
 use Rattle.df_replica.specs.Scrubbing.{with_scrub}
-use Rattle.df_replica.specs.Parts.{state_in}
 use Rattle.df_replica.proofs.ScrubCalls.{scrub_serves, scrub_stopped}
 use Rattle.df_replica.proofs.StepState.{grid_is}
 use Rattle.df_replica.proofs.replica.Replica.scrub_step.Goals as goal

@@ -2,9 +2,8 @@
 use Rattle.std.proofs.Common.{◌≡◌, Some, sym, subst, ◌∙◌}
 use Rattle.df_model.specs.Refusals.{first_refusal, lookup_refusals}
 use Rattle.df_model.specs.declared.reading.LookupError.TheVariants.{NoClient, ReplyPending}
-use Rattle.df_rooms.specs.State.{State, memory}
+use Rattle.df_opening.specs.Below.{State, memory, state_in}
 use Rattle.df_replica.specs.Lookups.{IsStoredFor}
-use Rattle.df_replica.specs.Parts.{state_in}
 use Rattle.df_replica.proofs.LookupSessions.{is_stored, no_client, pending, some_there}
 use Rattle.df_replica.proofs.replica.Replica.stored_for.Goals as goal
 

@@ -1,6 +1,6 @@
 -- The step is the machine's.
 use Rattle.std.proofs.Common.{ap}
-use Rattle.df_rooms.specs.State.{State}
+use Rattle.df_opening.specs.Below.{State}
 use Rattle.df_replica.proofs.BlockSteps.{block_fault_serves, block_serves}
 use Rattle.df_replica.proofs.replica.Replica.trailer_step.Goals as goal
 

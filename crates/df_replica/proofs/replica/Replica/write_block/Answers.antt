@@ -1,7 +1,7 @@
 -- What isn't refused may be written next, and each call is the machine's.
 use Rattle.std.proofs.Common.{refl, sym, ap, ◌∙◌}
 use Rattle.df_format.specs.declared.reference.Reference.{Reference}
-use Rattle.df_rooms.specs.State.{State}
+use Rattle.df_opening.specs.Below.{State}
 use Rattle.df_replica.proofs.BlockAnswers.{fault_serves, refusal_serves, written_serves}
 use Rattle.df_replica.proofs.BlockStates.{address_given, refusal_given}
 use Rattle.df_replica.proofs.replica.Replica.write_block.Goals as goal

@@ -3,9 +3,8 @@ use Rattle.std.proofs.Common.{◌≡◌}
 use Rattle.df_model.specs.Blocks.{block_written, with_entry}
 use Rattle.df_units.specs.Meaning.{number_of}
 use Rattle.df_grid.specs.Grid.{GridState}
-use Rattle.df_rooms.specs.State.{IsState}
+use Rattle.df_opening.specs.Below.{IsState, state_in}
 use Rattle.df_replica.specs.Appending.{unit_of}
-use Rattle.df_replica.specs.Parts.{state_in}
 use Rattle.df_replica.proofs.BlockStates.{either_grid, live_state}
 use Rattle.df_replica.proofs.replica.Replica.write_next_block.Goals as goal
 

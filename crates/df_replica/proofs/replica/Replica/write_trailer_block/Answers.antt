@@ -9,9 +9,7 @@ use Rattle.df_grid.specs.Writes.{block_steps, made_events}
 use Rattle.df_units.specs.Format.{format_of}
 use Rattle.df_units.specs.Meaning.{number_of}
 use Rattle.df_model.specs.Blocks.{Blocks}
-use Rattle.df_rooms.specs.Courses.{running_state}
-use Rattle.df_rooms.specs.State.{IsRunning, State}
-use Rattle.df_replica.specs.Parts.{state_in}
+use Rattle.df_opening.specs.Below.{running_state, IsRunning, State, state_in}
 use Rattle.df_replica.specs.Stepping.{MayAdvance, advanced, block_events, trailer_unit}
 use Rattle.df_replica.proofs.BeginState.{with_course}
 use Rattle.df_replica.proofs.StepState.{grid_is, of_running, running_on, taken_runs}

@@ -1,15 +1,9 @@
--- What is planned may be mended, so the moments and the end are those of the writes, whether all of them were made or a part.
+-- What a mending leaves is said of the survey that the parts are seen as.
 use Rattle.std.proofs.Common.{subst}
-use Rattle.df_base.specs.Moments.{EachMoment}
-use Rattle.df_disk.specs.Told.{Told}
-use Rattle.df_damage.specs.Anew.{told_after}
-use Rattle.df_theory.specs.View.{View}
-use Rattle.df_replica.specs.Mending.{IsMended, IsPlanned, RestsOnDisk, mending_events}
-use Rattle.df_replica.specs.Replica.{Survey}
-use Rattle.df_replica.specs.Serving.{Grade, IsGoodFor, format}
-use Rattle.df_rooms.specs.State.{shape}
-use Rattle.df_replica.proofs.Mendable.{planned_may_mend}
-use Rattle.df_replica.proofs.MendSteps.{all_mended, all_moments}
+use Rattle.df_opening.specs.Keeping.{Grade, IsGoodFor, format}
+use Rattle.df_opening.specs.Mending.{IsMended, IsPlanned, RestsOnDisk, mending_events}
+use Rattle.df_opening.specs.Survey.{Survey}
+use Rattle.df_replica.specs.Below.{EachMoment, Told, View, shape, told_after}
 use Rattle.df_replica.proofs.surveyed.Surveyed.mend.Goals as goal
 
 abbrev Moments : Survey → Type 0
@@ -21,31 +15,13 @@ Ends v = (base : Told) (grade : Grade) (view : View) → IsPlanned v.state.file 
     → IsMended grade v.state.file view v.state.headers (told_after (mending_events v.state.file.layout v.state.headers v.mends v.state.fields v.chosen.members) base)
 
 pub returns-in-Ok-clause-moments : goal.returns-in-Ok-clause-moments
-returns-in-Ok-clause-moments g c =
-    let s = c.self.inside.parts in
-    subst Moments c.self.view_is
-    (λ base grade view plan on. all_moments s.file s.rooms.headers s.rooms.mends.items s.content c.self.inside.chosen.members base
-    (record { grade = grade; view = view; is_log = on.is_log; standing = on.standing; may = planned_may_mend grade s.file view s.rooms.headers s.rooms.mends.items s.content c.self.inside.chosen.members base c.mend.ensures.size plan on }) c.mend.ensures.steps)
+returns-in-Ok-clause-moments g c = subst Moments c.self.view_is c.mend_file.ensures.moments
 
 pub returns-in-Ok-clause-mended : goal.returns-in-Ok-clause-mended
-returns-in-Ok-clause-mended g c =
-    let s = c.self.inside.parts in
-    subst Ends c.self.view_is
-    (λ base grade view plan on. all_mended s.file s.rooms.headers s.rooms.mends.items s.content c.self.inside.chosen.members base
-    (record { grade = grade; view = view; is_log = on.is_log; standing = on.standing; may = planned_may_mend grade s.file view s.rooms.headers s.rooms.mends.items s.content c.self.inside.chosen.members base c.mend.ensures.size plan on }) c.mend.ensures.steps
-    c.self.invariant.whole.state.ring)
+returns-in-Ok-clause-mended g c = subst Ends c.self.view_is c.mend_file.ensures.mended
 
 pub returns-in-Err-clause-moments : goal.returns-in-Err-clause-moments
-returns-in-Err-clause-moments g c =
-    let s = c.self.inside.parts in
-    subst Moments c.self.view_is
-    (λ base grade view plan on. all_moments s.file s.rooms.headers s.rooms.mends.items s.content c.self.inside.chosen.members base
-    (record { grade = grade; view = view; is_log = on.is_log; standing = on.standing; may = planned_may_mend grade s.file view s.rooms.headers s.rooms.mends.items s.content c.self.inside.chosen.members base c.mend.ensures.size plan on }) c.mend.ensures.steps)
+returns-in-Err-clause-moments g c = subst Moments c.self.view_is c.mend_file.ensures.moments
 
 pub returns-in-Err-clause-mended : goal.returns-in-Err-clause-mended
-returns-in-Err-clause-mended g c =
-    let s = c.self.inside.parts in
-    subst Ends c.self.view_is
-    (λ base grade view plan on. all_mended s.file s.rooms.headers s.rooms.mends.items s.content c.self.inside.chosen.members base
-    (record { grade = grade; view = view; is_log = on.is_log; standing = on.standing; may = planned_may_mend grade s.file view s.rooms.headers s.rooms.mends.items s.content c.self.inside.chosen.members base c.mend.ensures.size plan on }) c.mend.ensures.steps
-    c.self.invariant.whole.state.ring)
+returns-in-Err-clause-mended g c = subst Ends c.self.view_is c.mend_file.ensures.mended

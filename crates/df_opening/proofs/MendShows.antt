@@ -1,0 +1,62 @@
+-- A mending puts headers and copies of the superblock, and so leaves each place that a call reads as it was.
+use Rattle.std.proofs.Common.{◌≡◌, ℕ, ◌+◌, List, [], ◌∷◌, ◌++◌, Bool, true, false, Option, None, refl, ◌∙◌, ap}
+use Rattle.df_base.specs.Image.{Image, IsImage}
+use Rattle.df_base.specs.Log.{Event}
+use Rattle.df_layout.specs.declared.damage.Mend.{Mend}
+use Rattle.df_layout.specs.declared.layout.Layout.{Layout}
+use Rattle.df_format.specs.declared.header.Header.{Header}
+use Rattle.df_format.specs.declared.superblock.SuperFields.{SuperFields}
+use Rattle.df_superblock.specs.Steps.{repaired}
+use Rattle.df_theory.specs.Device.{AreSteps}
+use Rattle.df_theory.specs.MakingLaws.{all_puts}
+use Rattle.df_theory.specs.MendLaws.{copy_steps, header_steps}
+use Rattle.df_theory.specs.Runs.{Puts, Step, Syncs}
+use Rattle.df_theory.specs.Units.{AnyUnit, BlockPlace, Place, PreparePlace, ReplyPlace, or_else}
+use Rattle.df_units.specs.Puts.{put_copy}
+use Rattle.df_recovery.specs.Below.{DataFile}
+use Rattle.df_opening.specs.Sparing.{SparesReads, image_after}
+use Rattle.df_opening.specs.Mending.{mending_events, mending_steps, sector_put, sector_puts, sectors_of}
+use Rattle.df_opening.specs.Keeping.{format}
+use Rattle.df_opening.proofs.Fronts.{FrontSteps, all_front}
+use Rattle.df_opening.proofs.StepShows.{spared_by, unit_after}
+
+module _ (place : Place) where
+  after_both : (ss ts : List Step) (o : Option AnyUnit) → unit_after (ss ++ ts) place o ≡ unit_after ts place (unit_after ss place o)
+  after_both [] ts o = refl
+  after_both ((Puts put) ∷ ss) ts o = after_both ss ts (or_else (put place) o)
+  after_both (Syncs ∷ ss) ts o = after_both ss ts o
+
+  module _ (table : List Header) (other : (k : ℕ) → sector_put table k place ≡ None) where
+    sectors_aside : (ks : List ℕ) (o : Option AnyUnit) → unit_after (all_puts (sector_puts table ks)) place o ≡ o
+    sectors_aside [] o = refl
+    sectors_aside (k ∷ ks) o = ap (λ (p : Option AnyUnit). unit_after (all_puts (sector_puts table ks)) place (or_else p o)) (other k) ∙ sectors_aside ks o
+
+    headers_aside : (ks : List ℕ) (o : Option AnyUnit) → unit_after (header_steps (sector_puts table ks)) place o ≡ o
+    headers_aside [] o = refl
+    headers_aside (k ∷ ks) o = after_both (all_puts (sector_puts table (k ∷ ks))) (Syncs ∷ []) o ∙ sectors_aside (k ∷ ks) o
+
+  copies_aside : (f : SuperFields) → ((n : ℕ) → put_copy n f place ≡ None) → (members : List Bool) (number : ℕ) (o : Option AnyUnit) → unit_after (copy_steps (repaired f number members)) place o ≡ o
+  copies_aside f other [] number o = refl
+  copies_aside f other (true ∷ members) number o = copies_aside f other members (number + 1) o
+  copies_aside f other (false ∷ members) number o = ap (λ (p : Option AnyUnit). unit_after (copy_steps (repaired f (number + 1) members)) place (or_else p o)) (other number) ∙ copies_aside f other members (number + 1) o
+
+  mending_aside : (layout : Layout) (table : List Header) (mends : List Mend) (f : SuperFields) (members : List Bool) → ((k : ℕ) → sector_put table k place ≡ None) → ((n : ℕ) → put_copy n f place ≡ None) → (o : Option AnyUnit)
+      → unit_after (mending_steps layout table mends f members) place o ≡ o
+  mending_aside layout table mends f members header copy o =
+      let ks = sectors_of layout mends in
+      after_both (header_steps (sector_puts table ks)) (copy_steps (repaired f 0 members)) o
+      ∙ ap (unit_after (copy_steps (repaired f 0 members)) place) (headers_aside table header ks o) ∙ copies_aside f copy members 0 o
+
+-- each front of it leaves them so
+pub front_spares : (file : DataFile) (table : List Header) (mends : List Mend) (f : SuperFields) (members : List Bool) (part : List Event) → FrontSteps (format file) part (mending_steps file.layout table mends f members)
+    → (image : Image) → IsImage image → SparesReads file image (image_after part image)
+front_spares file table mends f members part front image whole =
+    spared_by file part front.steps front.are
+    (λ k o. front.aside (PreparePlace k) o (mending_aside (PreparePlace k) file.layout table mends f members (λ n. refl) (λ n. refl) None))
+    (λ k o. front.aside (ReplyPlace k) o (mending_aside (ReplyPlace k) file.layout table mends f members (λ n. refl) (λ n. refl) None))
+    (λ k o. front.aside (BlockPlace k) o (mending_aside (BlockPlace k) file.layout table mends f members (λ n. refl) (λ n. refl) None)) image whole
+
+pub mending_spares : (file : DataFile) (table : List Header) (mends : List Mend) (f : SuperFields) (members : List Bool) → AreSteps (format file) (mending_events file.layout table mends f members) (mending_steps file.layout table mends f members)
+    → (image : Image) → IsImage image → SparesReads file image (image_after (mending_events file.layout table mends f members) image)
+mending_spares file table mends f members are =
+    front_spares file table mends f members (mending_events file.layout table mends f members) (all_front (format file) (mending_events file.layout table mends f members) (mending_steps file.layout table mends f members) are)

@@ -1,0 +1,12 @@
+pub mod Keeping
+pub mod Sparing
+pub mod Formatting
+pub mod Making
+pub mod Survey
+pub mod Following
+pub mod Mending
+pub mod Surveying
+pub mod Completeness
+pub mod Opened
+pub mod Held
+pub mod Below

@@ -1,0 +1,153 @@
+-- The mending of a file: which sectors of the header ring are written, its device calls, what they are in the words of the theory, and what they leave.
+use Rattle.std.specs.Prelude.{◌≡◌, ◌/◌, ◌==◌, ◌&&◌, ℕ, Bool, true, false, List, [], ◌∷◌, ◌++◌, length, map}
+use Rattle.std.specs.List.{filter, list_any, range_with_len}
+use Rattle.df_base.specs.Log.{Event, IsLog, Sync, now}
+use Rattle.df_disk.specs.Told.{IsHonest, Told, did}
+use Rattle.df_layout.specs.declared.damage.Mend.{Mend}
+use Rattle.df_layout.specs.declared.layout.Layout.{Layout}
+use Rattle.df_layout.specs.declared.places.Zone.{Zone}
+use Rattle.df_layout.specs.declared.places.Zone.TheVariants.{WalHeaders}
+use Rattle.df_format.specs.declared.header.Header.{Header}
+use Rattle.df_format.specs.Copies.{content_at}
+use Rattle.df_format.specs.declared.superblock.SuperFields.{SuperFields}
+use Rattle.df_quorum.specs.declared.slot.Slot.{Slot}
+use Rattle.df_quorum.specs.Quorum.{AreMembers}
+use Rattle.df_theory.specs.Units.{Units}
+use Rattle.df_theory.specs.Rests.{IsQuiet, RestsOn}
+use Rattle.df_theory.specs.Shape.{Shape}
+use Rattle.df_theory.specs.View.{View}
+use Rattle.df_theory.specs.Device.{NoChanceOf, units_log}
+use Rattle.df_theory.specs.MendLaws.{IsTable as IsSlotTable, MayMend, mend_steps}
+use Rattle.df_theory.specs.Runs.{Step}
+use Rattle.df_theory.specs.TidyLaws.{IsTidy}
+use Rattle.df_units.specs.Bytes.{unit_at}
+use Rattle.df_units.specs.Puts.{put_headers}
+use Rattle.df_headers.specs.Ring.{IsTable, in_sector, sector_writes}
+use Rattle.df_journal.specs.Scan.{Scan}
+use Rattle.df_journal.specs.Shows.{Tells}
+use Rattle.df_journal.specs.Append.{ShowsRing}
+use Rattle.df_superblock.specs.Events.{repair_events}
+use Rattle.df_superblock.specs.Steps.{repaired}
+use Rattle.df_recovery.specs.Below.{DataFile, State, shape}
+use Rattle.df_recovery.specs.Opening.{HasSuper}
+use Rattle.df_recovery.specs.Plan.{AreDistinct, IsScanOf, OthersAreShown, headers_in, if_wanted, mend_list}
+use Rattle.df_recovery.specs.Starting.{start_of}
+use Rattle.df_opening.specs.Following.{MayOpen}
+use Rattle.df_opening.specs.Keeping.{Grade, StandingFor, StandsFor, format}
+use Rattle.df_recovery.specs.declared.scanned.Scanned.{Scanned}
+use Rattle.df_opening.specs.Survey.{Survey}
+
+-- ---- sectors
+
+abbrev pub is_header_zone : Zone → Bool
+is_header_zone WalHeaders = true
+is_header_zone zone = false
+
+-- the place is a slot of this sector of the header ring
+abbrev pub lies_in : ℕ → Mend → Bool
+lies_in sector mend = is_header_zone mend.place.zone && (mend.place.index / 16 == sector)
+
+-- the list has a slot of the sector
+abbrev pub needs_sector : List Mend → ℕ → Bool
+needs_sector mends sector = list_any (lies_in sector) mends
+
+-- the sectors that have a slot of the list, of the first n of the ring, in order and each once
+abbrev pub sectors_to : ℕ → List Mend → List ℕ
+sectors_to n mends = filter (needs_sector mends) (range_with_len 0 n)
+
+abbrev pub sectors_of : Layout → List Mend → List ℕ
+sectors_of layout mends = sectors_to (layout.slots / 16) mends
+
+-- ---- device calls
+
+-- the write of a sector, if the list has a slot of it
+abbrev pub wanted_writes : Layout → List Header → List Mend → ℕ → List Event
+wanted_writes layout table mends sector = sector_writes layout table (if_wanted (needs_sector mends sector) sector)
+
+abbrev pub some_of : List ℕ → Bool
+some_of [] = false
+some_of (sector ∷ sectors) = true
+
+-- they are synced at once, and where there is none there is no sync
+abbrev pub header_events : Layout → List Header → List ℕ → List Event
+header_events layout table [] = []
+header_events layout table (sector ∷ sectors) = sector_writes layout table (sector ∷ sectors) ++ Sync ∷ []
+
+-- the header sectors first, then the copies that aren't members
+abbrev pub mending_events : Layout → List Header → List Mend → SuperFields → List Bool → List Event
+mending_events layout table mends f members = header_events layout table (sectors_of layout mends) ++ repair_events f 0 members
+
+-- ---- in the words of the theory
+
+abbrev pub sector_put : List Header → ℕ → Units
+sector_put table sector = put_headers sector (in_sector sector table)
+
+abbrev pub sector_puts : List Header → List ℕ → List Units
+sector_puts table sectors = map (sector_put table) sectors
+
+abbrev pub mending_steps : Layout → List Header → List Mend → SuperFields → List Bool → List Step
+mending_steps layout table mends f members = mend_steps (sector_puts table (sectors_of layout mends)) (repaired f 0 members)
+
+-- the log rests on a view, and with this table and this list it may be mended
+pub record MayMendOn (file : DataFile) (table : List Header) (mends : List Mend) (f : SuperFields) (members : List Bool) (t : Told) : Type 0 where
+  pub grade : Grade
+  pub view : View
+  pub is_log : IsLog t.log
+  pub standing : StandingFor grade (units_log (format file) t.log) view
+  pub may : MayMend (shape file) (units_log (format file) t.log) view (headers_in table) (sector_puts table (sectors_of file.layout mends)) (repaired f 0 members)
+
+-- the file is tidy, with the view, and its header ring shows the table; by the grade the referenced blocks stand, too
+pub record IsMended (g : Grade) (file : DataFile) (view : View) (table : List Header) (t : Told) : Type 0 where
+  pub tidy : IsTidy (shape file) (units_log (format file) t.log) view
+  pub standing : StandingFor g (units_log (format file) t.log) view
+  pub ring : ShowsRing file.layout file.cluster (now t.log) table
+
+-- ---- what an open knows of a file before it mends it
+
+-- the table and the list are planned from a scan, what the places of the copies show and which of them are members
+pub record ArePlannedFrom (layout : Layout) (cluster : ℕ) (scan : Scan) (copies : List Slot) (members : List Bool) (table : List Header) (mends : List Mend) : Type 0 where
+  pub is_table : IsTable layout cluster table
+  pub from : (sh : Shape) (image : Units) (v : View) → IsScanOf layout sh image v scan → IsSlotTable sh image v (headers_in table)
+  pub others : (sh : Shape) (image : Units) (v : View) → IsScanOf layout sh image v scan → AreDistinct image → OthersAreShown layout scan.start image (headers_in table)
+  pub list : (image : Units) → Tells layout image scan → mends ≡ mend_list layout scan image copies members
+
+-- what a survey hands out is planned from what was read
+pub record IsSettledFrom (scanned : Scanned) (s : Survey) : Type 0 where
+  pub file_is : s.state.file ≡ scanned.file
+  pub fields_are : s.state.fields ≡ scanned.copies.found.content
+  pub chosen_is : s.chosen ≡ scanned.copies.found.chosen
+  pub planned : ArePlannedFrom s.state.file.layout s.state.file.cluster scanned.log.slots scanned.copies.slots s.chosen.members s.state.headers s.mends
+
+-- the scan and the choice are what the disk shows, and the table and the list are planned from them
+pub record IsPlanned (file : DataFile) (table : List Header) (mends : List Mend) (f : SuperFields) (members : List Bool) (t : Told) : Type 0 where
+  pub scan : Scan
+  pub copies : List Slot
+  pub super : HasSuper t.shown f
+  pub members_are : AreMembers (content_at t.shown) super.content members
+  pub start : scan.start ≡ start_of f
+  pub scanned : Tells file.layout (unit_at file.layout file.cluster t.shown) scan
+  pub planned : ArePlannedFrom file.layout file.cluster scan copies members table mends
+
+-- an honest disk whose log rests on a view and is quiet, where no unit came about by chance: what holds of it behind the barrier of an open
+pub record RestsOnDisk (g : Grade) (file : DataFile) (view : View) (t : Told) : Type 0 where
+  pub is_log : IsLog t.log
+  pub honest : IsHonest t
+  pub rests : RestsOn (shape file) (units_log (format file) t.log) view
+  pub quiet : IsQuiet (units_log (format file) t.log)
+  pub no_chance : NoChanceOf (format file) t.log (now t.log)
+  pub standing : StandingFor g (units_log (format file) t.log) view
+
+-- what is planned of it may be mended
+abbrev pub PlannedMayMend : Type 0
+PlannedMayMend =
+    (g : Grade) (file : DataFile) (view : View) (table : List Header) (mends : List Mend) (f : SuperFields) (members : List Bool) (t : Told)
+    → length members ≡ 4 → IsPlanned file table mends f members t → RestsOnDisk g file view t
+    → MayMend (shape file) (units_log (format file) t.log) view (headers_in table) (sector_puts table (sectors_of file.layout mends)) (repaired f 0 members)
+
+-- the state once it is mended: calls may go on
+abbrev pub live_state : State → State
+live_state s = record s { live = true }
+
+-- behind the barrier its log rests on the view
+abbrev pub BarrierRests : Type 0
+BarrierRests = (g : Grade) (file : DataFile) (view : View) (t : Told) → MayOpen file view t → StandsFor g (unit_at file.layout file.cluster t.shown) view → RestsOnDisk g file view (did Sync t)

@@ -1,0 +1,37 @@
+// An open: a survey, and then the mending of what it lists.
+ghost use Rattle.std.specs.Prelude.{◌≡◌, IfOk, IfErr, Some, true};
+ghost use Rattle.df_opening.specs.Below.{IsBlamed, IsImage, Sync, Told, after, is_open_fault, TellsHurt, without_rooms};
+ghost use Rattle.df_opening.specs.Opened.{MendsAll, StopsOpening, ToldBy};
+ghost use Rattle.df_opening.specs.Survey.{opened_of};
+ghost use Rattle.df_opening.specs.Surveying.{TellsSurvey};
+ghost use Rattle.df_recovery.specs.Below.{AreWhole};
+
+use crate::{OpenError, Parts, Rooms, mend_file, survey_file};
+use df_disk::Disk;
+
+/// Opens a file: finds its state, with the refusals of a survey, and mends it; then calls may be made on its parts. A fault of
+/// the disk may come before the mending or within it; every other refusal has written nothing. The rooms come back with a
+/// refusal. Where sectors of the file were damaged, lost or swapped before, the state is one that the file had, and a refusal is
+/// because of one of them.
+pub fn open_file<D: Disk>(disk: &mut D, rooms: Rooms) -> Result<Parts, (Rooms, OpenError)>
+    ensures whole { IfOk result (λ parts. AreWhole parts) }
+    ensures kept { IfOk (opened_of result) (λ state. state.file.layout ≡ rooms.layout) }
+    ensures live { IfOk (opened_of result) (λ state. state.live ≡ true) }
+    ensures given_back { IfErr result (λ refused. refused.0.layout ≡ rooms.layout) }
+    ensures answer { TellsSurvey rooms.layout (D.told disk.old) (without_rooms (opened_of result)) }
+    ensures hurt { TellsHurt rooms.layout (D.told disk.old) (without_rooms (opened_of result)) }
+    ensures opened { (t : Told) → D.told disk.old ≡ Some t → IfOk (opened_of result) (λ state. MendsAll t state (D.told disk.new)) }
+    ensures told { IfOk result (λ _. ToldBy (after Sync (D.told disk.old)) (D.told disk.new)) }
+    ensures refused { IfErr result (λ refused. (refused.1 ≡ OpenError.DiskFault → ⊥) → D.told disk.new ≡ after Sync (D.told disk.old)) }
+    ensures stopped { (t : Told) → D.told disk.old ≡ Some t → IfErr result (λ refused. IsImage t.shown → refused.1 ≡ OpenError.DiskFault → StopsOpening rooms.layout t (D.told disk.new)) }
+    ensures cause { IsBlamed is_open_fault (D.faults disk.old) (D.faults disk.new) (without_rooms (opened_of result)) }
+{
+    let surveyed = match survey_file(disk, rooms) {
+        Ok(surveyed) => surveyed,
+        Err(refused) => return Err(refused),
+    };
+    match mend_file(disk, surveyed) {
+        Ok(parts) => Ok(parts),
+        Err((rooms, _)) => Err((rooms, OpenError::DiskFault)),
+    }
+}

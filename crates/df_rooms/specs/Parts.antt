@@ -1,0 +1,55 @@
+-- What a replica keeps in memory, live or not: the state that it stands for, its numbers, and how its parts go together.
+use Rattle.std.specs.Prelude.{◌≡◌, false, None, length}
+use Rattle.df_model.specs.declared.answers.Summary.{Summary}
+use Rattle.df_scrub.specs.Scrubber.{new_scrub}
+use Rattle.df_rooms.specs.Courses.{running_of}
+use Rattle.df_rooms.specs.State.{IsState, State}
+use Rattle.df_rooms.specs.declared.parts.Parts.{Parts}
+
+-- the state
+abbrev pub state_in : Parts → State
+state_in p = record {
+  file = p.file;
+  fields = p.content;
+  root = p.root.items;
+  head = p.head;
+  head_checksum = p.head_checksum;
+  replies = p.replies;
+  table = p.sessions;
+  waiting = p.waiting.items;
+  headers = p.rooms.headers;
+  blocks = p.grid.blocks;
+  running = running_of p.running;
+  tour = p.scrub.scrubber.tour;
+  findings = p.scrub.scrubber.findings;
+  live = p.live;
+}
+
+-- it makes sense, the grid is of the file's cluster, and all rooms are of the file's layout
+pub record AreWhole (p : Parts) : Type 0 where
+  pub state : IsState (state_in p)
+  pub rooms_fit : p.rooms.layout ≡ p.file.layout
+  pub grid_fits : p.grid.layout ≡ p.file.layout
+  pub grid_named : p.grid.cluster ≡ p.file.cluster
+  pub trailer_fits : p.trailer.layout ≡ p.file.layout
+  pub scrub_fits : p.scrub.layout ≡ p.file.layout
+
+-- as a survey finds them: no call may be made yet, no checkpoint runs, the tour is at its start, and nothing was found
+pub record AreFound (p : Parts) : Type 0 where
+  pub whole : AreWhole p
+  pub dead : p.live ≡ false
+  pub idle : p.running ≡ None
+  pub fresh : p.scrub.scrubber ≡ new_scrub
+
+-- the numbers of a state, how many sessions there are, and how many blocks the durable checkpoint references
+abbrev pub summary_of : State → Summary
+summary_of s = record {
+  cluster = s.file.cluster;
+  layout = s.file.layout;
+  sequence = s.fields.sequence;
+  checkpoint_op = s.fields.op;
+  head = s.head;
+  replies = s.replies;
+  sessions = length s.table.sessions;
+  references = length s.blocks.durable;
+}
