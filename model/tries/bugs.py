@@ -195,6 +195,12 @@ WORDS = (
     "inspect mends",
     "findings don't count for the status",
     "a workload may have no commands",
+    "no work is done behind a line",
+    "a begin is due one append late",
+    "a begin that is refused counts as done",
+    "one step more is done than paced",
+    "the loop begins without a root",
+    "the work comes before the answer",
 )
 BUG = os.environ.get("BUG", "")
 

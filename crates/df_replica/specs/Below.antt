@@ -8,7 +8,7 @@ pub use Rattle.df_model.specs.Commands.{Advance, Append, Begin, ReadBlock, ReadP
 pub use Rattle.df_model.specs.Faults.{is_append_fault, is_block_fault, is_lookup_fault, is_prepare_fault, is_read_fault, is_reply_fault, is_step_fault}
 pub use Rattle.df_model.specs.Making.{next_address, place_of_op}
 pub use Rattle.df_model.specs.Memory.{Memory, block_room, free_of, prepare_sum, referenced_of}
-pub use Rattle.df_model.specs.Refusals.{append_refusals, block_refusals, first_refusal, lookup_refusals, prepare_refusals, reply_refusals, session_of_client}
+pub use Rattle.df_model.specs.Refusals.{append_refusals, block_refusals, first_refusal, is_running, lookup_refusals, prepare_refusals, reply_refusals, session_of_client}
 pub use Rattle.df_sessions.specs.Requests.{session_of}
 pub use Rattle.df_sessions.specs.Table.{has_client}
 pub use Rattle.df_superblock.specs.Below.{Sync, put_copies, update_steps}

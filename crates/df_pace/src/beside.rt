@@ -1,5 +1,6 @@
 // What the loop's work beside a script leaves as it was.
 
+ghost use Rattle.df_pace.specs.Beats.{FewerDue, LineCounts, NothingDue, PieceCounts, PieceDue, StartsIdle, WholeDue};
 ghost use Rattle.df_pace.specs.Laws.{AnsweredLaw, IdleLaw, PacingLaw, ScrubbingLaw, SessionLaw};
 
 /// A script prints the texts of its answers, also with work beside it, and where nothing is due it prints what it prints
@@ -21,4 +22,16 @@ pub fn scrubbing_is_unseen()
 /// end are the same.
 pub fn work_is_unseen_in_the_log()
     ensures { PacingLaw }
+{}
+
+/// The work behind a line is all that is due there, taken piece by piece, and as many prepares count as the head has grown since
+/// the loop's last begin.
+pub fn work_is_done_piece_by_piece()
+    ensures whole { WholeDue }
+    ensures nothing { NothingDue }
+    ensures starts { StartsIdle }
+    ensures piece { PieceDue }
+    ensures fewer { FewerDue }
+    ensures line { LineCounts }
+    ensures counts { PieceCounts }
 {}

@@ -1,6 +1,6 @@
 use Rattle.df_pace.proofs.Idle.{answered_law, idle_law}
 use Rattle.df_pace.proofs.Sessions.{session_law}
-use Rattle.df_pace.proofs.laws.a_paced_script_is_a_session.Goals as goal
+use Rattle.df_pace.proofs.beside.a_paced_script_is_a_session.Goals as goal
 
 pub returns-clause-idle : goal.returns-clause-idle
 returns-clause-idle c = idle_law
