@@ -7,7 +7,9 @@ ghost use Rattle.df_recovery.specs.Finding.{Answers, FileIsRead, IsDamage, KeptI
 ghost use Rattle.df_recovery.specs.Starting.{start_of};
 
 use crate::{Found, OpenError};
-use df_journal::{SlotTable, Tail, count_rings, find_tail, is_behind, is_lost, ring_top, slot_behind};
+use df_journal::{
+    SlotTable, Tail, count_rings, find_tail, is_behind, is_lost, ring_top, slot_behind,
+};
 use df_layout::{Class, Layout, Place, Zone};
 use df_replies::{Lacking, ReplyTable};
 use df_sessions::SessionTable;

@@ -42,8 +42,7 @@ answers_shown boot image c k s (Ok h) own names (q, is, same) = (
   λ there.
       let both : Some (ReplyUnit there.0) ≡ Some (ReplyUnit q) = sym there.1 ∙ is in
       let one : there.0 ≡ q = cc in
-      let header : there.0.header ≡ header_of h = ap (λ (m : Message). m.header) one ∙ same in
-      (
+      let header : there.0.header ≡ header_of h = ap (λ (m : Message). m.header) one ∙ same in (
         record { client = sym (ap (λ (x : Units.Header). x.client) header) ∙ there.2.client; request = sym (ap (λ (x : Units.Header). x.request) header) ∙ there.2.request; op = sym (ap (λ (x : Units.Header). x.op) header) ∙ there.2.op },
         sym (ap (λ (x : Units.Header). x.boot) header) ∙ there.3.new (omega (arith, names.answered)) ∙ own,
       ),

@@ -10,13 +10,7 @@ pub(crate) fn op_in(seen: &Result<Header, Class>, boot: u64) -> u64
     ensures { result ≡ op_in boot seen.now }
 {
     match seen {
-        Ok(header) => {
-            if header.boot == boot {
-                header.op
-            } else {
-                0
-            }
-        }
+        Ok(header) => { if header.boot == boot { header.op } else { 0 } }
         Err(_) => 0,
     }
 }
@@ -25,13 +19,7 @@ fn mark_in(seen: &Result<Header, Class>, boot: u64) -> u64
     ensures { result ≡ mark_in boot seen.now }
 {
     match seen {
-        Ok(header) => {
-            if header.boot == boot {
-                header.mark
-            } else {
-                0
-            }
-        }
+        Ok(header) => { if header.boot == boot { header.mark } else { 0 } }
         Err(_) => 0,
     }
 }

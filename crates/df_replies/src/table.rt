@@ -99,12 +99,7 @@ impl ReplyTable {
 
     /// The first session, by place, whose op is at most `stored` and whose slot doesn't show the reply of this boot to its last
     /// request.
-    pub fn first_lacking(
-        &self,
-        sessions: &SessionTable,
-        stored: u64,
-        boot: u64,
-    ) -> Option<Lacking>
+    pub fn first_lacking(&self, sessions: &SessionTable, stored: u64, boot: u64) -> Option<Lacking>
         requires { sessions.now.max ≡ length self.now }
         ensures lacks { (image : Units) (c : Content) → ShowsReplies image self.now → c.boot ≡ boot → NamesNone c → Lacks image c sessions.now.sessions stored result }
         ensures class { IfSome result (HasClass self.now) }

@@ -86,11 +86,11 @@ named_words f (inl first) fits named =
     )
 named_words f (inr second) fits named = (
   spelled_number f.head_checksum fits.head_checksum
-  ∙ ap (λ (check : List ℕ). spelled 16 (number_of check)) (sym (by_second f f.head_checksum f.op_checksum second))
-  ∙ sym (by_second f (spelled 16 (number_of (pin_checksum_of f))) no_checksum second),
+      ∙ ap (λ (check : List ℕ). spelled 16 (number_of check)) (sym (by_second f f.head_checksum f.op_checksum second))
+      ∙ sym (by_second f (spelled 16 (number_of (pin_checksum_of f))) no_checksum second),
   spelled_numbers f.reply_checksums fits.reply_checksums.each
-  ∙ ap (λ (numbers : List ℕ). map (spelled 16) numbers) (sym (by_second f (map number_of f.reply_checksums) [] second))
-  ∙ sym (by_second f (map (spelled 16) (reply_checksums_of f)) no_checksums second),
+      ∙ ap (λ (numbers : List ℕ). map (spelled 16) numbers) (sym (by_second f (map number_of f.reply_checksums) [] second))
+      ∙ sym (by_second f (map (spelled 16) (reply_checksums_of f)) no_checksums second),
 )
 
 -- ---- units of the file

@@ -59,9 +59,11 @@ fn is_refused(alloc: Global, sector: u64, is_second: bool, is_prepare: bool) -> 
 #[test]
 fn a_unit_of_a_later_boot_refuses_the_file(rt: HostRuntime) -> Result<(), Fail> {
     // The header ring begins at sector 4, the ring of prepares at 6 with two sectors a slot, and the reply slots at 70.
-    for (sector, is_second, is_prepare) in
-        [(4u64, true, true), (8, false, true), (70, false, false)]
-    {
+    for (sector, is_second, is_prepare) in [
+        (4u64, true, true),
+        (8, false, true),
+        (70, false, false),
+    ] {
         assert!(rt;
             is_refused(rt.alloc(), sector, is_second, is_prepare)?,
             "sector {sector}"

@@ -91,11 +91,21 @@ fn each_superblock_that_cannot_be_used_is_refused(rt: HostRuntime) -> Result<(),
         ),
         // Of two contents of one sequence that of the later boot is chosen, whatever its version.
         (
-            [copy(0, &[]), copy(1, &[]), changed(2, 152, 7), changed(3, 152, 7)],
+            [
+                copy(0, &[]),
+                copy(1, &[]),
+                changed(2, 152, 7),
+                changed(3, 152, 7),
+            ],
             bad_field(Field::Boot, 7),
         ),
         (
-            [copy(0, &[]), copy(1, &[]), copy(2, &STRANGE), copy(3, &STRANGE)],
+            [
+                copy(0, &[]),
+                copy(1, &[]),
+                copy(2, &STRANGE),
+                copy(3, &STRANGE),
+            ],
             Err(OpenError::Version { found: 9 }),
         ),
     ];

@@ -6,7 +6,8 @@ use std::alloc::Global;
 use std::test::Fail;
 
 // What the file is behind two hundred requests, with a checkpoint at each twentieth.
-const SUMMARY: &str = "cluster 7\nlayout 32 8192 4 16384 64\nsequence 11\ncheckpoint 200\nhead 200\nreplies 200\nsessions 4\nreferences 0\n";
+const SUMMARY: &str =
+    "cluster 7\nlayout 32 8192 4 16384 64\nsequence 11\ncheckpoint 200\nhead 200\nreplies 200\nsessions 4\nreferences 0\n";
 
 // So many requests of four clients in turn, each with its reply, of one byte each.
 fn requests(alloc: Global, count: u64) -> Result<Vec<u8>, Fail> {

@@ -92,7 +92,11 @@ fn paced_takes_three_numbers(rt: HostRuntime) -> Result<(), AllocError> {
             steps,
         };
         let words = words_of(rt.alloc(), &["paced", one, two, three])?;
-        assert_eq!(rt; mode_of(&words), Some(Mode::Paced { pace }), "{one} {two} {three}");
+        assert_eq!(rt;
+            mode_of(&words),
+            Some(Mode::Paced { pace }),
+            "{one} {two} {three}"
+        );
     }
     for texts in [
         ["paced"].as_slice(),
