@@ -1,5 +1,5 @@
 -- The notes that were printed by the time a loop comes to an op.
-use Rattle.std.proofs.Common.{◌≡◌, ℕ, ◌+◌, ◌-◌, ◌≤◌, List, Option, sym, subst, arith}
+use Rattle.std.proofs.Common.{◌≡◌, ℕ, ◌+◌, ◌-◌, ◌≤◌, List, Option, subst, arith}
 use Rattle.df_disk.specs.Told.{Told}
 use Rattle.df_replica.specs.Below.{State}
 use Rattle.df_notes.specs.Showing.{AreShown, Begun, IsShown, Shown}

@@ -1,5 +1,5 @@
 -- Kept notes are acts that were served, one append and one reply each.
-use Rattle.std.proofs.Common.{◌≡◌, ℕ, true, List, [], ◌∷◌, ◌++◌, append_assoc, append-nil, Option, refl, sym, ◌∙◌, ap, Result, Ok}
+use Rattle.std.proofs.Common.{◌≡◌, ℕ, true, List, [], ◌∷◌, ◌++◌, append_assoc, append-nil, refl, sym, ◌∙◌, ap, Ok}
 use Rattle.df_base.specs.Log.{Event}
 use Rattle.df_model.specs.Commands.{Answer, Append, ForAppend, ForReply, Reply}
 use Rattle.df_units.specs.Meaning.{number_of}
@@ -8,7 +8,7 @@ use Rattle.df_replica.specs.Appending.{next_unit}
 use Rattle.df_replica.specs.Replying.{next_reply}
 use Rattle.df_replica.specs.Session.{Act, IsServed}
 use Rattle.df_replica.proofs.Laws.{answered_is_there, nothing_is_served, one_more_is_served}
-use Rattle.df_notes.specs.Keeping.{AreKept, Begun, IsKept, Kept, Moment}
+use Rattle.df_notes.specs.Keeping.{AreKept, Begun, Kept, Moment}
 use Rattle.df_notes.specs.Staying.{AreThere, note_in, notes_in}
 
 -- the notes of acts behind others

@@ -1,14 +1,13 @@
 -- The notes before one that a loop has come to are kept; one more is, or isn't, or there is none.
-use Rattle.std.proofs.Common.{◌≡◌, ℕ, ◌+◌, ◌<◌, ◌≤◌, suc, List, [], ◌∷◌, ◌++◌, length, get_or, map, take, drop, Option, refl, sym, ◌∙◌, ap, subst, Result, Ok, Err}
+use Rattle.std.proofs.Common.{◌≡◌, ℕ, ◌+◌, ◌<◌, ◌≤◌, suc, List, [], ◌∷◌, length, get_or, map, take, drop, Option, refl, sym, ◌∙◌, ap, subst, Result, Ok, Err}
 use Rattle.std.proofs.lemmas.List.{append-nil, map-append, take_all, take_more}
 use Rattle.std.proofs.lemmas.Result.{err_from_is_err_and}
 use Rattle.std.proofs.Math.Seq.{split_at}
 use Rattle.std.specs.Result.{IsErr, IsErrAnd}
-use Rattle.df_base.specs.Streams.{AppendsPart}
 use Rattle.df_disk.specs.Told.{Told}
 use Rattle.df_model.specs.declared.answers.Receipt.{Receipt}
 use Rattle.df_replica.specs.Below.{State}
-use Rattle.df_notes.specs.Keeping.{AppendsNote, AreKept, Begun, Fails, InReply, IsKept, Kept, KeepsNote, KeepsNotes, Moment, StoresReply}
+use Rattle.df_notes.specs.Keeping.{AppendsNote, AreKept, Fails, InReply, IsKept, Kept, KeepsNote, KeepsNotes, Moment, StoresReply}
 use Rattle.df_notes.specs.declared.ended.Ended.{Ended}
 
 -- an error that is handed on

@@ -1,15 +1,10 @@
 -- What the superblock says that ends a checkpoint obeys the rules.
-use Rattle.std.proofs.Common.{inl, ◌≡◌, ◌∙◌, ℕ, ◌≤◌, List, [], ◌∷◌, Some, None, refl, sym, ap, arith}
-use Rattle.std.proofs.lemmas.List.{take_all}
+use Rattle.std.proofs.Common.{inl, ◌≡◌, ℕ, ◌≤◌, List, [], ◌∷◌, Some, None, refl, sym, ap, arith}
 use Rattle.std.proofs.lemmas.Option.{same_Some}
-use Rattle.df_base.specs.Fields.{spelled}
-use Rattle.df_base.proofs.Laws.{spelled-field_at}
 use Rattle.df_format.proofs.Laws.{faults, no_names}
-use Rattle.df_format.specs.Spelling.{IsCheck}
 use Rattle.df_format.specs.SuperRules.{IsSuper, fault_of}
 use Rattle.df_grid.specs.Table.{last_of}
 use Rattle.df_grid.specs.Writes.{first_address, first_sum}
-use Rattle.df_units.specs.Meaning.{number_of}
 use Rattle.df_opening.specs.Below.{RunningState, IsRunning, IsState, State}
 use Rattle.df_replica.specs.Stepping.{next_fields}
 

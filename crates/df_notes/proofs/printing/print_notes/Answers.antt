@@ -1,5 +1,5 @@
 -- A turn prints one note more.
-use Rattle.std.proofs.Common.{◌≡◌, ℕ, ◌+◌, Option, refl, ap, ◌∙◌, subst, arith}
+use Rattle.std.proofs.Common.{◌+◌, Option, refl, ap, ◌∙◌, subst, arith}
 use Rattle.df_disk.specs.Told.{Told}
 use Rattle.df_replica.specs.Below.{State}
 use Rattle.df_model.specs.declared.answers.Summary.{Summary}

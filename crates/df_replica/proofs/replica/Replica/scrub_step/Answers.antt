@@ -1,5 +1,5 @@
 -- The scrubber's step over the grid is the machine's.
-use Rattle.std.proofs.Common.{◌≡◌, true, refl, sym, ap, subst}
+use Rattle.std.proofs.Common.{◌≡◌, true, sym, ap, subst}
 use Rattle.std.specs.Prelude.{Ok}
 use Rattle.df_grid.specs.Grid.{GridState}
 use Rattle.df_opening.specs.Below.{IsMachines, State, state_in}
