@@ -34,13 +34,13 @@ use Rattle.df_headers.proofs.Laws.{sector_at, sector_has}
 use Rattle.df_superblock.specs.Steps.{repaired}
 use Rattle.df_journal.specs.declared.table.Start.{Start}
 use Rattle.df_journal.specs.Shows.{Tells}
-use Rattle.df_recovery.specs.Below.{DataFile, shape}
+use Rattle.df_damage.specs.Below.{DataFile, shape}
 use Rattle.df_opening.specs.Mending.{IsPlanned, PlannedMayMend, RestsOnDisk, lies_in, needs_sector, sector_put, sector_puts, sectors_of, sectors_to}
-use Rattle.df_recovery.specs.Plan.{AreDistinct, IsScanOf, copy_mends, header_or_none, headers_in, if_wanted, needs_header, shown_class, slot_mend, slot_mends}
+use Rattle.df_damage.specs.Plan.{AreDistinct, IsScanOf, copy_mends, header_or_none, headers_in, if_wanted, needs_header, shown_class, slot_mend, slot_mends}
 use Rattle.df_opening.specs.Keeping.{Grade, format}
 use Rattle.df_opening.proofs.Followed.{in_pools}
 use Rattle.df_opening.proofs.MendEvents.{sectors_more}
-use Rattle.df_recovery.proofs.Laws.{slot_mends_more, super_is_written, written_is}
+use Rattle.df_damage.proofs.Laws.{slot_mends_more, super_is_written, written_is}
 
 -- ---- copies
 

@@ -42,13 +42,13 @@ use Rattle.df_opening.proofs.Fronts.{Front, front_of}
 use Rattle.df_opening.proofs.StepShows.{stays_firm, unit_after, unwritten}
 use Rattle.df_opening.specs.Sparing.{AreSettled}
 use Rattle.df_superblock.specs.Steps.{repaired}
-use Rattle.df_recovery.specs.Below.{DataFile, Represents, State, shape, spelling}
+use Rattle.df_damage.specs.Below.{DataFile, Represents, State, shape, spelling}
 use Rattle.df_layout.specs.declared.layout.Layout.{Layout}
 use Rattle.df_opening.specs.Surveying.{TellsSurvey}
 use Rattle.df_opening.specs.Following.{MayOpen}
 use Rattle.df_opening.specs.Mending.{IsMended, IsPlanned, live_state, mending_events, mending_steps, sector_puts, sectors_of}
 use Rattle.df_opening.specs.Keeping.{Firm, Grade, IsGoodFor, IsKept, Keeps, KeptFor, StandingFor, Whole, format}
-use Rattle.df_recovery.specs.Surveys.{IsOpened}
+use Rattle.df_damage.specs.Surveys.{IsOpened}
 
 -- ---- no step of a mending puts a prepare
 

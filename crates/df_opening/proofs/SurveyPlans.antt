@@ -11,15 +11,15 @@ use Rattle.df_quorum.specs.Quorum.{AreMembers}
 use Rattle.df_units.specs.Bytes.{unit_at}
 use Rattle.df_journal.specs.Shows.{IsTable as AreSlots, Tells}
 use Rattle.df_journal.specs.declared.table.Start.{Start}
-use Rattle.df_recovery.specs.Starting.{start_of}
-use Rattle.df_recovery.proofs.Laws.{version_one}
+use Rattle.df_damage.specs.Starting.{start_of}
+use Rattle.df_damage.proofs.Laws.{version_one}
 use Rattle.df_journal.proofs.Laws.{scanned_shown}
-use Rattle.df_recovery.specs.Found.{IsFound}
-use Rattle.df_recovery.specs.Opening.{fault_asked}
-use Rattle.df_recovery.specs.Scanning.{IsReadBehind, IsScan, TellsRead}
-use Rattle.df_recovery.specs.Surveys.{IsOpened}
-use Rattle.df_recovery.specs.declared.scanned.Scanned.{Scanned}
-use Rattle.df_recovery.specs.Below.{DataFile, State}
+use Rattle.df_damage.specs.Found.{IsFound}
+use Rattle.df_damage.specs.Opening.{fault_asked}
+use Rattle.df_damage.specs.Scanning.{IsReadBehind, IsScan, TellsRead}
+use Rattle.df_damage.specs.Surveys.{IsOpened}
+use Rattle.df_damage.specs.Types.{Scanned}
+use Rattle.df_damage.specs.Below.{DataFile, State}
 use Rattle.df_opening.specs.Mending.{IsPlanned, IsSettledFrom, live_state}
 use Rattle.df_opening.specs.Survey.{Survey}
 use Rattle.df_opening.specs.Surveying.{IsLawful, TellsSurvey}

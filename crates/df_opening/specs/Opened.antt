@@ -11,8 +11,8 @@ use Rattle.df_theory.specs.View.{View}
 use Rattle.df_units.specs.Bytes.{unit_at}
 use Rattle.df_units.specs.Within.{AreWithin}
 use Rattle.df_model.specs.Work.{Work, kept, opened as first_work}
-use Rattle.df_recovery.specs.Below.{DataFile, State, shape}
-use Rattle.df_recovery.specs.Surveys.{IsOpened}
+use Rattle.df_damage.specs.Below.{DataFile, State, shape}
+use Rattle.df_damage.specs.Surveys.{IsOpened}
 use Rattle.df_opening.specs.Following.{MayOpen}
 use Rattle.df_opening.specs.Sparing.{AreSettled, SparesReads, image_after}
 use Rattle.df_opening.specs.Mending.{IsMended}

@@ -15,12 +15,13 @@ use Rattle.df_quorum.specs.Quorum.{AreMembers, IsChosen}
 use Rattle.df_quorum.proofs.Laws.{one_law}
 use Rattle.df_sessions.specs.Requests.{sessions_of}
 use Rattle.df_theory.specs.Units
+use Rattle.df_theory.specs.Units.{AnyUnit, CopyPlace, CopyUnit}
 use Rattle.df_theory.specs.Opens.{IsLowest, IsReadable}
 use Rattle.df_theory.specs.Trailer.{IsReference}
 use Rattle.df_theory.specs.View.{PassesTests}
 use Rattle.df_units.specs.Bytes.{copy_unit, unit_at}
 use Rattle.df_units.specs.Meaning.{content_of, layout_of}
-use Rattle.df_units.specs.Superblocks.{AreFieldsOf}
+use Rattle.df_units.specs.Superblocks.{AreFieldsOf, HasChecks}
 use Rattle.df_units.proofs.Laws.{choice_chosen, first_usable_passes, one_content, shown_checks, copy_parts, unbooted_alone}
 use Rattle.df_journal.specs.Shows.{Tells}
 use Rattle.df_journal.proofs.Laws.{scanned_shown as slots_shown}

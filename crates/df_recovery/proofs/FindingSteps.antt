@@ -1,13 +1,16 @@
 -- Each step of what an open finds is the theory's.
-use Rattle.std.proofs.Common.{◌≡◌, ◌↔◌, ℕ, ◌+◌, ◌≤◌, List, [], length, refl, sym, ◌∙◌, ap, subst, arith}
+use Rattle.std.proofs.Common.{◌≡◌, ◌↔◌, ℕ, ◌+◌, ◌≤◌, List, [], length, Some, refl, sym, ◌∙◌, ap, subst, arith}
+use Rattle.std.specs.Prelude.{Result}
 use Rattle.std.specs.List.{slice_get}
+use Rattle.df_layout.specs.declared.damage.Class.{Class}
 use Rattle.df_format.specs.Copies.{content_with}
+use Rattle.df_format.specs.declared.header.Header.{Header}
 use Rattle.df_format.specs.declared.superblock.SuperFields.{SuperFields}
 use Rattle.df_sessions.specs.declared.session.Session.{Session}
 use Rattle.df_sessions.specs.Requests.{sessions_of}
 use Rattle.df_stamps.specs.declared.counters.Counters.{Counters}
 use Rattle.df_theory.specs.Units
-use Rattle.df_theory.specs.Units.{Content, CopyPlace, PreparePlace, ReplyPlace}
+use Rattle.df_theory.specs.Units.{Content, CopyPlace, Message, PreparePlace, ReplyPlace}
 use Rattle.df_theory.specs.Found
 use Rattle.df_theory.specs.Found.{IsReplies, NotBehind, NotLost}
 use Rattle.df_theory.specs.Opens.{Behind, Damaged as Damages, LacksReply, Lost, Opens, ReachesReplies, ReachesTail, Refused, Unanswered}
@@ -20,6 +23,7 @@ use Rattle.df_journal.specs.declared.table.Start.{Start}
 use Rattle.df_journal.specs.Tail.{FindsTail, StartsAt}
 use Rattle.df_journal.specs.declared.tail.Tail.{Tail}
 use Rattle.df_replies.specs.Answers.{AllAnswered, NamesNone, StoredAreFound, stored_by}
+use Rattle.df_replies.specs.Shown.{ShowsReplies}
 use Rattle.df_recovery.specs.Finding.{FindsView, IsReadFrom, Read, lowest_of}
 use Rattle.df_recovery.specs.Starting.{start_of}
 

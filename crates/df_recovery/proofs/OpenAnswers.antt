@@ -21,6 +21,7 @@ use Rattle.df_rooms.specs.State.{State, shape}
 use Rattle.df_recovery.specs.declared.finding.Traces.{Traces}
 use Rattle.df_disk.specs.Told.{Told}
 use Rattle.df_recovery.specs.Surveys.{HasFile, Surveys, class_there}
+use Rattle.df_rooms.specs.declared.file.DataFile.{DataFile}
 use Rattle.df_recovery.proofs.KeptReplies.{stored_kept}
 use Rattle.df_recovery.proofs.FilesRead.{file_is_read}
 use Rattle.df_recovery.proofs.OpenedStates.{state_is_opened}

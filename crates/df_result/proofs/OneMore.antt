@@ -10,8 +10,7 @@ use Rattle.df_model.specs.Commands.{Advance, Answer, Append, Begin, Command, Giv
 use Rattle.df_model.specs.Memory.{Memory, memory_of}
 use Rattle.df_model.specs.Supply.{Shown, checksum_given, next as over, puts_of, shown_after}
 use Rattle.df_model.specs.Work.{Work}
-use Rattle.df_rooms.specs.State.{course_in}
-use Rattle.df_replica.specs.Below.{RunningState, DataFile, State, memory, shape, spelling, told_after}
+use Rattle.df_replica.specs.Below.{RunningState, DataFile, State, course_in, memory, shape, spelling, told_after}
 use Rattle.df_replica.specs.Leaving.{IsReadPlace, LeavesShown, image_after}
 use Rattle.df_replica.specs.Reading.{shown_of}
 use Rattle.df_replica.specs.Serving.{Firm, IsCall, Keeps, next}

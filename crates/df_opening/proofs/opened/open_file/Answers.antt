@@ -10,7 +10,7 @@ use Rattle.df_damage.proofs.Laws.{added_is_told}
 use Rattle.df_units.proofs.Laws.{steps_within}
 use Rattle.df_units.specs.Bytes.{unit_at}
 use Rattle.df_model.specs.Work.{opened}
-use Rattle.df_recovery.specs.Below.{state_in, State, shape}
+use Rattle.df_damage.specs.Below.{state_in, State, shape}
 use Rattle.df_opening.specs.Mending.{live_state, mending_events, mending_steps}
 use Rattle.df_opening.specs.Opened.{MendsAll}
 use Rattle.df_opening.specs.Keeping.{IsGoodFor, StandsFor, format}

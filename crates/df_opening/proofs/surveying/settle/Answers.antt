@@ -1,6 +1,6 @@
 -- What is found of a file that was read is the answer to an open.
 use Rattle.std.proofs.Common.{◌∙◌, subst, sym}
-use Rattle.df_recovery.specs.Below.{AreAsked}
+use Rattle.df_damage.specs.Below.{AreAsked}
 use Rattle.df_theory.specs.Sessions.{Tracks}
 use Rattle.df_opening.specs.Survey.{survey_in}
 use Rattle.df_opening.proofs.SurveyPlans.{numbered_by}

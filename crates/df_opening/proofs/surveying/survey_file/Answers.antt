@@ -3,7 +3,7 @@ use Rattle.std.proofs.Common.{◌≡◌, ◌∙◌, ap}
 use Rattle.df_opening.specs.Mending.{IsPlanned, IsSettledFrom}
 use Rattle.df_opening.specs.Survey.{Survey, survey_of}
 use Rattle.df_opening.specs.Surveying.{state_of}
-use Rattle.df_recovery.specs.Below.{DataFile}
+use Rattle.df_damage.specs.Below.{DataFile}
 use Rattle.df_opening.proofs.Hurts.{read_hurt, tells_hurt}
 use Rattle.df_opening.proofs.Listed.{told_answer, told_mends}
 use Rattle.df_opening.proofs.SurveyPlans.{if_ok_more, lawful, survey_planned}

@@ -1,7 +1,7 @@
 -- The parts make sense by themselves: what was found is in its ranges, and the table is one of the file.
 use Rattle.std.proofs.Common.{◌≡◌, ◌-◌, ◌∙◌, ℕ, ap, refl, sym, arith, length, ◌<◌, ◌^◌, subst}
 use Rattle.df_format.specs.SuperRules.{IsUsable}
-use Rattle.df_recovery.proofs.Laws.{plain_super, waiting_count}
+use Rattle.df_damage.proofs.Laws.{plain_super, waiting_count}
 use Rattle.df_opening.proofs.surveying.surveyed.Goals as goal
 
 pub returns-clause-found : goal.returns-clause-found
