@@ -44,7 +44,9 @@ use Rattle.df_opening.specs.Sparing.{AreSettled}
 use Rattle.df_superblock.specs.Steps.{repaired}
 use Rattle.df_damage.specs.Below.{DataFile, Represents, State, shape, spelling}
 use Rattle.df_layout.specs.declared.layout.Layout.{Layout}
-use Rattle.df_opening.specs.Surveying.{TellsSurvey}
+use Rattle.df_opening.specs.Opened.{AreMending}
+use Rattle.df_opening.specs.Survey.{Survey}
+use Rattle.df_opening.specs.Surveying.{IsMendable, TellsMends, TellsSurvey, mends_of}
 use Rattle.df_opening.specs.Following.{MayOpen}
 use Rattle.df_opening.specs.Mending.{IsMended, IsPlanned, live_state, mending_events, mending_steps, sector_puts, sectors_of}
 use Rattle.df_opening.specs.Keeping.{Firm, Grade, IsGoodFor, IsKept, Keeps, KeptFor, StandingFor, Whole, format}
@@ -227,6 +229,24 @@ found_keeps s image view whole is found =
 -- a state is kept as a live one
 pub live_kept : (g : Grade) (s : State) (w : Work) (log : Log.Log) → IsKept g s w log → IsKept g (live_state s) w log
 live_kept g s w log is = record { log_is = is.log_is; stands = is.stands; kept_by = is.kept_by; ring = is.ring }
+
+-- ---- which device calls a mending is
+
+-- what a survey lists is what is to be mended of the image
+pub own_mending : (layout : Layout) (told : Option Told) (t : Told) (s : Survey) → told ≡ Some t → s.state.file.layout ≡ layout → TellsMends layout told s → IsImage t.shown
+    → AreMending t s.state (mending_events s.state.file.layout s.state.headers s.mends s.state.fields s.chosen.members)
+own_mending layout told t s is of tells whole =
+    let may : IsMendable layout t.shown s = (subst (λ (o : Option Told). TellsMends layout o s) is tells) whole in
+    record {
+      chosen = s.chosen;
+      choice = may.choice;
+      are =
+          ap (λ (list : List Mend). mending_events s.state.file.layout s.state.headers list s.state.fields s.chosen.members)
+          (may.mends ∙ ap (λ (l : Layout). mends_of l t.shown s.state.fields s.chosen.members) (sym of));
+    }
+
+pub live_mending : (t : Told) (s : State) (events : List Event) → AreMending t s events → AreMending t (live_state s) events
+live_mending t s events own = record { chosen = own.chosen; choice = own.choice; are = own.are }
 
 -- ---- where the disk failed
 
