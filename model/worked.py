@@ -1,6 +1,12 @@
-"""Works out the checksums of the examples in docs/FORMAT.md from their fields alone: python3 model/worked.py."""
+"""Works out the checksums of the examples in docs/FORMAT.md from their fields alone: python3 model/worked.py.
+
+With a page, python3 model/worked.py docs/FORMAT.md, its status is 0 where the page has these checksums and no other ones.
+"""
 
 import hashlib
+import pathlib
+import re
+import sys
 
 NO_BYTES = b""
 
@@ -47,21 +53,60 @@ def units(version, boot):
     }
 
 
-def main():
-    for version, boot in ((1, 0), (2, 1)):
-        print("version", version, "boot", boot)
-        for name, unit in units(version, boot).items():
-            print("   ", unit[:16].hex(), name)
-    print("first superblock, version 1:", first_copy(2)[:16].hex())
-    print("first superblock, version 2:", first_copy(2, version=2)[:16].hex())
+def acknowledged():
+    """What a file has behind two appends and the reply to the first, in version 1."""
+    first = units(1, 0)["prepare"]
+    own = [(64, 16, 5), (80, 8, 2), (88, 8, 2), (96, 8, 1), (104, 8, 1), (116, 4, 2)]
+    return {
+        "reserved header of slot 0": header(1),
+        "prepare of op 2 with body 0102": header(2, (48, first[:16]), *own, body=b"\x01\x02"),
+        "reply to op 1 with body aa": header(3, (48, first[:16]), (64, 16, 5), (80, 8, 1), (88, 8, 1), (96, 8, 1), (104, 8, 1), body=b"\xaa"),
+    }
+
+
+def booted():
+    """What boot 1 appended and stored in version 2, and the superblock of the boot behind it."""
     prepare = units(2, 1)["prepare"]
     reply = header(3, (48, prepare[:16]), (64, 16, 5), (80, 8, 1), (88, 8, 1), (96, 8, 1), (104, 8, 1), body=b"\xaa", version=2, boot=1)
     named = [(88, 8, 1), (96, 8, 1), (152, 8, 2), (160, prepare[:16]), (192, reply[:16])]
-    print("stored reply with body aa, boot 1:", reply[:16].hex())
-    print("superblock of boot 2 over op 1 and its reply:", first_copy(2, *named, version=2)[:16].hex())
-    pair = header(2, (64, 16, 5), (80, 8, 1), (88, 8, 1), (104, 8, 1), (116, 4, 1), (132, 8, 1), (140, 8, 2), version=2, boot=1)
-    print("the prepare as the first of a group of two, boot 1:", pair[:16].hex())
+    own = [(64, 16, 5), (80, 8, 1), (88, 8, 1), (104, 8, 1), (116, 4, 1)]
+    return {
+        "stored reply with body aa": reply,
+        "superblock of boot 2 over op 1 and its reply": first_copy(2, *named, version=2),
+        "the prepare as the first of a group of two": header(2, *own, (132, 8, 1), (140, 8, 2), version=2, boot=1),
+    }
+
+
+def examples():
+    """All examples, by what they belong to."""
+    firsts = {f"of version {version}": first_copy(2, version=version) for version in (1, 2)}
+    return {
+        "version 1, boot 0": units(1, 0),
+        "version 2, boot 1": units(2, 1),
+        "first superblock": firsts,
+        "two acknowledged ops": acknowledged(),
+        "boot 1, and the open behind it": booted(),
+    }
+
+
+def missing(page):
+    """What a page lacks of the checksums here, that of no bytes and that of the body aa, and what it has besides."""
+    have = set(re.findall(r"\b[0-9a-f]{32}\b", pathlib.Path(page).read_text()))
+    worked = {unit[:16].hex() for group in examples().values() for unit in group.values()}
+    worked |= {check(NO_BYTES).hex(), check(b"\xaa").hex()}
+    return sorted(have ^ worked)
+
+
+def main():
+    for group, made in examples().items():
+        print(group)
+        for name, unit in made.items():
+            print("   ", unit[:16].hex(), name)
+    differing = [it for page in sys.argv[1:] for it in missing(page)]
+    for it in differing:
+        print("on one side only:", it)
+    return 1 if differing else 0
 
 
 if __name__ == "__main__":
-    main()
+    sys.exit(main())

@@ -93,7 +93,7 @@ const YES: bool = true;
 const NO: bool = false;
 
 // What stands at the four places, the content that is chosen, and which of the copies are its own.
-const CHOSEN: [(&'static str, [Shown; 4], Content, [bool; 4]); 12] = [
+const CHOSEN: [(&'static str, [Shown; 4], Content, [bool; 4]); 14] = [
     (
         "four equal copies",
         [
@@ -165,6 +165,23 @@ const CHOSEN: [(&'static str, [Shown; 4], Content, [bool; 4]); 12] = [
         ],
         Content::Booted,
         [NO, NO, YES, YES],
+    ),
+    (
+        "the first two of a later boot",
+        [
+            Shown::Booted(0),
+            Shown::Booted(1),
+            Shown::Early(2),
+            Shown::Early(3),
+        ],
+        Content::Booted,
+        [YES, YES, NO, NO],
+    ),
+    (
+        "a single one of a later boot",
+        [Shown::Booted(0), Shown::Early(1), Shown::Early(2), BLANK],
+        Content::Early,
+        [NO, YES, YES, NO],
     ),
     (
         "a later sequence and a later boot",
@@ -242,7 +259,7 @@ const OTHER: Class = Class::Elsewhere(Place {
 
 const STALE: Class = Class::Stale;
 
-const SPLIT: [(&'static str, [Shown; 4], [Class; 4]); 5] = [
+const SPLIT: [(&'static str, [Shown; 4], [Class; 4]); 6] = [
     (
         "three contents, and one that is early too, but for its checksum",
         [
@@ -250,6 +267,16 @@ const SPLIT: [(&'static str, [Shown; 4], [Class; 4]); 5] = [
             Shown::Later(1),
             Shown::Twin(2),
             Shown::Summed(3, 8),
+        ],
+        [STALE; 4],
+    ),
+    (
+        "four contents, two of them of a later boot",
+        [
+            Shown::Booted(0),
+            Shown::Strange(1),
+            Shown::Early(2),
+            Shown::Twin(3),
         ],
         [STALE; 4],
     ),

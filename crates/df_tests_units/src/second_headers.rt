@@ -5,10 +5,10 @@ use df_base::check;
 use df_format::{Header, decode_header};
 
 // A byte that is put over one of an example's.
-type Put = (usize, u8);
+pub(crate) type Put = (usize, u8);
 
 // The example with these bytes and the checksum made right again.
-fn made(front: &[u8; 124], puts: &[Put]) -> [u8; 256] {
+pub(crate) fn made(front: &[u8; 124], puts: &[Put]) -> [u8; 256] {
     let mut bytes = spelled(front);
     for (at, byte) in puts {
         if *at < bytes.len() {
@@ -23,7 +23,7 @@ fn made(front: &[u8; 124], puts: &[Put]) -> [u8; 256] {
 // An example, bytes that are put over it, and whether that is a header still.
 type Row = (&'static str, [u8; 124], &'static [Put], bool);
 
-const RULES: [Row; 28] = [
+const RULES: [Row; 37] = [
     ("a reserved header", RESERVED, &[(122, 2)], true),
     ("with a boot", RESERVED, &[(122, 2), (124, 1)], false),
     ("with a first op", RESERVED, &[(122, 2), (132, 1)], false),
@@ -95,6 +95,12 @@ const RULES: [Row; 28] = [
         &[(122, 2), (124, 1), (132, 1), (140, 1), (148, 1)],
         false,
     ),
+    (
+        "with a last byte",
+        PREPARE,
+        &[(122, 2), (124, 1), (132, 1), (140, 1), (255, 1)],
+        false,
+    ),
     ("version 1 with a boot", PREPARE, &[(124, 1)], false),
     (
         "version 1 with a group",
@@ -102,14 +108,40 @@ const RULES: [Row; 28] = [
         &[(132, 1), (140, 1)],
         false,
     ),
+    ("version 1 with a last op", PREPARE, &[(140, 1)], false),
+    ("version 0", PREPARE, &[(122, 0)], false),
     (
         "version 3",
         PREPARE,
         &[(122, 3), (124, 1), (132, 1), (140, 1)],
         false,
     ),
+    (
+        "version 258",
+        PREPARE,
+        &[(122, 2), (123, 1), (124, 1), (132, 1), (140, 1)],
+        false,
+    ),
     ("a reply", REPLY, &[(122, 2), (124, 1)], true),
     ("of no boot", REPLY, &[(122, 2)], false),
+    (
+        "of a boot above the greatest",
+        REPLY,
+        &[(122, 2), (124, 1), (131, 0x40)],
+        false,
+    ),
+    (
+        "with a first op",
+        REPLY,
+        &[(122, 2), (124, 1), (132, 1)],
+        false,
+    ),
+    (
+        "with a last op",
+        REPLY,
+        &[(122, 2), (124, 1), (140, 1)],
+        false,
+    ),
     (
         "in a group of two",
         REPLY,
@@ -119,6 +151,12 @@ const RULES: [Row; 28] = [
     ("a block", BLOCK, &[(122, 2), (124, 1)], true),
     ("of no boot", BLOCK, &[(122, 2)], false),
     (
+        "of a boot above the greatest",
+        BLOCK,
+        &[(122, 2), (124, 1), (131, 0x40)],
+        false,
+    ),
+    (
         "in a group",
         BLOCK,
         &[(122, 2), (124, 1), (132, 9), (140, 9)],
@@ -126,6 +164,12 @@ const RULES: [Row; 28] = [
     ),
     ("a trailer block", TRAILER, &[(122, 2), (124, 1)], true),
     ("of no boot", TRAILER, &[(122, 2)], false),
+    (
+        "of a boot above the greatest",
+        TRAILER,
+        &[(122, 2), (124, 1), (131, 0x40)],
+        false,
+    ),
     (
         "in a group",
         TRAILER,

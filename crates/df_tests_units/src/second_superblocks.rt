@@ -1,8 +1,10 @@
 // Superblocks of version 2: their bytes against values from outside, and each of their own tests failing in turn.
 use crate::super_examples::{FIRST, LATER, sealed, written};
 use df_base::Check;
-use df_format::{NO_CHECKSUM, NO_CHECKSUMS, SuperFault, SuperFields, decode_copy, test_fields};
-use df_layout::Field;
+use df_format::{
+    NO_CHECKSUM, NO_CHECKSUMS, SuperFault, SuperFields, decode_copy, decode_own_copy, test_fields,
+};
+use df_layout::{Class, Field, Place, Zone};
 
 // The checksum of the prepare of op 1, of boot 1 and by itself, and that of a reply to it with the body aa.
 const PREPARE: Check = [
@@ -77,8 +79,9 @@ fn tested(fields: &SuperFields, puts: &[(usize, u8)]) -> Option<Result<(), Super
 // Bytes that are put over a superblock, the field that is refused then, and its value.
 type Row = (SuperFields, &'static [(usize, u8)], Field, u128);
 
-const REFUSED: [Row; 12] = [
+const REFUSED: [Row; 14] = [
     (SECOND, &[(159, 0x40)], Field::Boot, (1 << 62) + 3),
+    (SECOND, &[(152, 1), (159, 0x40)], Field::Boot, (1 << 62) + 1),
     (NEW, &[(160, 7)], Field::Head, 7),
     (
         LEVEL,
@@ -100,6 +103,7 @@ const REFUSED: [Row; 12] = [
         0x41 << 56,
     ),
     (NEW, &[(160, 1), (256, 1), (176, 1)], Field::Head, 1),
+    (NEW, &[(256, 1), (176, 1)], Field::Replies, 4),
 ];
 
 #[test]
@@ -114,7 +118,49 @@ fn tests_the_fields_of_version_2(rt: HostRuntime) {
     assert!(rt; tested(&NEW, &[]) == Some(Ok(())));
     assert!(rt; tested(&LEVEL, &[(240, 1)]) == Some(Ok(())));
     assert!(rt; tested(&SECOND, &[(159, 0x3f)]) == Some(Ok(())));
-    assert!(rt; tested(&SECOND, &[(32, 3)]) == Some(Err(SuperFault::Version { found: 3 })));
+    assert!(rt; tested(&SECOND, &[(152, 0), (159, 0x40)]) == Some(Ok(())));
+    // Of a head above the checkpoint's op no checksum is compared with another.
+    let unnamed = SuperFields {
+        head_checksum: NO_CHECKSUM,
+        ..SECOND
+    };
+    assert!(rt; tested(&unnamed, &[]) == Some(Ok(())));
+}
+
+// Numbers of four bytes that are put over the version, and what is found.
+const VERSIONS: [(u8, u8, u32); 3] = [(0, 0, 0), (3, 0, 3), (2, 1, 0x0001_0002)];
+
+#[test]
+fn a_version_that_is_not_known_is_refused_before_any_field(rt: HostRuntime) {
+    for (low, third, found) in &VERSIONS {
+        let refused = SuperFault::Version { found: *found };
+        let puts = [(32, *low), (34, *third), (36, 0), (159, 0x41)];
+        assert!(rt; tested(&SECOND, &puts) == Some(Err(refused)), "{found}");
+    }
+}
+
+#[test]
+fn tells_the_class_of_a_sector_of_version_2(rt: HostRuntime) {
+    let sector = written(&SECOND, 2);
+    let mut other = sector;
+    other[16] = 1;
+    let mut named = sector;
+    named[192] = 1;
+    let place = Place {
+        zone: Zone::Superblock,
+        index: 2,
+    };
+    let cases = [
+        (2, sector, Ok(2)),
+        (1, sector, Err(Class::Elsewhere(place))),
+        // The checksum covers what is named, and not the number.
+        (1, other, Ok(1)),
+        (2, named, Err(Class::Garbled)),
+    ];
+    for (i, (index, bytes, answer)) in cases.iter().enumerate() {
+        let number = decode_own_copy(*index, bytes).map(|copy| copy.number);
+        assert!(rt; number == *answer, "case {i}");
+    }
 }
 
 #[test]
