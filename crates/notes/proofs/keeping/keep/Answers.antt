@@ -1,9 +1,9 @@
 -- A turn keeps one note more, or ends the program.
 use Rattle.std.proofs.Common.{refl, ◌∙◌, ap, arith}
 use Rattle.std.specs.Prelude.{string_bytes}
-use Rattle.df_notes.specs.Keeping.{Begun}
-use Rattle.df_notes.proofs.Steps.{ends, goes_on, handed_on, stops}
-use Rattle.df_notes.proofs.keeping.keep.Goals as goal
+use Rattle.notes.specs.Keeping.{Begun}
+use Rattle.notes.proofs.Steps.{ends, goes_on, handed_on, stops}
+use Rattle.notes.proofs.keeping.keep.Goals as goal
 
 pub loop-note-init : goal.loop-note-init
 loop-note-init g c = record { kept = Begun; live = c.requires.live; disk_faults = refl; sink_faults = refl }

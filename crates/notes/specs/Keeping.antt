@@ -10,9 +10,9 @@ use Rattle.df_model.specs.declared.errors.ReplyError.{ReplyError}
 use Rattle.df_replica.specs.Answering.{Serves, answer_of, as_append, as_reply}
 use Rattle.df_replica.specs.Below.{State}
 use Rattle.df_script_model.specs.Texts.{line_of, numbered}
-use Rattle.df_notes.specs.Ending.{ended_by}
-use Rattle.df_notes.specs.declared.ended.Ended.{Ended}
-use Rattle.df_notes.specs.declared.ended.Ended.TheVariants.{WriteFault}
+use Rattle.notes.specs.Ending.{ended_by}
+use Rattle.notes.specs.declared.ended.Ended.{Ended}
+use Rattle.notes.specs.declared.ended.Ended.TheVariants.{WriteFault}
 
 -- what the program has around it at one moment: the replica, what the disk tells, and what the sink has taken
 pub record Moment : Type 0 where

@@ -2,7 +2,7 @@
 use Rattle.std.proofs.Common.{◌≡◌, ℕ, ◌+◌, ◌-◌, ◌≤◌, List, Option, subst, arith}
 use Rattle.df_disk.specs.Told.{Told}
 use Rattle.df_replica.specs.Below.{State}
-use Rattle.df_notes.specs.Showing.{AreShown, Begun, IsShown, Shown}
+use Rattle.notes.specs.Showing.{AreShown, Begun, IsShown, Shown}
 
 module _ (s : State) (told : Option Told) (old : Option (List ℕ)) where
   pub shows_none : (before : ℕ) → before ≡ s.fields.op → AreShown s told old (before - s.fields.op) old

@@ -1,8 +1,8 @@
 -- The notes gone over are kept, and nothing has failed.
 use Rattle.std.proofs.Common.{◌≡◌, true, take, map}
 use Rattle.std.specs.Prelude.{string_bytes}
-use Rattle.df_notes.specs.Keeping.{AreKept}
-use Rattle.df_notes.proofs.keeping.keep.Given as goal
+use Rattle.notes.specs.Keeping.{AreKept}
+use Rattle.notes.proofs.keeping.keep.Given as goal
 
 abbrev pub invariant-loop-note : goal.invariant-loop-note
 invariant-loop-note g l = record {

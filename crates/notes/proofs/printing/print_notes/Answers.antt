@@ -3,9 +3,9 @@ use Rattle.std.proofs.Common.{◌+◌, Option, refl, ap, ◌∙◌, subst, arith
 use Rattle.df_disk.specs.Told.{Told}
 use Rattle.df_replica.specs.Below.{State}
 use Rattle.df_model.specs.declared.answers.Summary.{Summary}
-use Rattle.df_notes.specs.Showing.{IsShown}
-use Rattle.df_notes.proofs.Shows.{shows_more, shows_none}
-use Rattle.df_notes.proofs.printing.print_notes.Goals as goal
+use Rattle.notes.specs.Showing.{IsShown}
+use Rattle.notes.proofs.Shows.{shows_more, shows_none}
+use Rattle.notes.proofs.printing.print_notes.Goals as goal
 
 pub loop-before-init : goal.loop-before-init
 loop-before-init g c = record {

@@ -1,7 +1,7 @@
 -- Why the program ends, and which object is to blame.
 use Rattle.std.specs.Prelude.{ℕ, Bool, true, false}
-use Rattle.df_notes.specs.declared.ended.Ended.{Ended}
-use Rattle.df_notes.specs.declared.ended.Ended.TheVariants.{Refused, DiskFault, ReadFault, WriteFault, Memory}
+use Rattle.notes.specs.declared.ended.Ended.{Ended}
+use Rattle.notes.specs.declared.ended.Ended.TheVariants.{Refused, DiskFault, ReadFault, WriteFault, Memory}
 
 -- the status of the exit
 abbrev pub number_of : Ended → ℕ

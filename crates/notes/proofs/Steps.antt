@@ -7,8 +7,8 @@ use Rattle.std.specs.Result.{IsErr, IsErrAnd}
 use Rattle.df_disk.specs.Told.{Told}
 use Rattle.df_model.specs.declared.answers.Receipt.{Receipt}
 use Rattle.df_replica.specs.Below.{State}
-use Rattle.df_notes.specs.Keeping.{AppendsNote, AreKept, Fails, InReply, IsKept, Kept, KeepsNote, KeepsNotes, Moment, StoresReply}
-use Rattle.df_notes.specs.declared.ended.Ended.{Ended}
+use Rattle.notes.specs.Keeping.{AppendsNote, AreKept, Fails, InReply, IsKept, Kept, KeepsNote, KeepsNotes, Moment, StoresReply}
+use Rattle.notes.specs.declared.ended.Ended.{Ended}
 
 -- an error that is handed on
 pub handed_on : (r : Result (Unit {0}) Ended) (ended : Ended) → IsErr r × IsErrAnd r (λ e. e ≡ ended) → r ≡ Err ended

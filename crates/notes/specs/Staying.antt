@@ -7,7 +7,7 @@ use Rattle.df_model.specs.Commands.{Append, Command}
 use Rattle.df_model.specs.Work.{Work}
 use Rattle.df_replica.specs.Serving.{Grade, Keeps}
 use Rattle.df_replica.specs.Session.{Act, LeavesView, work_after}
-use Rattle.df_notes.specs.Keeping.{AreKept, Moment}
+use Rattle.notes.specs.Keeping.{AreKept, Moment}
 
 -- the note of an append; no other call has one
 abbrev pub note_in : Command → List (List ℕ)

@@ -1,8 +1,8 @@
 // The file of the notes: it is opened, and made where the disk is blank.
 ghost use Rattle.std.specs.Prelude.{◌≡◌, true, IfOk, OnOk};
 ghost use Rattle.df_base.specs.Causes.{IsBlamed};
-ghost use Rattle.df_notes.specs.Ending.{is_disk};
-ghost use Rattle.df_notes.specs.Opening.{IsOpen};
+ghost use Rattle.notes.specs.Ending.{is_disk};
+ghost use Rattle.notes.specs.Opening.{IsOpen};
 
 use crate::ended::{Ended, why_ended};
 use crate::keeping::reply_to;

@@ -1,6 +1,6 @@
 // Why the program ends before it is done.
 ghost use Rattle.std.specs.Prelude.{◌≡◌};
-ghost use Rattle.df_notes.specs.Ending.{ended_by, number_of};
+ghost use Rattle.notes.specs.Ending.{ended_by, number_of};
 
 use df_base::BlamesDisk;
 

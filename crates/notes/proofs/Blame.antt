@@ -1,8 +1,8 @@
 -- An error of the replica blames the disk, and never the sink.
 use Rattle.std.proofs.Common.{◌≡◌, ℕ, Bool, true, false, refl, sym, subst}
 use Rattle.df_base.specs.Causes.{Blamed}
-use Rattle.df_notes.specs.Ending.{ended_by, is_disk, is_sink}
-use Rattle.df_notes.specs.declared.ended.Ended.{Ended}
+use Rattle.notes.specs.Ending.{ended_by, is_disk, is_sink}
+use Rattle.notes.specs.declared.ended.Ended.{Ended}
 
 blamed_disk : (b : Bool) (before now : ℕ) → Blamed b before now → Blamed (is_disk (ended_by b)) before now
 blamed_disk true before now blamed = blamed

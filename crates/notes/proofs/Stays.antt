@@ -8,8 +8,8 @@ use Rattle.df_replica.specs.Appending.{next_unit}
 use Rattle.df_replica.specs.Replying.{next_reply}
 use Rattle.df_replica.specs.Session.{Act, IsServed}
 use Rattle.df_replica.proofs.Laws.{answered_is_there, nothing_is_served, one_more_is_served}
-use Rattle.df_notes.specs.Keeping.{AreKept, Begun, Kept, Moment}
-use Rattle.df_notes.specs.Staying.{AreThere, note_in, notes_in}
+use Rattle.notes.specs.Keeping.{AreKept, Begun, Kept, Moment}
+use Rattle.notes.specs.Staying.{AreThere, note_in, notes_in}
 
 -- the notes of acts behind others
 notes_on : (acts more : List Act) → notes_in (acts ++ more) ≡ notes_in acts ++ notes_in more

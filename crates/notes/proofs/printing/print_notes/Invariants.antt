@@ -1,7 +1,7 @@
 -- The notes up to this op are printed, and nothing has failed.
 use Rattle.std.proofs.Common.{◌≡◌, ◌-◌}
-use Rattle.df_notes.specs.Showing.{AreShown}
-use Rattle.df_notes.proofs.printing.print_notes.Given as goal
+use Rattle.notes.specs.Showing.{AreShown}
+use Rattle.notes.proofs.printing.print_notes.Given as goal
 
 abbrev pub invariant-loop-before : goal.invariant-loop-before
 invariant-loop-before g l = record {

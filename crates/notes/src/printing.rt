@@ -3,8 +3,8 @@ ghost use Rattle.std.specs.Prelude.{◌≡◌, true, OnOk};
 ghost use Rattle.df_base.specs.Causes.{HasCause, IsBlamed};
 ghost use Rattle.df_base.specs.Streams.{Appends};
 ghost use Rattle.df_script_model.specs.Texts.{line_of};
-ghost use Rattle.df_notes.specs.Ending.{is_disk, is_sink};
-ghost use Rattle.df_notes.specs.Showing.{IsShown, ShowsAll};
+ghost use Rattle.notes.specs.Ending.{is_disk, is_sink};
+ghost use Rattle.notes.specs.Showing.{IsShown, ShowsAll};
 
 use crate::ended::{Ended, why_ended};
 use df_base::{Failed, Sink};

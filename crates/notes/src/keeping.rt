@@ -2,8 +2,8 @@
 ghost use Rattle.std.specs.Prelude.{◌≡◌, true, map, string_bytes, OnOk};
 ghost use Rattle.df_base.specs.Causes.{HasCause, IsBlamed};
 ghost use Rattle.df_inspect.specs.Prints.{Prints};
-ghost use Rattle.df_notes.specs.Ending.{is_disk, is_sink};
-ghost use Rattle.df_notes.specs.Keeping.{AppendsNote, KeepsNote, KeepsNotes, StoresReply, op_line};
+ghost use Rattle.notes.specs.Ending.{is_disk, is_sink};
+ghost use Rattle.notes.specs.Keeping.{AppendsNote, KeepsNote, KeepsNotes, StoresReply, op_line};
 
 use crate::ended::{Ended, why_ended};
 use df_base::{Failed, Sink};
