@@ -19,13 +19,15 @@ loop-before-init g c = record {
 pub loop-before-preserved : goal.loop-before-preserved
 loop-before-preserved g c =
     let now = c.loop-before in
+    let was = now.invariant in
+    let done = c.in_ok-print_note.ensures in
     record {
       shown =
-          shows_more c.args.replica.now _ _ now.before _ _ (omega (arith, ap (λ (s : Summary). s.checkpoint_op) c.summary-summary.ensures)) now.invariant.shown
-          (subst (λ (s : State). IsShown (now.before + 1) s (g.D.Disk.told c.args.disk.now) (g.W.Sink.written now.sink) (g.W.Sink.written c.print_note.new.sink)) now.invariant.kept
-          (subst (λ (t : Option Told). IsShown (now.before + 1) now.replica t (g.W.Sink.written now.sink) (g.W.Sink.written c.print_note.new.sink)) now.invariant.same c.in_ok-print_note.ensures.shown));
-      kept = c.in_ok-print_note.ensures.kept ∙ now.invariant.kept;
-      same = c.in_ok-print_note.ensures.same ∙ now.invariant.same;
-      disk_faults = c.in_ok-print_note.ensures.disk ∙ now.invariant.disk_faults;
-      sink_faults = c.in_ok-print_note.ensures.sink ∙ now.invariant.sink_faults;
+          shows_more c.args.replica.now _ _ now.before _ _ (omega (arith, ap (λ (s : Summary). s.checkpoint_op) c.summary-summary.ensures)) was.shown
+          (subst (λ (s : State). IsShown (now.before + 1) s (g.D.Disk.told c.args.disk.now) (g.W.Sink.written now.sink) (g.W.Sink.written c.print_note.new.sink)) was.kept
+          (subst (λ (t : Option Told). IsShown (now.before + 1) now.replica t (g.W.Sink.written now.sink) (g.W.Sink.written c.print_note.new.sink)) was.same done.shown));
+      kept = done.kept ∙ was.kept;
+      same = done.same ∙ was.same;
+      disk_faults = done.disk ∙ was.disk_faults;
+      sink_faults = done.sink ∙ was.sink_faults;
     }
