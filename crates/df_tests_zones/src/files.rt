@@ -92,20 +92,18 @@ pub(crate) fn tried(
     (found, done)
 }
 
-// What a scan behind a checkpoint with this op sees, in this boot.
+// What a scan behind an empty checkpoint sees, in this boot.
 pub(crate) fn scanned(
     rt: &impl Abort,
     alloc: Global,
     disk: &mut MemoryDisk,
     layout: &Layout,
-    op: u64,
     boot: u64,
 ) -> SlotTable
-    requires { op ≤ 2 ^ 62 }
     ensures count { length result.slots ≡ layout.now.slots }
     ensures table { IsTable layout.now result.start.cluster result.slots }
 {
-    let (found, done) = tried(rt, alloc, disk, layout, op, boot);
+    let (found, done) = tried(rt, alloc, disk, layout, 0, boot);
     done.expect(rt, "a disk whose calls all succeed");
     found
 }

@@ -93,7 +93,7 @@ fn found(
     requires slots { layout.now.slots ≡ 32 }
     requires clients { layout.now.clients ≡ 4 }
 {
-    let found = scanned(rt, alloc, disk, layout, 0, boot);
+    let found = scanned(rt, alloc, disk, layout, boot);
     let mut sessions = SessionTable::new(4);
     let tail = find_tail(layout, &found, &[0; 16], &mut sessions);
     let seen = count_rings(&found);
@@ -118,7 +118,7 @@ fn decisions(
 ) -> [Decision; 8]
     requires slots { layout.now.slots ≡ 32 }
 {
-    let found = scanned(rt, alloc, disk, layout, 0, boot);
+    let found = scanned(rt, alloc, disk, layout, boot);
     let mut decided = [LOST; 8];
     for (i, decision) in decided.iter_mut().enumerate() {
         *decision = found.decision(i as u32);
@@ -248,7 +248,7 @@ fn a_table_has_the_headers_and_classes_of_its_slots(rt: HostRuntime) {
     let layout = Layout::small();
     let mut disk = five(&rt, rt.alloc(), &layout, &[0; 5]);
     assert!(rt; disk.strike(12, Strike::Fill { byte: 0xa5 }).is_ok());
-    let found = scanned(&rt, rt.alloc(), &mut disk, &layout, 0, 0);
+    let found = scanned(&rt, rt.alloc(), &mut disk, &layout, 0);
     let ops = (
         found.prepare(2).map(|h| h.op),
         found.header(3).map(|h| h.op),
