@@ -1,13 +1,29 @@
 // What no clause says: that a table comes through a disk in memory, and that a failed write is answered.
+ghost use Rattle.std.specs.Prelude.{◌≡◌};
+ghost use Rattle.df_headers.specs.Ring.{IsTable};
+
 use crate::rings::reserved_table;
 use crate::stored::Board;
 use df_base::Failed;
 use df_buffers::{HeaderSector, Identity, Raw, Wanted};
 use df_format::Header;
-use df_headers::{read_sector, reserved_header};
+use df_headers::{HeaderTable, read_sector, reserved_header};
 use df_layout::{Class, Layout, Place, Zone};
 use std::alloc::Global;
 use std::process::Abort;
+
+// Writes the second sector of a table.
+fn write_second(
+    board: &mut Board,
+    layout: &Layout,
+    table: &HeaderTable,
+    room: &mut Raw<HeaderSector>,
+) -> Result<(), Failed>
+    requires slots { layout.now.slots ≡ 32 }
+    requires table { IsTable layout.now 7 table.now }
+{
+    table.write_sector(board, room, 1)
+}
 
 fn shown(layout: &Layout, slot: u32, room: &Raw<HeaderSector>) -> Result<Header, Class> {
     let identity = Identity {
@@ -27,7 +43,7 @@ fn write_reserved(rt: &impl Abort, alloc: Global, board: &mut Board) -> Result<(
     let layout = Layout::small();
     let table = reserved_table(alloc, &layout).expect(rt, "memory of a table");
     let mut room = Raw::reserve(alloc, &layout).expect(rt, "memory of a room");
-    let written = table.write_sector(board, &mut room, 1);
+    let written = write_second(board, &layout, &table, &mut room);
     assert!(rt; table.into_room().len() == 32);
     written
 }
