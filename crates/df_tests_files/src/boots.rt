@@ -2,6 +2,7 @@
 // program of version 2 behind its superblock, and is refused.
 use df_base::{SECTOR, check, put_u32, put_u64};
 use df_disk::Disk;
+use df_memdisk::MemoryDisk;
 use df_runs::{Status, printed, run_script, small_file};
 use std::alloc::Global;
 use std::test::Fail;
@@ -36,19 +37,33 @@ fn unit_of(is_prepare: bool) -> [u8; 256] {
     bytes
 }
 
-// Whether a run refuses a small file that shows the unit at the start of this sector, or behind the first header there, and writes
-// nothing.
-fn is_refused(alloc: Global, sector: u64, is_second: bool, is_prepare: bool) -> Result<bool, Fail> {
-    let mut disk = small_file(alloc, &[])?;
-    let mut bytes = [0u8; SECTOR];
-    disk.read(sector, &mut bytes)?;
-    let unit = unit_of(is_prepare);
+// Puts a unit at the start of a sector, or behind the first header there.
+fn put_unit(bytes: &mut [u8; SECTOR], is_second: bool, unit: &[u8; 256]) {
     if is_second {
-        bytes[256..512].copy_from_slice(&unit);
+        bytes[256..512].copy_from_slice(unit);
     } else {
-        bytes[..256].copy_from_slice(&unit);
+        bytes[..256].copy_from_slice(unit);
     }
-    disk.write(sector, &bytes)?;
+}
+
+// Lets a sector show the unit, at its start or behind the first header there.
+fn show_unit(
+    disk: &mut MemoryDisk,
+    sector: u8,
+    is_second: bool,
+    is_prepare: bool,
+) -> Result<(), Fail> {
+    let mut bytes = [0u8; SECTOR];
+    disk.read(u64::from(sector), &mut bytes)?;
+    put_unit(&mut bytes, is_second, &unit_of(is_prepare));
+    disk.write(u64::from(sector), &bytes)?;
+    Ok(())
+}
+
+// Whether a run refuses a small file that shows the unit in this sector, and writes nothing.
+fn is_refused(alloc: Global, sector: u8, is_second: bool, is_prepare: bool) -> Result<bool, Fail> {
+    let mut disk = small_file(alloc, &[])?;
+    show_unit(&mut disk, sector, is_second, is_prepare)?;
     let events = disk.events();
     let ran = run_script(alloc, &mut disk, b"append 5 1 -\n")?;
     // The barrier is the one event.
@@ -60,7 +75,7 @@ fn is_refused(alloc: Global, sector: u64, is_second: bool, is_prepare: bool) -> 
 fn a_unit_of_a_later_boot_refuses_the_file(rt: HostRuntime) -> Result<(), Fail> {
     // The header ring begins at sector 4, the ring of prepares at 6 with two sectors a slot, and the reply slots at 70.
     for (sector, is_second, is_prepare) in [
-        (4u64, true, true),
+        (4u8, true, true),
         (8, false, true),
         (70, false, false),
     ] {
