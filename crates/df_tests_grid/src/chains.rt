@@ -126,13 +126,18 @@ fn a_chain_of_two_blocks_is_read(rt: HostRuntime) {
     assert!(rt; read(rt.alloc(), &mut disk, layout, last, 3848, 0) == Some(Err(damaged)));
 }
 
-// The version and the boot of the header in a sector.
-fn made_in(disk: &mut MemoryDisk, sector: u64) -> Option<(u16, u64)> {
-    let mut bytes = [0; 4096];
-    disk.read(sector, &mut bytes).ok()?;
+// The front of a sector, where its header stands.
+fn front_of(bytes: &[u8; 4096]) -> [u8; 256] {
     let mut front = [0; 256];
     front.copy_from_slice(&bytes[..256]);
-    decode_header(&front).map(|header| (header.version, header.boot))
+    front
+}
+
+// The version and the boot of the header in a sector.
+fn made_in(disk: &mut MemoryDisk, sector: u8) -> Option<(u16, u64)> {
+    let mut bytes = [0; 4096];
+    disk.read(u64::from(sector), &mut bytes).ok()?;
+    decode_header(&front_of(&bytes)).map(|header| (header.version, header.boot))
 }
 
 // Three blocks of layout small, whose grid is at sector 80 and has blocks of four sectors.
