@@ -23,10 +23,11 @@ import appends
 import calls
 import growth
 import opens
+import waits
 import workload
 from tries import arguments
 
-TABLES = ("calls", "appends", "opens", "workload", "growth")
+TABLES = ("calls", "appends", "opens", "workload", "waits", "growth")
 
 
 def wanted() -> argparse.Namespace:
@@ -56,6 +57,7 @@ def main() -> None:
             "appends": lambda: appends.show_appends(bench, grounds),
             "opens": lambda: opens.show_opens(bench, grounds),
             "workload": lambda: workload.show_workload(bench, grounds),
+            "waits": lambda: waits.show_waits(bench, grounds),
             "growth": lambda: growth.show_growth(bench, grounds[0]),
         }
         for name in given.tables:

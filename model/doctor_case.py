@@ -226,4 +226,4 @@ def look_at(file, at, behind):
 
 def maybe_header(raw):
     """A header, if it is one. Most bytes fail the first test, which is fast."""
-    return header_of(raw)[0] if raw[122:124] == b"\1\0" else None
+    return header_of(raw)[0] if raw[122:124] in (b"\1\0", b"\2\0") else None

@@ -96,7 +96,7 @@ def place_lines(file, f, zone, index):
         return lines + [f"there: {unit_text(seen.header)}" + (f"; {seen.why}" if seen.why else "")]
     raw = bytes_at(file, at, HEADER)
     h = fields_at(raw)
-    close = h["kind"] in NAMES and h["version"] == 1 and h["cluster"] == f["Cluster"]
+    close = h["kind"] in NAMES and h["version"] in (1, 2) and h["cluster"] == f["Cluster"]
     return lines + [f"there: no unit, since {seen.why}" + (f". Its fields would be {unit_text(h)}" if close else "")
                     + ". " + (nature(raw) if zone == "WalHeaders" else natures(file, first, end))]
 
@@ -129,7 +129,7 @@ def damaged_lines(case, zone, index):
         return lost_lines(file, state)
     if zone == "Superblock":
         found = later_of(state)
-        lines = [f"{len(found)} places are of a later checkpoint than the superblock's, of sequence {f['Sequence']} and op {f['Op']}"]
+        lines = [f"{len(found)} places are of a later checkpoint or boot than the superblock's, of sequence {f['Sequence']} and op {f['Op']}"]
         return lines + [line for each in found[:FEW] for line in place_lines(file, f, *each)] + copy_lines(file)
     if zone == "ClientReplies":
         client, last = list(state["sessions"].items())[index]

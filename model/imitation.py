@@ -189,23 +189,53 @@ def opened(file: File) -> Machine:
     return machine
 
 
-def run(file: File) -> int:
-    """The word `run`."""
+def run(file: File, pace: tuple = (0, 0, 0)) -> int:
+    """The word `run`, or `paced`."""
     machine = opened(file)
-    execute(file, machine)
+    execute(file, machine, pace)
     if has("repairs come last"):
         repair(file, copies_of(file), machine.durable.content(machine.home))
     return DONE
 
 
-def execute(file: File, machine: Machine) -> None:
+def execute(file: File, machine: Machine, pace: tuple) -> None:
+    accepted = 0
     longest = 32832 if has("lines are bounded as for small") else machine.layout.line_max()
     for index, line in enumerate(lines_of(longest), 1):
         parsed = script.parse(line, machine.layout) if len(line) <= longest else None
         if parsed is None:
             tell(b"script %d\n" % index)
             raise End(SCRIPT)
-        perform(file, machine, machine.line(parsed))
+        head = machine.head()
+        events = machine.line(parsed)
+        late = [event for event in events if event.kind == "answer"] if has("the work comes before the answer") else []
+        perform(file, machine, [event for event in events if event not in late])
+        accepted = work_behind(file, machine, pace, accepted + machine.head() - head)
+        perform(file, machine, late)
+
+
+def quietly(file: File, machine: Machine, line: tuple) -> bytes:
+    """Does what a line asks for, and gives its answer, which isn't printed."""
+    events = machine.line(line)
+    perform(file, machine, [event for event in events if event.kind != "answer"])
+    return b"".join(event.data for event in events if event.kind == "answer")
+
+
+def work_behind(file: File, machine: Machine, pace: tuple, accepted: int) -> int:
+    """The work behind a line, of which nothing is printed; gives how many prepares count towards the next begin."""
+    scrub, every, steps = pace
+    if has("no work is done behind a line"):
+        return accepted
+    if every and accepted >= every + has("a begin is due one append late") and not machine.running:
+        root = b"" if has("the loop begins without a root") else machine.durable.root
+        begun = quietly(file, machine, ("checkpoint", root)).startswith(b"begun")
+        accepted = 0 if begun or has("a begin that is refused counts as done") else accepted
+    for _ in range(steps + has("one step more is done than paced")):
+        if machine.running:
+            quietly(file, machine, ("step",))
+    for _ in range(scrub):
+        quietly(file, machine, ("scrub",))
+    return accepted
 
 
 def tell_all(lines: list) -> None:
@@ -289,7 +319,7 @@ def main() -> int:
             tell(USAGE)
             return WORDS
         file = File(words[0])
-        calls = {"run": run, "format": make, "recover": recover, "inspect": inspect, "scrub": scrub, "workload": work}
+        calls = {"run": run, "format": make, "recover": recover, "inspect": inspect, "scrub": scrub, "workload": work, "paced": run}
         return calls[asked[0]](file, *asked[1:])
     except End as end:
         return end.args[0]

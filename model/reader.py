@@ -42,9 +42,14 @@ def choose(sectors):
     chosen = None
     for one in votes:
         agreed = sum(content(one) == content(other) for other in votes) >= 2
-        if agreed and (chosen is None or number(one, 72, 8) > number(chosen, 72, 8)):
+        if agreed and (chosen is None or rank(one) > rank(chosen)):
             chosen = one
     return chosen
+
+
+def rank(copy):
+    """What contents are compared by, whatever their version: the sequence, and then the boot."""
+    return number(copy, 72, 8), number(copy, 152, 8)
 
 
 def fields_of(copy):
@@ -95,15 +100,21 @@ def superblock_of(file, checkpoints):
     return f
 
 
+def is_own(one, f):
+    """Whether a unit of the superblock's boot is shown: one of an earlier boot proves nothing."""
+    return not isinstance(one, str) and one["boot"] == f["Boot"]
+
+
 def tail_of(f, headers, prepares, known):
     """The longest list of prepares that are taken and fit; with each client's last request, in order of place, the sessions
     that are known first."""
     tail, sessions = [], dict(known)
     for op in range(f["Op"] + 1, f["Op"] + f["Slots"] + 1):
         header, one = headers[op % f["Slots"]], prepares[op % f["Slots"]]
-        if isinstance(one, str) or one["op"] != op:
+        if not is_own(one, f) or one["op"] != op:
             break
-        if not isinstance(header, str) and header["op"] >= op and header["checksum"] != one["checksum"]:
+        speaks = not isinstance(header, str) and (header["op"] > op or (header["op"] == op and is_own(header, f)))
+        if speaks and header["checksum"] != one["checksum"]:
             break
         before, last = tail[-1] if tail else None, sessions.get(one["client"])
         chained = one["parent"] == (number(before["checksum"], 0, 16) if before else f["OpChecksum"])
@@ -132,14 +143,14 @@ def rings_of(file, f, bodies=True):
 
 def stored_of(f, tail, sessions, places):
     """How many replies are stored, and for each client its stored reply or what waits."""
-    replies = [one["op"] for one in places if not isinstance(one, str)]
+    replies = [one["op"] for one in places if is_own(one, f)]
     stored = max(f["Replies"], tail[-1]["mark"] if tail else 0, *replies, 0)
     kept = {}
     for place, (client, last) in enumerate(sessions.items()):
         one = places[place]
         kept[client] = last
         if last["op"] <= stored:
-            if isinstance(one, str) or any(one[name] != last[name] for name in ("client", "request", "op")):
+            if not is_own(one, f) or any(one[name] != last[name] for name in ("client", "request", "op")):
                 raise Refused(f"Damaged ClientReplies {place} {class_at(one)}")
             kept[client] = one
     return stored, kept
@@ -147,21 +158,23 @@ def stored_of(f, tail, sessions, places):
 
 def evidence_of(state):
     """Each op that something in the file tells of: the op, and where it is told."""
-    told = [(state["fields"]["Head"], "the superblock", 0)]
+    f = state["fields"]
+    told = [(f["Head"], "the superblock", 0)]
     for ring, zone in (("headers", "WalHeaders"), ("prepares", "WalPrepares")):
-        told += [(one["op"], zone, slot) for slot, one in enumerate(state[ring]) if not isinstance(one, str)]
+        told += [(one["op"], zone, slot) for slot, one in enumerate(state[ring]) if is_own(one, f)]
     for place, one in enumerate(state["places"]):
-        told += [] if isinstance(one, str) else [(max(one["op"], one["mark"]), "ClientReplies", place)]
+        told += [(max(one["op"], one["mark"]), "ClientReplies", place)] if is_own(one, f) else []
     return told
 
 
 def later_of(state):
-    """The places whose units are of a later checkpoint than the superblock's."""
+    """The places whose units are of a later checkpoint than the superblock's, or of a later boot."""
     f, found = state["fields"], []
     for ring, zone in (("headers", "WalHeaders"), ("prepares", "WalPrepares"), ("places", "ClientReplies")):
         for index, one in enumerate(state[ring]):
             beyond = ring != "places" and not isinstance(one, str) and one["op"] > f["Op"] + f["Slots"]
-            if beyond or (not isinstance(one, str) and one["checkpoint"] > f["Sequence"]):
+            later = not isinstance(one, str) and (one["checkpoint"] > f["Sequence"] or one["boot"] > f["Boot"])
+            if beyond or later:
                 found.append((zone, index))
     return found
 

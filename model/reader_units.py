@@ -10,7 +10,7 @@ RESERVED, PREPARE, REPLY, BLOCK, TRAILER = 1, 2, 3, 4, 5
 HEADS = {  # field of a header: offset and bytes
     "cluster": (32, 16), "parent": (48, 16), "client": (64, 16), "op": (80, 8), "request": (88, 8), "mark": (96, 8),
     "checkpoint": (104, 8), "size": (112, 4), "slot": (116, 4), "kind": (120, 1), "block_kind": (121, 1),
-    "version": (122, 2), "boot": (124, 8),
+    "version": (122, 2), "boot": (124, 8), "group": (132, 8), "group_last": (140, 8),
 }
 
 
@@ -64,6 +64,20 @@ def fields_at(raw):
     return h
 
 
+def fault_of_version(raw, h):
+    """What is wrong with the bytes of a header by its version, if anything is: there are no boots and groups in version 1."""
+    if h["version"] not in (1, 2):
+        return f"the header has version {h['version']}"
+    if any(raw[148:HEADER]) or (h["version"] == 1 and any(raw[124:148])):
+        return "the header has bytes that should be zero"
+    grouped = h["kind"] == PREPARE
+    if h["version"] == 2 and not (h["boot"] == 0 if h["kind"] == RESERVED else 1 <= h["boot"] <= TOP):
+        return f"the header has boot {h['boot']}"
+    if h["version"] == 2 and grouped and not 1 <= h["group"] <= h["op"] <= h["group_last"] <= h["group"] + 7:
+        return f"the header has the group {h['group']} to {h['group_last']}"
+    return "" if grouped or h["group"] == h["group_last"] == 0 else "the header has a group, which its kind hasn't"
+
+
 def header_of(raw):
     """The fields of a header that passes the tests of its kind, or None, and why it doesn't."""
     h = fields_at(raw)
@@ -71,10 +85,8 @@ def header_of(raw):
     counters = all(1 <= h[name] <= TOP for name in ("op", "request", "checkpoint"))
     if checksum(raw[16:HEADER]) != raw[:16]:
         return None, "the header's checksum is wrong"
-    if h["version"] != 1:
-        return None, f"the header has version {h['version']}"
-    if h["boot"] or any(raw[132:HEADER]):
-        return None, "the header has bytes that should be zero"
+    if fault_of_version(raw, h):
+        return None, fault_of_version(raw, h)
     if h["size"] < HEADER or h["cluster"] == 0 or (kind != BLOCK and h["block_kind"]):
         return None, "the header's size, cluster or block kind is out of range"
     empty = not any(h[name] for name in ("parent", "client", "request", "mark", "checkpoint"))

@@ -44,6 +44,13 @@ def seen_copies(sectors: list) -> list:
 def choose(copies: list):
     if has("one vote is enough"):
         return max((c for c in copies if not isinstance(c, str)), key=lambda c: c.sequence, default=None)
+    agreed = [c for c in copies if not isinstance(c, str) and copies.count(c) >= 2]
+    if has("boots aren't compared"):
+        return max(agreed, key=lambda c: c.sequence, default=None)
+    if has("boots are compared before sequences"):
+        return max(agreed, key=lambda c: (c.boot, c.sequence), default=None)
+    if has("boots are compared in version 2 alone"):
+        return max(agreed, key=lambda c: (c.sequence, c.boot if c.version == 2 else 0), default=None)
     if has("the last of equals is chosen"):
         copies = copies[::-1]
     if has("the sequence isn't looked at"):
@@ -56,9 +63,9 @@ def choose(copies: list):
 class Rules(wrong_grid.Rules):
     """The rules of an open."""
 
-    def decision(self, header, prepare, op: int) -> str:
+    def decision(self, header, prepare, op: int, boot: int) -> str:
         there = isinstance(prepare, Unit) and prepare.op == op
-        what = super().decision(header, prepare, op)
+        what = super().decision(header, prepare, op, boot)
         if has("headers aren't looked at"):
             return "Take" if there else "Empty" if isinstance(header, Unit) else "Empty mend"
         if has("another prepare with the header's op is taken") and what == "Lost" and there:
@@ -96,6 +103,8 @@ class Rules(wrong_grid.Rules):
     def behind(self, rings, content) -> bool:
         if has("stamps of sequences are ignored"):
             return any(one.op > content.op + content.slots for one in rings.logged())
+        if has("a unit of a later boot is passed over"):
+            return super().behind(rings, content._replace(boot=units.LIMIT))
         if has("stamps of replies are ignored"):
             return super().behind(rings._replace(replies=[]), content)
         if has("an op beyond the slots is lost"):
@@ -130,8 +139,8 @@ class Rules(wrong_grid.Rules):
             return super().replies(rings._replace(replies=[]), content, tail)
         return super().replies(rings, content, tail)
 
-    def missing(self, rings, sessions: list, replies: int) -> Optional[tuple]:
-        missing = super().missing(rings, sessions, replies)
+    def missing(self, rings, content, sessions: list, replies: int) -> Optional[tuple]:
+        missing = super().missing(rings, content, sessions, replies)
         if missing is None:
             return None
         other = isinstance(rings.replies[missing[0]], Unit)

@@ -20,6 +20,9 @@ NAMES = (
     "one vote is enough",
     "the last of equals is chosen",
     "the sequence isn't looked at",
+    "boots aren't compared",
+    "boots are compared before sequences",
+    "boots are compared in version 2 alone",
     "three votes are needed",
     "Version isn't tested",
     "all copies are repaired",
@@ -67,6 +70,7 @@ NAMES = (
     "marks of replies don't count for the head",
     "stamps of sequences are ignored",
     "stamps of replies are ignored",
+    "a unit of a later boot is passed over",
     "an op beyond the slots is lost",
     "behind blames copy 0",
     "the superblock's replies are ignored",
@@ -191,6 +195,12 @@ WORDS = (
     "inspect mends",
     "findings don't count for the status",
     "a workload may have no commands",
+    "no work is done behind a line",
+    "a begin is due one append late",
+    "a begin that is refused counts as done",
+    "one step more is done than paced",
+    "the loop begins without a root",
+    "the work comes before the answer",
 )
 BUG = os.environ.get("BUG", "")
 

@@ -38,7 +38,7 @@ def damaged(random: Random, data: bytes, place: int) -> tuple:
         other = odd(random, content).encode(place) if isinstance(content, Content) else random.randbytes(SECTOR)
         return name, random.choice((old[:half] + other[half:], bytes(half) + old[half:])) if name == "half" else other
     image = bytearray(old)
-    low, high = {"bit of the fields": (32, superblock.ZERO), "bit anywhere": (0, SECTOR), "checksum": (0, 16),
+    low, high = {"bit of the fields": (32, superblock.BEHIND), "bit anywhere": (0, SECTOR), "checksum": (0, 16),
                  "number": (16, 20), "bytes behind the number": (20, 32)}[name]
     image[random.randrange(low, high)] ^= 1 << random.randrange(8)
     if name == "number" and random.random() < 0.7:
@@ -77,7 +77,7 @@ def edges(random: Random, c: Content) -> dict:
         name: (low - step, low, low + 1, high, high + 1, high + step, 0, 2**32 - 1)
         for name, (low, high, step) in zip(names, LIMITS.values())
     }
-    marked = bytearray(len(c.zero))
+    marked = bytearray(len(c.behind))
     for _ in range(random.choice((1, 1, 3))):
         marked[random.choice((0, len(marked) - 1, random.randrange(len(marked))))] = random.randint(1, 255)
     odd_checks = (bytes(16), b"\1" + bytes(15), bytes(15) + b"\1", random.randbytes(16))
@@ -88,7 +88,7 @@ def edges(random: Random, c: Content) -> dict:
         "op_checksum": odd_checks, "head": (c.op, c.op - 1, c.op + c.slots, c.op + c.slots + 1, LIMIT, LIMIT + 1, WORD - 1),
         "replies": (c.head, c.head + 1, c.head - 8, c.head - 9, 0, WORD - 1),
         "trailer_address": (0, 1, c.blocks, c.blocks + 1, WORD - 1), "trailer_checksum": odd_checks,
-        "trailer_size": (0, 1, greatest, greatest + 1, WORD - 1), "boot": (0, 1, WORD - 1), "zero": (bytes(marked),),
+        "trailer_size": (0, 1, greatest, greatest + 1, WORD - 1), "boot": (0, 1, LIMIT, WORD - 1), "behind": (bytes(marked), random.randbytes(16) + bytes(len(marked) - 16)),
     }
 
 

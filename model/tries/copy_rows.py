@@ -48,8 +48,15 @@ ROWS = (
     (copies_of(NEWER, FIRST, FIRST, FIRST), "run", "append 1 1 -", "appended 1\n", 0),
     (copies_of(FIRST._replace(version=9), FIRST, FIRST, FIRST._replace(version=9)), "run", "", "refused Version found 9\n", 4),
     (copies_of(OTHER, FIRST, OTHER, FIRST._replace(boot=1)), "run", "append 1 1 -", "appended 1\n", 0),
+    # Contents of one sequence: the greater boot is chosen, in copies of any version, and then refused.
+    (copies_of(FIRST, FIRST, FIRST._replace(boot=7), FIRST._replace(boot=7)), "run", "", "refused BadField Boot 7\n", 4),
+    (copies_of(FIRST._replace(boot=7), NEWER, FIRST._replace(boot=7), NEWER), "run", "append 1 1 -", "appended 1\n", 0),
+    (copies_of(*[FIRST._replace(version=9, boot=7)] * 2, *[FIRST._replace(boot=6)] * 2), "run", "", "refused Version found 9\n", 4),
+    (copies_of(*[FIRST._replace(version=9, boot=6)] * 2, *[FIRST._replace(boot=7)] * 2), "run", "", "refused BadField Boot 7\n", 4),
+    (copies_of(*[FIRST._replace(version=2)] * 2, *[FIRST._replace(boot=7)] * 2), "run", "", "refused BadField Boot 7\n", 4),
     # Four equal copies with right checksums.
     (four(version=9), "run", "", "refused Version found 9\n", 4),
+    (four(version=2), "run", "", "refused Version found 2\n", 4),
     (four(version=2, slots=0), "run", "", "refused Version found 2\n", 4),
     (four(slots=0), "run", "", "refused BadField Slots 0\n", 4),
     (four(slots=0, cluster=0), "run", "", "refused BadField Slots 0\n", 4),
@@ -76,8 +83,8 @@ ROWS = (
     (four(trailer_address=64), "run", "", "refused BadField TrailerSize 0\n", 4),
     (four(trailer_address=64, trailer_size=2193), "run", "", "refused BadField TrailerSize 2193\n", 4),
     (four(boot=1), "run", "", "refused BadField Boot 1\n", 4),
-    (four(zero=bytes(3935) + b"\1"), "run", "", "refused BadField Zero 4095\n", 4),
-    (four(zero=b"\0\1" + bytes(3933) + b"\1"), "run", "", "refused BadField Zero 161\n", 4),
+    (four(behind=bytes(3935) + b"\1"), "run", "", "refused BadField Zero 4095\n", 4),
+    (four(behind=b"\0\1" + bytes(3933) + b"\1"), "run", "", "refused BadField Zero 161\n", 4),
     # Two neighbouring tests fail: the first is named.
     (four(slots=17, message_size=1), "run", "", "refused BadField Slots 17\n", 4),
     (four(message_size=1, clients=0), "run", "", "refused BadField MessageSize 1\n", 4),
@@ -93,7 +100,7 @@ ROWS = (
     (four(op=1, head=1, trailer_checksum=b"\1" + bytes(15)), "run", "", "refused BadField TrailerAddress 0\n", 4),
     (four(trailer_checksum=b"\1" + bytes(15), trailer_size=1), "run", "", "refused BadField TrailerChecksum 1\n", 4),
     (four(trailer_size=1, boot=1), "run", "", "refused BadField TrailerSize 1\n", 4),
-    (four(boot=1, zero=b"\1" * 3936), "run", "", "refused BadField Boot 1\n", 4),
+    (four(boot=1, behind=b"\1" * 3936), "run", "", "refused BadField Boot 1\n", 4),
 )
 # What a program says that knows no checkpoints.
 WITHOUT_CHECKPOINTS = (

@@ -11,8 +11,11 @@ from .common import Try, named, on_file, reopen, same_bytes, same_run
 from .plan import Plan, before, events_of, every_slot, reads_of, together
 from .script import state
 from .stops import stop
+from .words import command
 
 DISK, READ, WRITE, MEMORY = 5, 6, 7, 8
+# The words that execute a script.
+SCRIPTED = ("run", "paced")
 ERRORS = "EIO ENOSPC EACCES EINVAL EBADF EAGAIN EPIPE ENOMEM EROFS EDQUOT EISDIR ETIMEDOUT".split()
 
 
@@ -28,7 +31,7 @@ def order(t: Try) -> None:
     first = next((at for at, call in enumerate(plan.calls) if call.name in ("read", "pwrite64", "write")), len(plan.calls))
     late = [call for call in plan.calls[first:] if call in takes(plan) and not t.binary.interpreted]
     expect("no call takes memory after the first read of the script, write or answer", [], late)
-    if plan.words != ["run"] or plan.wanted.status == script.REFUSED:
+    if plan.words[0] not in SCRIPTED or plan.wanted.status == script.REFUSED:
         expect("no read of a script that isn't executed", [], named(plan.calls, "read", 0))
     syncs = named(plan.calls, "fdatasync", plan.fd)
     if not plan.data and syncs:
@@ -65,10 +68,10 @@ def order_of_reads(plan: Plan) -> None:
     expect("the copies that are read first", [0, 1, 2, 3], early)
     behind = [at for at, call in enumerate(calls) if at > barrier and call.name in ("pwrite64", "read")]
     # Without a script the calls don't say where the open ends.
-    opened = behind[0] if behind and plan.words == ["run"] else len(calls)
+    opened = behind[0] if behind and plan.words[0] in SCRIPTED else len(calls)
     again, slots = reads_of(calls[barrier:opened], plan.fd, layout)
     found, front = recovery.found(plan.data), form.SECTOR * form.COPIES
-    late = [] if plan.words == ["run"] else plan.wanted.reads
+    late = [] if plan.words[0] in SCRIPTED else plan.wanted.reads
     wanted = ([] if found.early else [0, 1, 2, 3]) + [at // form.SECTOR for at in late if at < front]
     expect("the copies that are read behind the barrier", wanted, again)
     blocks, slots = [at for at in slots if at >= layout.grid()], [at for at in slots if at < layout.grid()]
@@ -81,7 +84,7 @@ def order_of_reads(plan: Plan) -> None:
         expect("the trailer blocks that an open reads, back and forwards", chain[::-1] + chain + later, blocks)
         expect("the header sectors and slots that an open reads", every_slot(layout), sorted(slots))
         copies, others = reads_of(calls[opened:], plan.fd, layout)
-        listed = plan.wanted.reads if plan.words == ["run"] else []
+        listed = plan.wanted.reads if plan.words[0] in SCRIPTED else []
         expect("the copies that are read behind the open", [at // form.SECTOR for at in listed if at < front], copies)
         expect("what else is read behind the open", [at for at in listed if at >= front], others)
 
@@ -132,7 +135,7 @@ def script_read(t: Try, plan: Optional[Plan] = None) -> Optional[bytes]:
     number, got = with_one_failing(t, plan, "read", places)
     given = plan.text[: sum(call.result for call in places[:number])]
     whole = given[: given.rfind(b"\n") + 1]
-    upto = len(script.run(plan.data, whole).events)
+    upto = len(command(plan.data, plan.words, whole).events)
     return plan.ends(t, "faults of read", got, upto, READ)
 
 

@@ -71,8 +71,11 @@ def changes(random: Random, m: Machine, f: dict, data: bytes) -> tuple:
         ("slot", (op + 1) % slots), ("slot", op % slots + slots), ("slot", m.layout.clients - 1), ("slot", m.layout.clients),
         ("slot", 0), ("slot", 1), ("slot", 2**32 - 1),
         ("kind", 0), ("kind", 1), ("kind", 2), ("kind", 3), ("kind", 4), ("kind", 5), ("kind", 6), ("kind", 255),
-        ("block_kind", 1), ("block_kind", 255), ("version", 0), ("version", 2), ("version", 257), ("boot", 1),
-        ("boot", 2**63), ("zero", bytes(123) + b"\1"), ("zero", b"\1" + bytes(123)), ("parent", bytes(16)),
+        ("block_kind", 1), ("block_kind", 255), ("version", 0), ("version", 1), ("version", 2), ("version", 257), ("boot", 0),
+        ("boot", 1), ("boot", TOP), ("boot", TOP + 1), ("boot", 2**63), ("group", 0), ("group", 1), ("group", op),
+        ("group", op + 1), ("group", max(0, op - 7)), ("group", max(0, op - 8)), ("group_last", 0), ("group_last", max(0, op - 1)),
+        ("group_last", op), ("group_last", op + 7), ("group_last", op + 8), ("zero", bytes(107) + b"\1"),
+        ("zero", b"\1" + bytes(107)), ("parent", bytes(16)),
         ("parent", bytes(15) + b"\1"), ("parent", random.choice(m.tail).checksum if m.tail else bytes(16)),
     ))
 
@@ -91,13 +94,13 @@ def misfits(random: Random, m: Machine, f: dict) -> tuple:
 
 def sealed(random: Random, m: Machine, f: dict, data: bytes) -> bytes:
     """A unit of these fields, up to two of them changed."""
-    f = dict(f)
+    f = units.in_boot(f, random.choice((1, 3, TOP))) if random.random() < 0.1 else dict(f)
     for _ in range(random.choice((0, 0, 1, 1, 1, 1, 2))):
         fits = f["kind"] == PREPARE and random.random() < 0.5
         name, value = misfits(random, m, f) if fits else changes(random, m, f, data)
         if name == "op and slot":
             f["slot"], name = value % m.layout.slots, "op"
-        f[name] = value % 2**64 if isinstance(value, int) and name in ("op", "request") else value
+        f[name] = value % 2**64 if isinstance(value, int) and name in ("op", "request", "group", "group_last") else value
     whole = units.seal(f, data)
     if f["size"] != form.HEADER + len(data) and random.random() < 0.5:
         # The checksum of the body is that of the stated size.

@@ -19,10 +19,18 @@ def other_words(t: Try) -> list:
     return [word, str(seed), str(count)] if word == "workload" else [word]
 
 
+def paced_words(t: Try) -> list:
+    """The word `paced` with a pace: most often with a begin now and then, and few pieces behind each line."""
+    numbers = [t.random.choice((0, 1, 1, 2, 3, 8, 64)) for _ in range(3)]
+    return ["paced", *map(str, numbers)]
+
+
 def words_for(t: Try) -> list:
-    """The words `run`, less often others that open a file, or `format`."""
+    """The words `run` or `paced`, less often others that open a file, or `format`."""
     what = t.random.random()
     if what < 0.8:
+        if what >= 0.6 and knows("all"):
+            return paced_words(t)
         return other_words(t) if what < 0.2 and knows("reports") else ["run"]
     home = generate.home(t.random)
     cluster = 0 if t.random.random() < 0.05 else home.cluster
@@ -87,7 +95,7 @@ class Plan:
 
     def keeps(self, what: str, image: bytes) -> None:
         """What finishes no checkpoint doesn't change what the copies choose."""
-        finishes = knows("blocks") and self.wanted.spans and self.words[0] in ("run", "workload")
+        finishes = knows("blocks") and self.wanted.spans and self.words[0] in ("run", "paced", "workload")
         if self.words[0] != "format" and not finishes:
             before, after = (superblock.opened(data or b"").content for data in (self.data, image))
             expect(f"{what}: the superblock", before, after)

@@ -74,19 +74,26 @@ def op_of(slot: int, content: superblock.Content) -> int:
     return content.op + 1 + (slot - content.op - 1) % content.slots
 
 
-def seen(what: Union[Unit, str], op: int) -> str:
-    """What a ring shows of a slot's op. A reserved header has op 0."""
+def seen(what: Union[Unit, str], op: int, boot: int) -> str:
+    """What a ring shows of a slot's op in a boot. A reserved header has op 0, and a unit of another boot proves nothing."""
     if isinstance(what, str):
         return "Nothing"
-    return "Now" if what.op == op else "Old" if what.op < op else "Far"
+    if what.op == op:
+        return "Now" if what.boot == boot else "Old"
+    return "Old" if what.op < op else "Far"
+
+
+def is_own(one: Union[Unit, str], content: superblock.Content) -> bool:
+    """Whether a unit of the superblock's boot is shown."""
+    return isinstance(one, Unit) and one.boot == content.boot
 
 
 class Rules(trailer.Trailers):
     """The rules of an open."""
 
-    def decision(self, header: Union[Unit, str], prepare: Union[Unit, str], op: int) -> str:
+    def decision(self, header: Union[Unit, str], prepare: Union[Unit, str], op: int, boot: int) -> str:
         """What is decided of a slot: `Behind`, `Lost`, `Take` or `Empty`, with `mend` behind it where its header is mended."""
-        h, p = seen(header, op), seen(prepare, op)
+        h, p = seen(header, op, boot), seen(prepare, op, boot)
         if "Far" in (h, p):
             return "Behind"
         if h == "Now":
@@ -112,26 +119,27 @@ class Rules(trailer.Trailers):
 
     def behind(self, rings: Rings, content: superblock.Content) -> bool:
         """Whether the file had a later superblock than the chosen one."""
-        later = any(one.fields()["checkpoint"] > content.sequence for one in rings.all())
+        later = any(one.fields()["checkpoint"] > content.sequence or one.boot > content.boot for one in rings.all())
         return later or any(one.op > content.op + content.slots for one in rings.logged())
 
     def lost(self, rings: Rings, content: superblock.Content, head: int) -> bool:
-        """Whether something is seen that the tail doesn't reach."""
-        tops = [one.op for one in rings.logged()] + [content.head]
+        """Whether something of the superblock's boot is seen that the tail doesn't reach."""
+        tops = [one.op for one in rings.logged() if is_own(one, content)] + [content.head]
         for one in rings.replies:
-            tops += [one.op, one.mark] if isinstance(one, Unit) else []
+            tops += [one.op, one.mark] if is_own(one, content) else []
         return max(tops) > head
 
     def replies(self, rings: Rings, content: superblock.Content, tail: list) -> int:
         """How many replies are stored."""
-        shown = [one.op for one in rings.replies if isinstance(one, Unit)]
+        shown = [one.op for one in rings.replies if is_own(one, content)]
         return max([content.replies, tail[-1].mark if tail else 0, *shown])
 
-    def missing(self, rings: Rings, sessions: list, replies: int) -> Optional[tuple]:
+    def missing(self, rings: Rings, content: superblock.Content, sessions: list, replies: int) -> Optional[tuple]:
         """The least place whose session has a stored reply that its slot doesn't show, with the class."""
         for place, session in enumerate(sessions):
             one = rings.replies[place]
-            if session.op <= replies and (isinstance(one, str) or Session(one.client, one.request, one.op) != session):
+            shown = is_own(one, content) and Session(one.client, one.request, one.op) == session
+            if session.op <= replies and not shown:
                 return place, units.class_of(one)
         return None
 
@@ -141,7 +149,7 @@ class Rules(trailer.Trailers):
         for op in range(content.op + 1, content.op + content.slots + 1):
             slot = op % content.slots
             one = rings.prepares[slot]
-            if not self.decision(rings.headers[slot], one, op).startswith("Take"):
+            if not self.decision(rings.headers[slot], one, op, content.boot).startswith("Take"):
                 break
             if not self.fits(one, tail, sessions, content):
                 break
@@ -155,7 +163,7 @@ class Rules(trailer.Trailers):
         table = []
         for slot in range(content.slots):
             header, one = rings.headers[slot], rings.prepares[slot]
-            what = self.decision(header, one, op_of(slot, content))
+            what = self.decision(header, one, op_of(slot, content), content.boot)
             if what.endswith("mend"):
                 to_mend.append((Place(WAL_HEADERS, slot), units.class_of(header)))
             if what.startswith("Take"):
@@ -204,7 +212,7 @@ def found_in(rings: Rings, opened: superblock.Opened, classes: list, rules: Rule
         # A prepare with the wanted op that isn't taken or doesn't fit is stale too.
         return Found(f"Damaged WalPrepares {slot} {units.class_of(rings.prepares[slot])}", False, content)
     replies = rules.replies(rings, content, tail)
-    missing = rules.missing(rings, sessions, replies)
+    missing = rules.missing(rings, content, sessions, replies)
     if missing:
         return Found(f"Damaged ClientReplies {missing[0]} {missing[1]}", False, content)
     stored = tuple((place, rings.replies[place]) for place, session in enumerate(sessions) if session.op <= replies)

@@ -22,6 +22,9 @@ CLIENT = {"client": form.number(9), "request": 1}
 LATER_OP = {"kind": units.PREPARE, "op": 35, "slot": 3, "checkpoint": 1, **CLIENT}
 LATER_SEQUENCE = {"kind": units.REPLY, "op": 1, "slot": 3, "mark": 1, "checkpoint": 2, **CLIENT}
 LATER_MARK = {"kind": units.REPLY, "op": 1, "slot": 3, "mark": 33, "checkpoint": 1, **CLIENT}
+SECOND_OP = {"kind": units.PREPARE, "op": 2, "slot": 2, "checkpoint": 1, **CLIENT}
+FIRST_OP = {"kind": units.REPLY, "op": 1, "slot": 3, "mark": 1, "checkpoint": 1, **CLIENT}
+EMPTY = {"kind": units.RESERVED, "slot": 9}
 IN_GRID = {"kind": units.BLOCK, "op": 64, "block_kind": 1}
 OUTSIDE = {"kind": units.BLOCK, "op": 65, "block_kind": 1}
 TWO = "append 1 1 -\nreply 1 -\nappend 2 1 -\n"
@@ -141,6 +144,13 @@ ROWS = (
      "refused Damaged ClientReplies 0 Elsewhere Grid 64\n", 4),
     (forged(NEW, TWO, OUTSIDE, form.CLIENT_REPLIES, 0), "run", "", "refused Damaged ClientReplies 0 Garbled\n", 4),
     (forged(NEW, ops(2), IN_GRID, form.WAL_HEADERS, 2), "run", "append 1 3 -", "appended 3\n", 0),
+    # Units of version 2: of a boot in either ring or in a reply slot, and a reserved header, which is of none.
+    (forged(NEW, ops(2), SECOND_OP, form.WAL_HEADERS, 2, boot=3), "run", "", "refused Damaged Superblock 0 Stale\n", 4),
+    (forged(NEW, ops(2), SECOND_OP, form.WAL_PREPARES, 2, boot=3), "run", "", "refused Damaged Superblock 0 Stale\n", 4),
+    (forged(NEW, ops(2), FIRST_OP, form.CLIENT_REPLIES, 3, boot=3), "run", "", "refused Damaged Superblock 0 Stale\n", 4),
+    (struck(forged(NEW, ops(2), FIRST_OP, form.CLIENT_REPLIES, 3, boot=3), "", (0, A5)), "run", "",
+     "refused Damaged Superblock 1 Stale\n", 4),
+    (forged(NEW, ops(2), EMPTY, form.WAL_HEADERS, 9, boot=3), "run", "append 1 3 -", "appended 3\n", 0),
     # A last prepare in both rings that fits, and ones that don't: by their parent, their mark, their client's request.
     (followed(ops(2)), "run", "prepare 3", "prepare 3 client 1 request 3 mark 2 checkpoint 1 body -\n", 0),
     (followed(ops(2), parent=bytes(16)), "run", "", "refused Damaged WalPrepares 3 Stale\n", 4),
@@ -159,7 +169,7 @@ ROWS = (
     # A last header without its prepare, a last prepare without its header, and a header of another prepare.
     (struck(NEW, TWO, (10, A5)), "run", "", "refused Damaged WalPrepares 2 Garbled\n", 4),
     (struck(NEW, TWO, (4, NEW[4 * SECTOR : 5 * SECTOR])), "run", "reply 2 aa", "replied 2\n", 0),
-    (forged(NEW, ops(2), {"kind": units.PREPARE, "op": 2, "slot": 2, "checkpoint": 1, **CLIENT}, form.WAL_HEADERS, 2),
+    (forged(NEW, ops(2), SECOND_OP, form.WAL_HEADERS, 2),
      "run", "", "refused Damaged WalPrepares 2 Stale\n", 4),
     # A body that isn't the one of its checksum, and a unit of another cluster.
     (spoiled(NEW, TWO.replace("2 1 -", "2 1 aa"), SECTOR * 10 + 256), "run", "", "refused Damaged WalPrepares 2 Garbled\n", 4),

@@ -134,26 +134,49 @@ def state(data: bytes, events: list) -> bytes:
     return bytes(image)
 
 
-def run(data: Optional[bytes], text: bytes) -> Outcome:
-    """The word `run`: the copies are read, the barrier, the file is found and mended, then the script is executed."""
+def run(data: Optional[bytes], text: bytes, pace: tuple = (0, 0, 0)) -> Outcome:
+    """The word `run`, or `paced`: the copies are read, the barrier, the file is found and mended, then the script is executed."""
     data = data or b""
     opened = recovery.found(data)
     if opened.refusal:
         return refused(data, opened.refusal, [] if opened.early else [SYNC])
-    return execute(data, [SYNC] + mends(opened), Machine(opened, Image(data)), text)
+    return execute(data, [SYNC] + mends(opened), Machine(opened, Image(data)), text, pace)
 
 
-def execute(data: bytes, events: list, machine: Machine, text: bytes) -> Outcome:
-    """A script behind the events of an open."""
+def execute(data: bytes, events: list, machine: Machine, text: bytes, pace: tuple = (0, 0, 0)) -> Outcome:
+    """A script behind the events of an open, with work of this pace behind each of its lines."""
     machine.writes(events)
     spans, taken, events = [(machine.view(), 0, 0)], 0, list(events)
+    accepted = 0
     for index, (line, ended) in enumerate(lines(text), 1):
         taken += len(line) + ended
         parsed = parse(line, machine.layout) if taken <= BUDGET else None
         if parsed is None:
             return Outcome(data, SCRIPT, events + [answer(f"script {index}")], spans, machine)
+        head = machine.head()
         does(machine, parsed, events, spans)
+        accepted = works(machine, pace, accepted + machine.head() - head, events, spans)
     return Outcome(data, DONE, events, spans, machine)
+
+
+def works(machine: Machine, pace: tuple, accepted: int, events: list, spans: list) -> int:
+    """The work behind a line, of which nothing is printed: a checkpoint with the durable root is begun once so many prepares were
+    accepted since the last begin here, then come its steps, then those of the scrubber. Gives how many prepares count then."""
+    scrub, every, steps = pace
+    if every and accepted >= every and not machine.running:
+        accepted = 0 if quietly(machine, ("checkpoint", machine.durable.root), events, spans).startswith(b"begun") else accepted
+    for _ in range(steps):
+        if machine.running:
+            quietly(machine, ("step",), events, spans)
+    for _ in range(scrub):
+        quietly(machine, ("scrub",), events, spans)
+    return accepted
+
+
+def quietly(machine: Machine, line: tuple, events: list, spans: list) -> bytes:
+    """One line whose answer, which comes last, isn't printed; gives the answer."""
+    does(machine, line, events, spans)
+    return events.pop().data
 
 
 def does(machine: Machine, line: tuple, events: list, spans: list) -> list:

@@ -5,7 +5,9 @@ import time
 
 from . import damage, form, generate, script
 from .binary import expect, require
-from .common import Try, same_bytes, session
+from .common import Try, asked, same_bytes, session
+from .knows import knows
+from .plan import paced_words
 
 
 READS = ("prepare", "lookup", "read", "scrub")
@@ -19,6 +21,18 @@ def sessions(t: Try) -> None:
     for number in range(t.random.randint(1, 5)):
         made = generate.any_script if t.random.random() < 0.6 else generate.good_script
         data = session(t, f"session {number + 1}", data, made(t.random, data)).data
+
+
+def paced(t: Try) -> None:
+    """The same with work behind each line: nothing is printed of it, and what it writes is in the file."""
+    home = generate.home(t.random)
+    data = generate.image(t.random, of=home) if t.random.random() < 0.4 else script.fresh(home)
+    t.binary.put(data)
+    for number in range(t.random.randint(1, 4)):
+        made = generate.any_script if t.random.random() < 0.3 else generate.good_script
+        words = paced_words(t)
+        data = asked(t, f"session {number + 1}, {words}", data, words, made(t.random, data)).data
+        t.counts["sessions with work beside them"] += 1
 
 
 def one_line(t: Try) -> None:
@@ -171,5 +185,5 @@ def long_line(t: Try) -> None:
     t.counts["lines at the bound"] += 1
 
 
-KINDS = {"sessions": (sessions, 10), "one_line": (one_line, 8), "pieces": (pieces, 4),
+KINDS = {"sessions": (sessions, 10), **({"paced": (paced, 8)} if knows("all") else {}), "one_line": (one_line, 8), "pieces": (pieces, 4),
          "answers_in_time": (answers_in_time, 2), "struck_within": (struck_within, 3), "long_line": (long_line, 2)}

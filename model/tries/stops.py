@@ -81,7 +81,7 @@ def chain(t: Try) -> None:
             data = copies.hurt(t.random, data)
         # The same lines again write what may stand there already.
         text = text if t.random.random() < 0.3 else script_for(t, data)
-        wanted = script.run(data, text)
+        wanted = script.run(data, text, t.random.choice(((0, 0, 0), (0, 1, 1), (1, 2, 2))))
         upto = moment(t, wanted.events)
         kept.takes(wanted, upto)
         data = stop(t, data, wanted.events, upto)
@@ -105,7 +105,8 @@ def every_prefix(t: Try) -> None:
     data = generate.image(t.random, 28, home, 0.5)
     if t.random.random() < 0.3:
         data = headers_hurt(t, data, home.layout)
-    wanted = script.run(data, script_for(t, data))
+    # With work behind each line, or with none.
+    wanted = script.run(data, script_for(t, data), t.random.choice(((0, 0, 0), (0, 1, 1), (1, 2, 1), (0, 1, 64))))
     for upto in range(len(wanted.events) + 1):
         kept = Kept(data)
         kept.takes(wanted, upto)

@@ -9,10 +9,13 @@ from .knows import knows
 from .units import BLANK, GARBLED, STALE
 
 # checksum, number, zero, then the content: version, slots, message_size, clients, cluster, block_size, blocks,
-# sequence, op, head, replies, trailer_address, op_checksum, trailer_checksum, trailer_size, boot, zero
+# sequence, op, head, replies, trailer_address, op_checksum, trailer_checksum, trailer_size, boot, and what is behind: zeros in
+# version 1, and in version 2 the head's checksum, 16 zeros, 64 checksums of replies, zeros
 FRONT = struct.Struct("<16sI12s")
 CONTENT = struct.Struct("<IIII16sIIQQQQQ16s16sQQ3936s")
-ZERO = 160
+BEHIND = 160
+# The ends of what stands behind, from there on, in version 2.
+HEAD_CHECKSUM, REPLIES, ZEROS = 16, 32, 32 + 16 * 64
 assert FRONT.size == 32 and FRONT.size + CONTENT.size == SECTOR
 # A copy that doesn't count has the text of its class in place of its content.
 
@@ -36,13 +39,25 @@ class Content(NamedTuple):
     trailer_checksum: bytes = bytes(16)
     trailer_size: int = 0
     boot: int = 0
-    zero: bytes = bytes(SECTOR - ZERO)
+    behind: bytes = bytes(SECTOR - BEHIND)
 
     def layout(self) -> Layout:
         return Layout(self.slots, self.message_size, self.clients, self.block_size, self.blocks)
 
     def home(self) -> Home:
         return Home(self.layout(), self.cluster)
+
+    def head_checksum(self) -> bytes:
+        return self.behind[:HEAD_CHECKSUM]
+
+    def reply_checksums(self) -> list:
+        """The checksums of the replies, by place."""
+        return [self.behind[at : at + 16] for at in range(REPLIES, ZEROS, 16)]
+
+    def first_nonzero(self) -> Optional[int]:
+        """The offset in the copy of the first byte that isn't zero where the version has no fields."""
+        spare = [*range(HEAD_CHECKSUM, REPLIES), *range(ZEROS, len(self.behind))] if self.version == 2 else range(len(self.behind))
+        return next((BEHIND + at for at in spare if self.behind[at]), None)
 
     def encode(self, copy: int) -> bytes:
         """The sector of a copy with this number."""
@@ -82,11 +97,17 @@ def all_seen(data: bytes) -> list:
 
 
 def choose(copies: list) -> Optional[Content]:
-    """The content of greatest sequence on which two copies agree; of two that tie, the lowest-numbered copy's."""
+    """The content of greatest sequence, and of these of greatest boot, on which two copies agree, whatever its version; of two
+    that tie, the lowest-numbered copy's."""
     sound = [copy for copy in copies if isinstance(copy, Content)]
     agreed = [copy for copy in sound if sound.count(copy) >= 2]
     # Of equals, max gives the first.
-    return max(agreed, key=lambda content: content.sequence, default=None)
+    return max(agreed, key=rank, default=None)
+
+
+def rank(content: Content) -> tuple:
+    """What contents are compared by."""
+    return content.sequence, content.boot
 
 
 def greatest_trailer(c: Content) -> int:
@@ -95,7 +116,7 @@ def greatest_trailer(c: Content) -> int:
 
 
 def tests(c: Content) -> Iterator[tuple]:
-    """The field tests in order: the field, its value, whether it fails."""
+    """The field tests of the content's version in order: the field, its value, whether it fails."""
     broken = c.layout().broken()
     if broken:
         yield *broken, True
@@ -110,14 +131,27 @@ def tests(c: Content) -> Iterator[tuple]:
     yield "TrailerChecksum", checksum, c.trailer_address == 0 and checksum != 0
     lawful = 1 <= c.trailer_size <= greatest_trailer(c) if c.trailer_address else c.trailer_size == 0
     yield "TrailerSize", c.trailer_size, not lawful
-    yield "Boot", c.boot, c.boot != 0
-    place = next((ZERO + at for at, byte in enumerate(c.zero) if byte), None)
+    if c.version == 2:
+        yield from second_tests(c)
+    else:
+        yield "Boot", c.boot, c.boot != 0
+    place = c.first_nonzero()
     yield "Zero", place, place is not None
 
 
-def fault(c: Content) -> Optional[str]:
-    """Why a chosen content is refused by its fields."""
-    if c.version != 1:
+def second_tests(c: Content) -> Iterator[tuple]:
+    """The tests that version 2 has of its own."""
+    yield "Boot", c.boot, c.boot > LIMIT
+    head = c.head_checksum()
+    unlike = (c.head == 0 and head != bytes(16)) or (c.head == c.op and head != c.op_checksum)
+    yield "Head", int.from_bytes(head, "little"), unlike
+    spare = next((place for place, one in enumerate(c.reply_checksums()) if place >= c.clients and any(one)), None)
+    yield "Replies", spare, spare is not None
+
+
+def fault(c: Content, version: int = 1) -> Optional[str]:
+    """Why a chosen content is refused by its fields, where this version is asked for."""
+    if c.version != version:
         return f"Version found {c.version}"
     return next((f"BadField {field} {value}" for field, value, fails in tests(c) if fails), None)
 

@@ -9,15 +9,18 @@ from .form import (
 )
 
 # checksum, checksum_body, cluster, parent, client, op, request, mark, checkpoint, size, slot, kind, block kind,
-# version, boot, zero
-FIELDS = struct.Struct("<16s16s16s16s16sQQQQIIBBHQ124s")
+# version, boot, first and last op of the group, zero
+FIELDS = struct.Struct("<16s16s16s16s16sQQQQIIBBHQQQ108s")
 NAMES = (
-    "checksum checksum_body cluster parent client op request mark checkpoint size slot kind block_kind version boot zero"
+    "checksum checksum_body cluster parent client op request mark checkpoint size slot kind block_kind version boot group "
+    "group_last zero"
 ).split()
 NOTHING = dict(zip(NAMES, FIELDS.unpack(bytes(HEADER))))
 assert FIELDS.size == HEADER
 RESERVED, PREPARE, REPLY, BLOCK, TRAILER = 1, 2, 3, 4, 5
 EVERY = {"checksum", "checksum_body", "cluster", "size", "kind", "version"}
+# The fields that version 2 has beside those of version 1.
+LATER = {"boot", "group", "group_last"}
 # The fields that each kind has beside those that every kind has. All others are zero.
 NAMED = {
     RESERVED: {"slot"},
@@ -51,13 +54,22 @@ def keeps_ranges(f: dict) -> bool:
     return told and f["op"] <= f["mark"] <= LIMIT
 
 
+def keeps_version(f: dict) -> bool:
+    """The rules of a header's version: in version 1 there are no boots and no groups."""
+    kind, boot, group, last = f["kind"], f["boot"], f["group"], f["group_last"]
+    if f["version"] != 2:
+        return f["version"] == 1 and boot == group == last == 0
+    grouped = 1 <= group <= f["op"] <= last <= group + 7 if kind == PREPARE else group == last == 0
+    return grouped and (boot == 0 if kind == RESERVED else counter(boot))
+
+
 @lru_cache(maxsize=4096)
 def decode(header: bytes) -> Optional[dict]:
     """The fields of 256 bytes, where they obey all that needs no layout."""
     f = dict(zip(NAMES, FIELDS.unpack(header)))
-    if f["checksum"] != check(header[16:]) or f["version"] != 1 or f["kind"] not in NAMED:
+    if f["checksum"] != check(header[16:]) or f["kind"] not in NAMED or not keeps_version(f):
         return None
-    others = set(NAMES) - EVERY - NAMED[f["kind"]]
+    others = set(NAMES) - EVERY - LATER - NAMED[f["kind"]]
     if any(f[name] != NOTHING[name] for name in others):
         return None
     return f if f["size"] >= HEADER and f["cluster"] != NO_BYTES and keeps_ranges(f) else None
@@ -109,6 +121,10 @@ class Unit(NamedTuple):
         return self.fields()["request"]
 
     @property
+    def boot(self) -> int:
+        return self.fields()["boot"]
+
+    @property
     def client(self) -> int:
         return self.field("client")
 
@@ -132,8 +148,14 @@ def seal(fields: dict, body: bytes = b"") -> bytes:
 
 
 def fields_of(home: Home, kind: int, body: bytes = b"", **others) -> dict:
-    """The fields of a unit of this file, without its checksums."""
+    """The fields of a unit of this file in version 1, without its checksums."""
     return dict(NOTHING, cluster=number(home.cluster), size=HEADER + len(body), kind=kind, version=1, **others)
+
+
+def in_boot(f: dict, boot: int) -> dict:
+    """The fields of the same unit in version 2 and this boot; a reserved header has none, and a prepare is a group by itself."""
+    group = f["op"] if f["kind"] == PREPARE else 0
+    return dict(f, version=2, boot=0 if f["kind"] == RESERVED else boot, group=group, group_last=group)
 
 
 def prepare(home: Home, parent: bytes, client: int, op: int, request: int, body: bytes, mark: int, checkpoint: int) -> Unit:

@@ -13,11 +13,13 @@ USAGE = b"usage: format LAYOUT CLUSTER | run\n"
 if knows("reports"):
     USAGE = b"usage: format LAYOUT CLUSTER | run | recover | inspect\n"
 if knows("all"):
-    USAGE = b"usage: format LAYOUT CLUSTER | run | recover | inspect | scrub | workload SEED COUNT\n"
+    USAGE = b"usage: format LAYOUT CLUSTER | run | recover | inspect | scrub | workload SEED COUNT | paced SCRUB EVERY STEPS\n"
 NUMBER = re.compile(r"0|[1-9][0-9]*", re.ASCII)
 # The words that stand alone; and the greatest number of commands of a workload.
 ALONE = ("run", *(("recover", "inspect") if knows("reports") else ()), *(("scrub",) if knows("all") else ()))
 COUNT = 1_000_000
+# The greatest number of a pace.
+PIECES = 64
 
 
 def number(word: str) -> Optional[int]:
@@ -50,6 +52,9 @@ def meaning(words: list) -> Optional[tuple]:
     told = plain(words) or [""]
     if told[0] in ALONE and len(told) == 1:
         return (told[0],)
+    if len(told) == 4 and told[0] == "paced" and knows("all"):
+        pace = [number(word) for word in told[1:]]
+        return None if any(value is None or value > PIECES for value in pace) else ("paced", tuple(pace))
     if len(told) != 3:
         return None
     first, second = number(told[1]), number(told[2])
@@ -68,6 +73,8 @@ def command(data: Optional[bytes], words: list, text: bytes = b"") -> Outcome:
         return Outcome(data, WORDS, [Event("answer", data=USAGE)])
     if asked[0] == "run":
         return run(data, text)
+    if asked[0] == "paced":
+        return run(data, text, asked[1])
     if asked[0] == "workload":
         return workload.work(data, *asked[1:])
     return make(data, asked[1]) if asked[0] == "format" else getattr(reports, asked[0])(data)

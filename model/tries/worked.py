@@ -54,10 +54,11 @@ def spoiled(data: bytes, text: str, at: int) -> bytes:
     return script.state(after, [script.Event("write", at, bytes([after[at] ^ 1]))])
 
 
-def forged(data: bytes, text: str, unit: dict, zone: str, index: int, home: Home = HOME) -> bytes:
-    """A file after a script, with a unit of these fields at a place."""
+def forged(data: bytes, text: str, unit: dict, zone: str, index: int, home: Home = HOME, boot: int = 0) -> bytes:
+    """A file after a script, with a unit of these fields at a place; with a boot it is of version 2."""
     after = script.run(data, text.encode()).data
-    whole = units.seal(units.fields_of(home, **unit))
+    fields = units.fields_of(home, **unit)
+    whole = units.seal(units.in_boot(fields, boot) if boot else fields)
     return script.state(after, [script.Event("write", SMALL.at(Place(zone, index)), whole)])
 
 

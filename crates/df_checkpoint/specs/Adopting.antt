@@ -32,10 +32,11 @@ pair_of link = (link.address, number_of link.checksum)
 abbrev pub chained : Blocks → List Link → Blocks
 chained b refs = record b { chain = map pair_of refs }
 
--- the layout and the cluster are the same
+-- the layout, the cluster and the boot are the same
 pub record SameFile (old new : GridState) : Type 0 where
   pub layout : new.layout ≡ old.layout
   pub cluster : new.cluster ≡ old.cluster
+  pub boot : new.boot ≡ old.boot
 
 -- of the addresses of the chain this is the least one that is referenced
 pub record IsFirst (reader : Reader) (refs : List Link) (at : ℕ) : Type 0 where

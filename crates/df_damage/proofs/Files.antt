@@ -1,15 +1,15 @@
 -- Damage makes no superblock of another file: a content that is chosen among the copies can be used, and is of this file.
-use Rattle.std.proofs.Common.{◌≡◌, ℕ, ◌<◌, Some, None, sym, ◌∙◌, ap, subst}
+use Rattle.std.proofs.Common.{inl, ◌≡◌, ℕ, ◌<◌, Some, None, refl, sym, ◌∙◌, ap, subst}
 use Rattle.std.proofs.Math.Bridge.{le_prop}
 use Rattle.std.proofs.Math.Nat.{ℕ_set}
 use Rattle.df_disk.specs.Told.{Told}
 use Rattle.df_layout.specs.declared.layout.Layout.{Layout}
 use Rattle.df_layout.proofs.Laws.{same_layout}
 use Rattle.df_format.specs.Copies.{Content, content_at}
-use Rattle.df_format.specs.SuperRules.{IsSuper, fault_of}
+use Rattle.df_format.specs.SuperRules.{IsSuper}
 use Rattle.df_format.specs.declared.superblock.SuperFault.{SuperFault}
 use Rattle.df_format.specs.declared.superblock.SuperFields.{SuperFields}
-use Rattle.df_format.proofs.Laws.{faults}
+use Rattle.df_recovery.proofs.Laws.{asked_none}
 use Rattle.df_quorum.specs.Quorum
 use Rattle.df_theory.specs.Found.{IsFound}
 use Rattle.df_theory.specs.Opens.{BadField, Opens, Refusal, Refused}
@@ -22,7 +22,7 @@ use Rattle.df_units.specs.Bytes.{unit_at}
 use Rattle.df_units.specs.Meaning.{content_of, layout_of}
 use Rattle.df_units.specs.Superblocks.{AreFieldsOf}
 use Rattle.df_units.proofs.Laws.{choice_chosen, passing_is_usable, shown_checks}
-use Rattle.df_recovery.specs.Opening.{HasFault, HasSuper, IsLayoutOf}
+use Rattle.df_recovery.specs.Opening.{fault_asked, HasFault, HasSuper, IsLayoutOf}
 use Rattle.df_recovery.specs.Surveys.{HasFile, IsOpened}
 use Rattle.df_recovery.proofs.Laws.{same_file}
 use Rattle.df_damage.specs.Disks.{MayBeHurt}
@@ -31,7 +31,7 @@ use Rattle.df_damage.proofs.Barriers.{distinct, empty, log, rests, shown, shows_
 module _ (file : DataFile) (view : View) (t : Told) (may : MayBeHurt file view t) where
   -- ---- what is chosen
 
-  tests : (c : Content) → Quorum.IsChosen (content_at t.shown) c → PassesTests (shape file) (content_of c) × IsReference (layout_of file.layout) (content_of c)
+  pub tests : (c : Content) → Quorum.IsChosen (content_at t.shown) c → PassesTests (shape file) (content_of c) × IsReference (layout_of file.layout) (content_of c)
   tests c chosen =
       let choice = choice_chosen file.layout file.cluster t.shown c may.whole chosen in
       let w = fields_hold_law (shape file) (settled (log file view t may)) view (rests file view t may).grows (empty file view t may) (distinct file view t may) (shown file view t may) (shows_settled file view t may) (content_of c) choice.agreed in
@@ -40,13 +40,13 @@ module _ (file : DataFile) (view : View) (t : Told) (may : MayBeHurt file view t
   pub rules : (c : Content) → Quorum.IsChosen (content_at t.shown) c → AreFieldsOf file.layout file.cluster c.fields × IsSuper c.fields
   rules c chosen =
       let both = tests c chosen in
-      passing_is_usable file.layout file.cluster file.named (parse_of (layout_of file.layout)) c (shown_checks t.shown chosen.agreed.first c may.whole chosen.agreed.at_first) both.0 both.1
+      passing_is_usable 1 file.layout file.cluster file.named (parse_of (layout_of file.layout)) c (inl refl) (shown_checks t.shown chosen.agreed.first c may.whole chosen.agreed.at_first) both.0 both.1
 
   -- no test of it fails
   pub no_fault : (fault : SuperFault) → HasFault t.shown fault → ⊥
   no_fault fault has =
-      let none : fault_of has.content.fields ≡ None = (faults has.content.fields).1 (rules has.content has.chosen).1 in
-      let some : fault_of has.content.fields ≡ Some fault = has.broken in
+      let none : fault_asked has.content.fields ≡ None = asked_none has.content.fields (tests has.content has.chosen).0.version (rules has.content has.chosen).1 in
+      let some : fault_asked has.content.fields ≡ Some fault = has.broken in
       cc
 
   -- its layout is the file's

@@ -9,7 +9,6 @@ use Rattle.df_layout.proofs.Laws.{same_layout}
 use Rattle.df_format.specs.Copies.{Content, content_at}
 use Rattle.df_format.specs.SuperRules.{IsSuper}
 use Rattle.df_format.specs.declared.superblock.SuperFields.{SuperFields}
-use Rattle.df_format.proofs.Laws.{faults}
 use Rattle.df_quorum.specs.Quorum
 use Rattle.df_theory.specs.Found.{IsFound}
 use Rattle.df_theory.specs.Opens.{Found, Opened, Opens, Refusal, Refused}
@@ -25,7 +24,7 @@ use Rattle.df_model.specs.declared.errors.OpenError.{OpenError}
 use Rattle.df_model.specs.declared.errors.OpenError.TheVariants.{NotFormatted, NoQuorum, Version, BadField, LayoutDiffers, Damaged, DiskFault}
 use Rattle.df_recovery.specs.Opening.{HasSuper, IsLayoutOf, Refuses}
 use Rattle.df_recovery.specs.Surveys.{HasFile, Surveys}
-use Rattle.df_recovery.proofs.Laws.{one_super, super_or_refusal, same_file}
+use Rattle.df_recovery.proofs.Laws.{asked_none, one_super, super_or_refusal, same_file}
 use Rattle.df_damage.specs.Unrefused.{FoundIsNotRefused, IsNotRefused}
 
 -- ---- the answers
@@ -42,10 +41,10 @@ module _ (file : DataFile) (image : Image) (view : View) (whole : IsImage image)
   rules =
       let tests : PassesTests (shape file) (content_of choice.0) = subst (PassesTests (shape file)) (sym choice.1) found.checkpoint.tests in
       let reference : IsReference (layout_of file.layout) (content_of choice.0) = subst (IsReference (layout_of file.layout)) (sym choice.1) found.checkpoint.trailer.reference in
-      passing_is_usable file.layout file.cluster file.named (parse_of (layout_of file.layout)) choice.0 (shown_checks image choice.2.agreed.first choice.0 whole choice.2.agreed.at_first) tests reference
+      passing_is_usable 1 file.layout file.cluster file.named (parse_of (layout_of file.layout)) choice.0 (inl refl) (shown_checks image choice.2.agreed.first choice.0 whole choice.2.agreed.at_first) tests reference
 
   super : HasSuper image fields
-  super = record { content = choice.0; chosen = choice.2; fields = refl; usable = (faults fields).1 rules.1 }
+  super = record { content = choice.0; chosen = choice.2; fields = refl; usable = asked_none fields (subst (PassesTests (shape file)) (sym choice.1) found.checkpoint.tests).version rules.1 }
 
   usable : (error : OpenError) → Refuses image error → ⊥
   usable error refuses = super_or_refusal image fields error super refuses

@@ -1,19 +1,17 @@
 -- What an open finds on a disk that may be hurt.
-use Rattle.std.proofs.Common.{◌≡◌, ℕ, Option, Some, None, sym, ◌∙◌, ap, arith}
+use Rattle.std.proofs.Common.{◌≡◌, Some, ◌∙◌, ap, arith}
 use Rattle.df_disk.specs.Told.{Told}
 use Rattle.df_layout.specs.declared.places.Zone.TheVariants.{ClientReplies, Grid, Superblock, WalPrepares}
-use Rattle.df_format.specs.Message.{Message as Unit_}
-use Rattle.df_format.specs.Shown as formats
 use Rattle.df_theory.specs.Copies.{Agree}
 use Rattle.df_theory.specs.Found.{IsFound}
 use Rattle.df_theory.specs.Shows.{Needs}
-use Rattle.df_theory.specs.Units.{AnyUnit, BlockPlace, Content, CopyPlace, Header, HeaderPlace, HeaderUnit, Place, PreparePlace, ReplyPlace, Units}
-use Rattle.df_theory.specs.View.{View, boot_of}
+use Rattle.df_theory.specs.Units.{AnyUnit, BlockPlace, CopyPlace, HeaderPlace, HeaderUnit, Place, PreparePlace, ReplyPlace, Units}
+use Rattle.df_theory.specs.View.{View}
 use Rattle.df_theory.proofs.Laws.{checkpoint_stays_law, found_law, headers_tell_law, hurt_law, one_found_law}
 use Rattle.df_recovery.specs.Below.{parse_of, DataFile, shape}
-use Rattle.df_units.specs.Bytes.{message_unit, unit_at}
-use Rattle.df_units.specs.Meaning.{header_of, layout_of, place_of}
-use Rattle.df_units.proofs.Laws.{chosen_choice, of_places}
+use Rattle.df_units.specs.Bytes.{unit_at}
+use Rattle.df_units.specs.Meaning.{layout_of}
+use Rattle.df_units.proofs.Laws.{of_places}
 use Rattle.df_damage.specs.Disks.{MayBeHurt}
 use Rattle.df_damage.specs.Hurt.{IsUnhurtZone}
 use Rattle.df_damage.specs.Openings.{CheckpointStays, FoundWasHad, HasEachHeader, HeadersMayBeHurt, HeadersTell, OpensAsLeft, TwoCopiesAreEnough}
@@ -61,11 +59,6 @@ checkpoint_stays file view t s may rest two is =
 
 -- ---- headers
 
--- no boot is told by a file of version 1
-header_boot : (slot : ℕ) (o : Option Unit_) (h : Header) → message_unit (HeaderPlace slot) o ≡ Some (HeaderUnit h) → h.boot ≡ 0
-header_boot slot None h is = absurd (cc)
-header_boot slot (Some u) h is = let same : header_of u.header ≡ h = cc in ap (λ (x : Header). x.boot) (sym same)
-
 pub headers_tell : HeadersTell
 headers_tell file view t s may unhurt is = (each, λ copies. checkpoint_stays_law (shape file) (log file view t may) view is.view (shown file view t may) (rests file view t may) may.no_chance (agreed_zone file view t may copies) found)
   where
@@ -74,10 +67,8 @@ headers_tell file view t s may unhurt is = (each, λ copies. checkpoint_stays_la
 
     each : HasEachHeader file t is.view
     each slot h at above =
-        let choice = chosen_choice file.layout file.cluster t.shown is.view.checkpoint.content may.whole found.chosen in
-        let boot : 0 ≡ boot_of is.view = ap (λ (c : Content). c.boot) choice.1 in
-        let pin : is.view.checkpoint.content.pin ≡ is.view.checkpoint.content.op = ap (λ (c : Content). c.pin) (sym choice.1) ∙ ap (λ (c : Content). c.op) choice.1 in
+        let first = found.checkpoint.tests.of.one found.checkpoint.tests.version in
         let here : unit_at file.layout file.cluster t.shown (HeaderPlace slot) ≡ Some (HeaderUnit h) = unhurt_zone file view t may (HeaderPlace slot) unhurt ∙ ap (λ (u : Units). u (HeaderPlace slot)) (left file view t may) ∙ at in
         headers_tell_law (shape file) (shown file view t may) is.view slot h
         (of_places file.layout file.cluster file.named (parse_of (layout_of file.layout)) t.shown may.whole) found here
-        (header_boot slot (formats.unit_at file.layout file.cluster t.shown (place_of (HeaderPlace slot))) h here ∙ boot) (omega (arith, above, pin))
+        (omega (arith, (found.not_behind.header slot h here).2, first.0)) (omega (arith, above, first.1))

@@ -1,14 +1,13 @@
 -- Why an open refuses a disk that may be hurt.
-use Rattle.std.proofs.Common.{◌≡◌, ◌⊎◌, inl, inr, ℕ, ◌%◌, ◌<◌, Option, Some, None, refl, sym, ◌∙◌, ap, subst, arith}
+use Rattle.std.proofs.Common.{◌≡◌, ◌⊎◌, inl, inr, ℕ, ◌%◌, ◌<◌, refl, sym, ◌∙◌, ap, subst, arith}
 use Rattle.std.specs.Prelude.{Err}
+use Rattle.df_base.specs.Image.{IsImage}
 use Rattle.df_base.specs.Log as logs
+use Rattle.df_base.proofs.Laws.{now_is_image}
 use Rattle.df_disk.specs.Told.{Told}
 use Rattle.df_layout.specs.declared.places.Place.{Place}
 use Rattle.df_layout.specs.Zones.{file_sectors}
 use Rattle.df_format.specs.declared.superblock.SuperFault.TheVariants.{BadField as BrokenField, Version as OtherVersion}
-use Rattle.df_format.specs.Message.{Message}
-use Rattle.df_format.specs.Shown
-use Rattle.df_format.proofs.Laws.{faults}
 use Rattle.df_model.specs.declared.errors.OpenError.{OpenError}
 use Rattle.df_model.specs.declared.errors.OpenError.TheVariants.{BadField, Damaged, DiskFault, LayoutDiffers, NoQuorum, NotFormatted, Version}
 use Rattle.df_theory.specs.Copies.{Agree}
@@ -18,28 +17,23 @@ use Rattle.df_theory.specs.Opens as opens
 use Rattle.df_theory.specs.Tails.{In}
 use Rattle.df_theory.specs.UnitLog.{now}
 use Rattle.df_theory.specs.Units
-use Rattle.df_theory.specs.Units.{BlockPlace, CopyPlace, HeaderPlace, PreparePlace, PrepareUnit, ReplyPlace}
+use Rattle.df_theory.specs.Units.{BlockPlace, CopyPlace, HeaderPlace, PreparePlace, ReplyPlace}
 use Rattle.df_theory.specs.View.{View}
 use Rattle.df_theory.proofs.Laws.{blame_law, never_behind_law}
-use Rattle.df_units.specs.Bytes.{message_unit, unit_at}
-use Rattle.df_units.specs.Meaning.{message_of, place_of}
-use Rattle.df_units.proofs.Laws.{chosen_choice, is_format}
+use Rattle.df_units.specs.Bytes.{unit_at}
+use Rattle.df_units.specs.Meaning.{place_of}
+use Rattle.df_units.proofs.Laws.{chosen_choice, is_format, unbooted_alone}
 use Rattle.df_recovery.specs.Opening.{Refuses}
 use Rattle.df_recovery.specs.Surveys.{Surveys}
-use Rattle.df_recovery.proofs.Laws.{super_or_refusal}
+use Rattle.df_recovery.proofs.Laws.{asked_none, super_or_refusal}
 use Rattle.df_recovery.specs.Below.{DataFile, shape}
 use Rattle.df_damage.specs.Disks.{MayBeHurt}
 use Rattle.df_damage.specs.Hurt.{IsHurtFile, IsHurtPlace, IsUnhurt}
 use Rattle.df_damage.specs.Refusals.{BlamesHurt, IsBlamed, MayBeOfDamage, ProbeIsOfHurt, RefusalsAreOfDamage, RefusalsBlameHurt}
 use Rattle.df_damage.proofs.Barriers.{agreed_rest, left, log, pooled, rests, shown}
-use Rattle.df_damage.proofs.Files.{no_bad_field, no_fault, own_layout, refused_here, rules}
+use Rattle.df_damage.proofs.Files.{no_bad_field, no_fault, own_layout, refused_here, rules, tests}
 use Rattle.df_damage.proofs.NotRefused.{found_is_not_refused}
 use Rattle.df_damage.proofs.Sectors.{in_zone, place_differs, search}
-
--- a prepare that a file of version 1 shows is a group of its own
-prepare_alone : (slot : ℕ) (o : Option Message) (p : Units.Message) → message_unit (PreparePlace slot) o ≡ Some (PrepareUnit p) → p.header.group ≡ p.header.op
-prepare_alone slot None p is = absurd (cc)
-prepare_alone slot (Some u) p is = let same : message_of u ≡ p = cc in subst (λ (m : Units.Message). m.header.group ≡ m.header.op) same refl
 
 module _ (file : DataFile) (view : View) (t : Told) (may : MayBeHurt file view t) where
   -- ---- which refusals come
@@ -84,9 +78,14 @@ module _ (file : DataFile) (view : View) (t : Told) (may : MayBeHurt file view t
     | inr same ↦ absurd (hurt same)
   ]
 
-  -- each prepare of the tail was appended alone, so that its slot is all there is of its group
+  -- each prepare of the tail was appended alone, so that its slot is all there is of its group: no boot made it
   alone : (p : Units.Message) → In p view.tail → p.header.group ≡ p.header.op
-  alone p at = prepare_alone (p.header.op % file.layout.slots) (Shown.unit_at file.layout file.cluster (logs.now t.log) (place_of (PreparePlace (p.header.op % file.layout.slots)))) p (may.found.tail.takes p at).shown
+  alone p at =
+      let slot = p.header.op % file.layout.slots in
+      let here = (may.found.tail.takes p at).shown in
+      let first = may.found.checkpoint.tests.of.one may.found.checkpoint.tests.version in
+      let whole : IsImage (logs.now t.log) = now_is_image t.log.start t.log.events may.safe.is_log.start may.safe.is_log.events in
+      (unbooted_alone file.layout file.cluster (logs.now t.log) whole slot p here (omega (arith, (may.found.not_behind.prepare slot p here).2, first.0))).first
 
   group_unhurt : (p : Units.Message) → In p view.tail → unit_at file.layout file.cluster t.shown (PreparePlace (p.header.op % file.layout.slots)) ≡ now (log file view t may) (PreparePlace (p.header.op % file.layout.slots)) → laws.IsGroupUnhurt (shape file) (log file view t may) view (shown file view t may) p
   group_unhurt p at same q there group =
@@ -122,7 +121,7 @@ module _ (file : DataFile) (view : View) (t : Told) (may : MayBeHurt file view t
     usable e refuses =
         let chosen = (never_behind_law (shape file) (log file view t may) view (shown file view t may) (rests file view t may) (pooled file view t may) agreed).0 in
         let choice = chosen_choice file.layout file.cluster t.shown view.checkpoint.content may.whole chosen in
-        super_or_refusal t.shown choice.0.fields e (record { content = choice.0; chosen = choice.2; fields = refl; usable = (faults choice.0.fields).1 (rules file view t may choice.0 choice.2).1 }) refuses
+        super_or_refusal t.shown choice.0.fields e (record { content = choice.0; chosen = choice.2; fields = refl; usable = asked_none choice.0.fields (tests file view t may choice.0 choice.2).0.version (rules file view t may choice.0 choice.2).1 }) refuses
 
     pub blames : (e : OpenError) → Surveys file.layout t.shown (Err e) → (e ≡ DiskFault → ⊥) → BlamesHurt file view t e
     blames NotFormatted is other = usable NotFormatted is

@@ -7,3 +7,14 @@ pub mod Openings
 pub mod Refusals
 pub mod Written
 pub mod Answers
+pub mod Types
+pub use Rattle.df_recovery.specs.Below
+pub use Rattle.df_recovery.specs.Checkpoints
+pub use Rattle.df_recovery.specs.Finding
+pub use Rattle.df_recovery.specs.Found
+pub use Rattle.df_recovery.specs.Opening
+pub use Rattle.df_recovery.specs.Plan
+pub use Rattle.df_recovery.specs.Scanning
+pub use Rattle.df_recovery.specs.Starting
+pub use Rattle.df_recovery.specs.Surveys
+pub use Rattle.df_recovery.specs.Waiting

@@ -1,12 +1,14 @@
 -- Parts of a copy's sector: what a write of a number leaves behind it, and which bytes are all zero.
-use Rattle.std.proofs.Common.{inl, inr, ◌≡◌, ◌≤◌, ◌+◌, ◌==◌, ◌&&◌, ℕ, zero, suc, Bool, not, List, [], ◌∷◌, ◌++◌, length, take, drop, replicate, Option, Some, None, cond, refl, sym, ◌∙◌, ap, arith, append_assoc, length-append}
+use Rattle.std.proofs.Common.{inl, inr, ◌≡◌, ◌≤◌, ◌+◌, ◌-◌, ◌==◌, ◌&&◌, ℕ, zero, suc, Bool, not, List, [], ◌∷◌, ◌++◌, length, take, drop, replicate, Option, Some, None, cond, refl, sym, ◌∙◌, ap, arith, append_assoc, length-append}
 use Rattle.std.specs.Prelude.{nat_lt, position, option_map}
 use Rattle.std.specs.List.{list_all, prefix_len}
+use Rattle.std.specs.Option.{option_or}
 use Rattle.std.proofs.lemmas.Bool.{cond-true, cond-false, le-ltb, ltb-false, eq-eqb, ne_eqb, not_from_true, not_from_false, cases_eq, cases_Bool}
 use Rattle.std.specs.Str.{bytes_eq}
 use Rattle.std.proofs.lemmas.List.{take-append-drop, drop-drop, drop_at, take_all, length-take-le, length-replicate}
 use Rattle.df_base.specs.Fields.{spelled, put_at}
 use Rattle.df_base.proofs.Laws.{length-spelled}
+use Rattle.df_format.specs.Copies.{nonzero_between}
 
 -- all bytes are zero where they are as many zeros
 pub all_zero : (bytes : List ℕ) (n : ℕ) → length bytes ≡ n → list_all (λ b. b == 0) bytes ≡ bytes_eq bytes (replicate n 0)
@@ -29,12 +31,6 @@ number_rest at n x old new fits is =
 -- a list is its front and what stands behind it
 pub joined : (at : ℕ) (bytes front rest : List ℕ) → take at bytes ≡ front → drop at bytes ≡ rest → bytes ≡ front ++ rest
 joined at bytes front rest before behind = sym (take-append-drop at bytes) ∙ (λ i. before i ++ behind i)
-
--- what stands behind the first bytes, where a piece and a rest fill the list
-pub behind_front : (at end : ℕ) (old new piece rest : List ℕ) → at ≤ length old → length new ≡ end → take end new ≡ (take at old ++ piece) ++ rest → drop at new ≡ piece ++ rest
-behind_front at end old new piece rest fits size is =
-    ap (λ (l : List ℕ). drop at l) (sym (take_all end new (omega arith)) ∙ is ∙ append_assoc (take at old) piece rest)
-    ∙ drop_at (take at old) (piece ++ rest) at (length-take-le at old fits)
 
 -- how many zeros stand in front
 abbrev zeros_in : List ℕ → ℕ
@@ -62,7 +58,7 @@ zeros_behind x xs is = elim (cases_eq x 0) [
       absurd (omega (arith, end, is))
 ]
 
-no_place : (o : Option ℕ) (n : ℕ) → option_map (λ i. n + i) o ≡ None → o ≡ None
+pub no_place : (o : Option ℕ) (n : ℕ) → option_map (λ i. n + i) o ≡ None → o ≡ None
 no_place None n is = refl
 no_place (Some i) n is = absurd (cc)
 
@@ -72,12 +68,21 @@ zeros_by zero (x ∷ xs) size is = absurd (omega arith)
 zeros_by (suc n) [] size is = absurd (omega arith)
 zeros_by (suc n) (x ∷ xs) size is = let both = zeros_behind x xs is in λ i. both.0 i ∷ zeros_by n xs (omega arith) both.1 i
 
-unplaced : (n m : ℕ) → cond (nat_lt n m) (Some n) None ≡ None → m ≤ n
+pub unplaced : (n m : ℕ) → cond (nat_lt n m) (Some n) None ≡ None → m ≤ n
 unplaced n m is = elim (cases_Bool (nat_lt n m)) [
   | inl less ↦ absurd (let found = sym (cond-true (nat_lt n m) (Some n) None less) ∙ is in cc)
   | inr more ↦ ltb-false n m more
 ]
 
 -- so many bytes among which there is none that isn't zero
-pub all_zeros : (n : ℕ) (bytes : List ℕ) → length bytes ≡ n → option_map (λ i. 160 + i) (position (λ b. not (b == 0)) bytes) ≡ None → bytes ≡ replicate n 0
-all_zeros n bytes size none = zeros_by n bytes size (unplaced _ _ (no_place _ 160 none))
+pub all_zeros : (at n : ℕ) (bytes : List ℕ) → length bytes ≡ n → option_map (λ i. at + i) (position (λ b. not (b == 0)) bytes) ≡ None → bytes ≡ replicate n 0
+all_zeros at n bytes size none = zeros_by n bytes size (unplaced _ _ (no_place _ at none))
+
+-- a part of a sector that is zeros has none
+pub nothing_between : (at end n : ℕ) (bytes : List ℕ) → take (end - at) (drop at bytes) ≡ replicate n 0 → nonzero_between at end bytes ≡ None
+nothing_between at end n bytes zeros = ap (λ (o : Option ℕ). option_map (λ i. at + i) o) (ap (λ (l : List ℕ). position (λ b. not (b == 0)) l) zeros ∙ no_other n)
+
+-- neither of two offsets is there
+pub neither : (one other : Option ℕ) → option_or one other ≡ None → (one ≡ None) × (other ≡ None)
+neither None other is = (refl, is)
+neither (Some x) other is = absurd (cc)

@@ -6,7 +6,9 @@ use Rattle.df_base.specs.Fields.{check_of}
 use Rattle.df_base.specs.Image.{Image, written}
 use Rattle.df_base.proofs.Laws.{written_else}
 use Rattle.df_format.specs.declared.superblock.SuperCopy.{SuperCopy}
-use Rattle.df_format.specs.Super.{covered_bytes, copy_bytes}
+use Rattle.df_format.specs.declared.superblock.SuperFields.{SuperFields}
+use Rattle.df_format.specs.Super.{NamesNone, covered_bytes, copy_bytes}
+use Rattle.df_format.specs.SuperRules.{IsSuper}
 use Rattle.df_format.specs.Copies.{copy_in, if_here, copy_at, content_of}
 use Rattle.df_format.specs.CopyLaws.{WrittenCopyIsShown, OtherSectorsStay, OtherCopiesStay, CopyIsOneSector, SameSectorSameCopy}
 use Rattle.df_format.proofs.Sectors.{covered, uncovered_above, uncovered_below}
@@ -48,11 +50,15 @@ other_copies image number other f differs fits = same_copy _ image other (other_
 shown_by : (number : ℕ) (copy : SuperCopy) → copy.number ≡ number → content_of (if_here number (Some copy)) ≡ Some (record { checksum = copy.checksum; fields = copy.fields })
 shown_by number copy here = ap content_of (cond-true (copy.number == number) (Some copy) None (eq-eqb copy.number number here))
 
+-- a superblock of version 1 names nothing
+nameless_unless_second : (f : SuperFields) → IsSuper f → f.version ≢ 2 → NamesNone f
+nameless_unless_second f is other = elim is.version [ inl first ↦ first.named | inr second ↦ absurd (other second.version) ]
+
 pub written_copy : WrittenCopyIsShown
 unfolding copy_at
 written_copy image number f small is =
     let here = written_here number (copy_bytes number f) image (length-copy number f is.fits) in
-    let read = copy_is_read number f small is.fits is.rules.zero in
+    let read = copy_is_read number f small is.fits (nameless_unless_second f is.rules) is.rules.zero in
     ap (λ (bytes : List ℕ). content_of (if_here number (copy_in bytes))) here
     ∙ ap (λ (o : Option SuperCopy). content_of (if_here number o)) read
     ∙ shown_by number (record { number = number; checksum = check_of (covered_bytes f); fields = f }) refl

@@ -1,13 +1,13 @@
 -- What a maker gives of a header obeys the rules of its kind, and a unit is what its maker would make again.
-use Rattle.std.proofs.Common.{◌≡◌, ◌↔◌, ℕ, ◌+◌, ◌^◌, ◌<◌, ◌≤◌, List, [], length, refl, sym, ◌∙◌, ap, subst, arith}
+use Rattle.std.proofs.Common.{inl, inr, ◌≡◌, ◌↔◌, ℕ, ◌+◌, ◌^◌, ◌<◌, ◌≤◌, List, [], length, refl, sym, ◌∙◌, ap, subst, arith}
 use Rattle.df_base.specs.Fields.{check_of}
 use Rattle.df_base.proofs.Laws.{length-check_of, AreBytes-check_of, AreBytes-zeros}
 use Rattle.df_format.specs.declared.header.Header.{Header}
 use Rattle.df_format.specs.declared.kind.Kind.{Kind}
 use Rattle.df_format.specs.declared.kind.Kind.TheVariants.{Reserved, Prepare as AsPrepare, Reply, Block, Trailer}
 use Rattle.df_format.specs.Making.{for_body, of_kind}
-use Rattle.df_format.specs.Rules.{FitsFields, IsCounter, IsSealed, ObeysKind, ObeysRules}
-use Rattle.df_format.specs.Spelling.{IsCheck, no_checksum, sealed, spelling_rest}
+use Rattle.df_format.specs.Rules.{FitsFields, HasBoot, HasGroup, IsCounter, IsGroup, IsSealed, IsUngrouped, ObeysKind, ObeysRules, ObeysVersion}
+use Rattle.df_format.specs.Spelling.{IsCheck, no_checksum, sealed, spelling_rest, tail_of}
 use Rattle.df_format.specs.Valid.{IsBodyOf}
 
 -- ---- what a maker sees to, of the fields that its kind names
@@ -59,9 +59,46 @@ no_check = record { size = refl; each = AreBytes-zeros 16 }
 check_is : (bytes : List ℕ) → IsCheck (check_of bytes)
 check_is bytes = record { size = length-check_of bytes; each = AreBytes-check_of bytes }
 
+-- ---- the version
+
+-- a header of version 1 as its maker leaves it
+pub of_first : (kind : Kind) (h : Header) → h.version ≡ 1 → h.boot ≡ 0 → h.group ≡ 0 → h.group_last ≡ 0 → ObeysVersion kind h
+of_first kind h version boot group group_last = inl (record { version = version; boot = boot; group = group; group_last = group_last })
+
+record FitsVersion (h : Header) : Type 0 where
+  version : h.version < 2 ^ 16
+  boot : h.boot < 2 ^ 64
+  group : h.group < 2 ^ 64
+  group_last : h.group_last < 2 ^ 64
+
+boot_fits : (kind : Kind) (boot : ℕ) → HasBoot kind boot → boot < 2 ^ 64
+boot_fits Reserved boot is = omega (arith, is)
+boot_fits AsPrepare boot is = omega (arith, is.1)
+boot_fits Reply boot is = omega (arith, is.1)
+boot_fits Block boot is = omega (arith, is.1)
+boot_fits Trailer boot is = omega (arith, is.1)
+
+-- the numbers of a group, or of none
+abbrev BothFit : ℕ → ℕ → Type 0
+BothFit first last = (first < 2 ^ 64) × (last < 2 ^ 64)
+
+group_fits : (op first last : ℕ) → op ≤ 2 ^ 62 → IsGroup op first last → BothFit first last
+group_fits op first last small is = (omega (arith, small, is.begins.1), omega (arith, small, is.begins.1, is.ends.1))
+
+none_fits : (first last : ℕ) → IsUngrouped first last → BothFit first last
+none_fits first last is = (omega (arith, is.none_first), omega (arith, is.none_last))
+
+version_fits : (kind : Kind) (g : Header) → (HasGroup kind g.op g.group g.group_last → BothFit g.group g.group_last) → ObeysVersion kind g → FitsVersion g
+version_fits kind g small is = elim is [
+  | inl first ↦ record { version = omega (arith, first.version); boot = omega (arith, first.boot); group = omega (arith, first.group); group_last = omega (arith, first.group_last) }
+  | inr second ↦
+      let both = small second.group in
+      record { version = omega (arith, second.version); boot = boot_fits kind g.boot second.boot; group = both.0; group_last = both.1 }
+]
+
 fits_body : (g : Header) (body : List ℕ) → g.cluster < 2 ^ 128 → IsCheck g.parent → g.client < 2 ^ 128 → g.op < 2 ^ 64 → g.request < 2 ^ 64 → g.mark < 2 ^ 64 → g.checkpoint < 2 ^ 64
-    → 256 + length body < 2 ^ 32 → g.slot < 2 ^ 32 → g.block_kind < 256 → FitsFields (for_body g body)
-fits_body g body cluster parent client op request mark checkpoint size slot block_kind = record {
+    → 256 + length body < 2 ^ 32 → g.slot < 2 ^ 32 → g.block_kind < 256 → FitsVersion g → FitsFields (for_body g body)
+fits_body g body cluster parent client op request mark checkpoint size slot block_kind version = record {
   body = check_is body;
   cluster = cluster;
   parent = parent;
@@ -73,6 +110,10 @@ fits_body g body cluster parent client op request mark checkpoint size slot bloc
   size = size;
   slot = slot;
   block_kind = block_kind;
+  version = version.version;
+  boot = version.boot;
+  group = version.group;
+  group_last = version.group_last;
 }
 
 -- ---- it obeys the rules
@@ -84,6 +125,35 @@ module _ (cluster : ℕ) (named : (0 < cluster) × (cluster < 2 ^ 128)) (h : Hea
   none : IsCheck no_checksum
   none = no_check
 
+  version_made : (kind : Kind) → ObeysVersion kind h → ObeysVersion kind (made kind)
+  version_made Reserved is = elim is [
+    | inl first ↦ inl (record { version = first.version; boot = refl; group = refl; group_last = refl })
+    | inr second ↦ inr (record { version = second.version; boot = refl; group = record { none_first = refl; none_last = refl } })
+  ]
+  version_made AsPrepare is = elim is [
+    | inl first ↦ inl (record { version = first.version; boot = first.boot; group = first.group; group_last = first.group_last })
+    | inr second ↦ inr (record { version = second.version; boot = second.boot; group = second.group })
+  ]
+  version_made Reply is = elim is [
+    | inl first ↦ inl (record { version = first.version; boot = first.boot; group = refl; group_last = refl })
+    | inr second ↦ inr (record { version = second.version; boot = second.boot; group = record { none_first = refl; none_last = refl } })
+  ]
+  version_made Block is = elim is [
+    | inl first ↦ inl (record { version = first.version; boot = first.boot; group = refl; group_last = refl })
+    | inr second ↦ inr (record { version = second.version; boot = second.boot; group = record { none_first = refl; none_last = refl } })
+  ]
+  version_made Trailer is = elim is [
+    | inl first ↦ inl (record { version = first.version; boot = first.boot; group = refl; group_last = refl })
+    | inr second ↦ inr (record { version = second.version; boot = second.boot; group = record { none_first = refl; none_last = refl } })
+  ]
+
+  -- and so with its body
+  version_obeys : (kind : Kind) (g : Header) → ObeysVersion kind g → ObeysVersion kind (for_body g body)
+  version_obeys kind g is = elim is [
+    | inl first ↦ inl (record { version = first.version; boot = first.boot; group = first.group; group_last = first.group_last })
+    | inr second ↦ inr (record { version = second.version; boot = second.boot; group = second.group })
+  ]
+
   obeys_kind : (kind : Kind) → Gives kind h body → ObeysKind kind (for_body (made kind) body)
   obeys_kind Reserved is = record { body = ap check_of is.1; parent = refl; client = refl; op = refl; request = refl; mark = refl; checkpoint = refl; size = omega (arith, ap length is.1); block_kind = refl }
   obeys_kind AsPrepare is = record { first = is.0.first; client = is.0.client.0; op = is.0.op; request = is.0.request; mark = is.0.mark; checkpoint = is.0.checkpoint; block_kind = refl }
@@ -91,68 +161,136 @@ module _ (cluster : ℕ) (named : (0 < cluster) × (cluster < 2 ^ 128)) (h : Hea
   obeys_kind Block is = record { parent = refl; client = refl; op = is.0.op.0; request = refl; mark = refl; checkpoint = refl; slot = refl; block_kind = is.0.block_kind.0 }
   obeys_kind Trailer is = record { first = is.0.first; client = refl; op = is.0.op.0; request = is.0.request.0; checkpoint = is.0.checkpoint; slot = refl; block_kind = refl }
 
-  fits : (kind : Kind) → Gives kind h body → FitsFields (for_body (made kind) body)
-  fits Reserved is = fits_body (made Reserved) body named.1 none (omega arith) (omega arith) (omega arith) (omega arith) (omega arith) (omega (arith, ap length is.1)) is.0 (omega arith)
-  fits AsPrepare is =
+  fits : (kind : Kind) → ObeysVersion kind h → Gives kind h body → FitsFields (for_body (made kind) body)
+  fits Reserved version is = fits_body (made Reserved) body named.1 none (omega arith) (omega arith) (omega arith) (omega arith) (omega arith) (omega (arith, ap length is.1)) is.0 (omega arith)
+      (version_fits Reserved (made Reserved) (none_fits 0 0) (version_made Reserved version))
+  fits AsPrepare version is =
       fits_body (made AsPrepare) body named.1 is.0.parent is.0.client.1 (omega (arith, is.0.op.1)) (omega (arith, is.0.request.1)) (omega (arith, is.0.mark, is.0.op.1)) (omega (arith, is.0.checkpoint.1)) is.1
-      is.0.slot (omega arith)
-  fits Reply is =
+      is.0.slot (omega arith) (version_fits AsPrepare (made AsPrepare) (group_fits h.op h.group h.group_last is.0.op.1) (version_made AsPrepare version))
+  fits Reply version is =
       fits_body (made Reply) body named.1 is.0.parent is.0.client.1 (omega (arith, is.0.op.1)) (omega (arith, is.0.request.1)) (omega (arith, is.0.mark.1)) (omega (arith, is.0.checkpoint.1)) is.1 is.0.slot
-      (omega arith)
-  fits Block is = fits_body (made Block) body named.1 none (omega arith) is.0.op.1 (omega arith) (omega arith) (omega arith) is.1 (omega arith) is.0.block_kind.1
-  fits Trailer is = fits_body (made Trailer) body named.1 is.0.parent (omega arith) is.0.op.1 is.0.request.1 is.0.mark (omega (arith, is.0.checkpoint.1)) is.1 (omega arith) (omega arith)
+      (omega arith) (version_fits Reply (made Reply) (none_fits 0 0) (version_made Reply version))
+  fits Block version is = fits_body (made Block) body named.1 none (omega arith) is.0.op.1 (omega arith) (omega arith) (omega arith) is.1 (omega arith) is.0.block_kind.1
+      (version_fits Block (made Block) (none_fits 0 0) (version_made Block version))
+  fits Trailer version is = fits_body (made Trailer) body named.1 is.0.parent (omega arith) is.0.op.1 is.0.request.1 is.0.mark (omega (arith, is.0.checkpoint.1)) is.1 (omega arith) (omega arith)
+      (version_fits Trailer (made Trailer) (none_fits 0 0) (version_made Trailer version))
 
-  pub given_obeys : (kind : Kind) → Gives kind h body → ObeysRules (for_body (of_kind kind cluster h) body)
-  given_obeys Reserved is = record { fits = fits Reserved is; cluster = named.0; size = omega arith; kind = obeys_kind Reserved is }
-  given_obeys AsPrepare is = record { fits = fits AsPrepare is; cluster = named.0; size = omega arith; kind = obeys_kind AsPrepare is }
-  given_obeys Reply is = record { fits = fits Reply is; cluster = named.0; size = omega arith; kind = obeys_kind Reply is }
-  given_obeys Block is = record { fits = fits Block is; cluster = named.0; size = omega arith; kind = obeys_kind Block is }
-  given_obeys Trailer is = record { fits = fits Trailer is; cluster = named.0; size = omega arith; kind = obeys_kind Trailer is }
+  pub given_obeys : (kind : Kind) → ObeysVersion kind h → Gives kind h body → ObeysRules (for_body (of_kind kind cluster h) body)
+  given_obeys Reserved version is = record {
+    fits = fits Reserved version is;
+    cluster = named.0;
+    size = omega arith;
+    kind = obeys_kind Reserved is;
+    version = version_obeys Reserved (made Reserved) (version_made Reserved version);
+  }
+  given_obeys AsPrepare version is = record {
+    fits = fits AsPrepare version is;
+    cluster = named.0;
+    size = omega arith;
+    kind = obeys_kind AsPrepare is;
+    version = version_obeys AsPrepare (made AsPrepare) (version_made AsPrepare version);
+  }
+  given_obeys Reply version is = record {
+    fits = fits Reply version is;
+    cluster = named.0;
+    size = omega arith;
+    kind = obeys_kind Reply is;
+    version = version_obeys Reply (made Reply) (version_made Reply version);
+  }
+  given_obeys Block version is = record {
+    fits = fits Block version is;
+    cluster = named.0;
+    size = omega arith;
+    kind = obeys_kind Block is;
+    version = version_obeys Block (made Block) (version_made Block version);
+  }
+  given_obeys Trailer version is = record {
+    fits = fits Trailer version is;
+    cluster = named.0;
+    size = omega arith;
+    kind = obeys_kind Trailer is;
+    version = version_obeys Trailer (made Trailer) (version_made Trailer version);
+  }
 
 -- ---- a unit has what its kind names, and nothing else
 
-again : (kind : Kind) (h : Header) (body : List ℕ) → h.kind ≡ kind → ObeysKind kind h → IsBodyOf h body → record h { checksum = no_checksum } ≡ for_body (of_kind kind h.cluster h) body
-again Reserved h body same is has = λ i. record h {
-  checksum = no_checksum;
-  checksum_body = has.checksum i;
-  parent = is.parent i;
-  client = is.client i;
-  op = is.op i;
-  request = is.request i;
-  mark = is.mark i;
-  checkpoint = is.checkpoint i;
-  size = has.size i;
-  kind = same i;
-  block_kind = is.block_kind i;
-}
-again AsPrepare h body same is has = λ i. record h { checksum = no_checksum; checksum_body = has.checksum i; size = has.size i; kind = same i; block_kind = is.block_kind i }
-again Reply h body same is has = λ i. record h { checksum = no_checksum; checksum_body = has.checksum i; size = has.size i; kind = same i; block_kind = is.block_kind i }
-again Block h body same is has = λ i. record h {
-  checksum = no_checksum;
-  checksum_body = has.checksum i;
-  parent = is.parent i;
-  client = is.client i;
-  request = is.request i;
-  mark = is.mark i;
-  checkpoint = is.checkpoint i;
-  size = has.size i;
-  slot = is.slot i;
-  kind = same i;
-}
-again Trailer h body same is has = λ i. record h {
-  checksum = no_checksum;
-  checksum_body = has.checksum i;
-  client = is.client i;
-  size = has.size i;
-  slot = is.slot i;
-  kind = same i;
-  block_kind = is.block_kind i;
-}
+-- a unit that isn't appended with others has no group, in either version
+ungrouped : (kind : Kind) (h : Header) → (HasGroup kind h.op h.group h.group_last → IsUngrouped h.group h.group_last) → ObeysVersion kind h → IsUngrouped h.group h.group_last
+ungrouped kind h alone is = elim is [ inl first ↦ record { none_first = first.group; none_last = first.group_last } | inr second ↦ alone second.group ]
+
+-- a reserved header no boot
+unbooted : (h : Header) → ObeysVersion Reserved h → h.boot ≡ 0
+unbooted h is = elim is [ inl first ↦ first.boot | inr second ↦ second.boot ]
+
+again : (kind : Kind) (h : Header) (body : List ℕ) → h.kind ≡ kind → ObeysKind kind h → ObeysVersion kind h → IsBodyOf h body → record h { checksum = no_checksum } ≡ for_body (of_kind kind h.cluster h) body
+again Reserved h body same is version has =
+    let boot = unbooted h version in
+    let none = ungrouped Reserved h (λ group. group) version in
+    λ i. record h {
+      checksum = no_checksum;
+      checksum_body = has.checksum i;
+      parent = is.parent i;
+      client = is.client i;
+      op = is.op i;
+      request = is.request i;
+      mark = is.mark i;
+      checkpoint = is.checkpoint i;
+      size = has.size i;
+      kind = same i;
+      block_kind = is.block_kind i;
+      boot = boot i;
+      group = none.none_first i;
+      group_last = none.none_last i;
+    }
+again AsPrepare h body same is version has = λ i. record h { checksum = no_checksum; checksum_body = has.checksum i; size = has.size i; kind = same i; block_kind = is.block_kind i }
+again Reply h body same is version has =
+    let none = ungrouped Reply h (λ group. group) version in
+    λ i. record h {
+      checksum = no_checksum;
+      checksum_body = has.checksum i;
+      size = has.size i;
+      kind = same i;
+      block_kind = is.block_kind i;
+      group = none.none_first i;
+      group_last = none.none_last i;
+    }
+again Block h body same is version has =
+    let none = ungrouped Block h (λ group. group) version in
+    λ i. record h {
+      checksum = no_checksum;
+      checksum_body = has.checksum i;
+      parent = is.parent i;
+      client = is.client i;
+      request = is.request i;
+      mark = is.mark i;
+      checkpoint = is.checkpoint i;
+      size = has.size i;
+      slot = is.slot i;
+      kind = same i;
+      group = none.none_first i;
+      group_last = none.none_last i;
+    }
+again Trailer h body same is version has =
+    let none = ungrouped Trailer h (λ group. group) version in
+    λ i. record h {
+      checksum = no_checksum;
+      checksum_body = has.checksum i;
+      client = is.client i;
+      size = has.size i;
+      slot = is.slot i;
+      kind = same i;
+      block_kind = is.block_kind i;
+      group = none.none_first i;
+      group_last = none.none_last i;
+    }
 
 resealed : (h : Header) → IsSealed h → sealed (record h { checksum = no_checksum }) ≡ h
-unfolding spelling_rest
+unfolding spelling_rest tail_of
 resealed h is = λ i. record h { checksum = sym is.checksum i }
 
 -- a sealed header with its body is what is made of the fields that its kind names
 pub made_again : (kind : Kind) (h : Header) (body : List ℕ) → h.kind ≡ kind → IsSealed h → IsBodyOf h body → sealed (for_body (of_kind kind h.cluster h) body) ≡ h
-made_again kind h body same is has = ap sealed (sym (again kind h body same (subst (λ (k : Kind). ObeysKind k h) same is.rules.kind) has)) ∙ resealed h is
+made_again kind h body same is has =
+    let kind_of = subst (λ (k : Kind). ObeysKind k h) same is.rules.kind in
+    let version = subst (λ (k : Kind). ObeysVersion k h) same is.rules.version in
+    ap sealed (sym (again kind h body same kind_of version has)) ∙ resealed h is

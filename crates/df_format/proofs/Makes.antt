@@ -1,12 +1,12 @@
 -- What is made is a unit, and its sectors stand at the front of the buffer.
-use Rattle.std.proofs.Common.{◌≡◌, ℕ, ◌+◌, ◌-◌, ◌≤◌, List, [], ◌++◌, length, take, drop, replicate, refl, sym, ◌∙◌, ap, subst, arith}
+use Rattle.std.proofs.Common.{inl, inr, ◌≡◌, ℕ, ◌+◌, ◌-◌, ◌≤◌, List, [], ◌++◌, length, take, drop, replicate, refl, sym, ◌∙◌, ap, subst, arith}
 use Rattle.std.proofs.lemmas.List.{drop-drop}
 use Rattle.df_base.specs.Fields.{AreBytes}
 use Rattle.df_format.specs.declared.header.Header.{Header}
-use Rattle.df_format.specs.Spelling.{spelling, spelling_rest, sealed}
+use Rattle.df_format.specs.Spelling.{spelling, spelling_rest, sealed, tail_of}
 use Rattle.df_format.specs.declared.kind.Kind.{Kind}
 use Rattle.df_format.specs.declared.kind.Kind.TheVariants.{Reserved, Prepare as AsPrepare, Reply, Block, Trailer}
-use Rattle.df_format.specs.Rules.{ObeysKind, ObeysRules, IsSealed}
+use Rattle.df_format.specs.Rules.{ObeysKind, ObeysVersion, ObeysRules, IsSealed}
 use Rattle.df_format.specs.Message.{Message, sectors_of, sectors_end}
 use Rattle.df_format.specs.Making.{for_body}
 use Rattle.df_format.specs.UnitLaws.{MadeIsUnit}
@@ -22,9 +22,15 @@ kind_sealed Reply h is = record { client = is.client; op = is.op; request = is.r
 kind_sealed Block h is = record { parent = is.parent; client = is.client; op = is.op; request = is.request; mark = is.mark; checkpoint = is.checkpoint; slot = is.slot; block_kind = is.block_kind }
 kind_sealed Trailer h is = record { first = is.first; client = is.client; op = is.op; request = is.request; checkpoint = is.checkpoint; slot = is.slot; block_kind = is.block_kind }
 
+version_sealed : (kind : Kind) (h : Header) → ObeysVersion kind h → ObeysVersion kind (sealed h)
+version_sealed kind h is = elim is [
+  | inl first ↦ inl (record { version = first.version; boot = first.boot; group = first.group; group_last = first.group_last })
+  | inr second ↦ inr (record { version = second.version; boot = second.boot; group = second.group })
+]
+
 -- so a header that is sealed obeys them
 pub sealed_is : (h : Header) → ObeysRules h → IsSealed (sealed h)
-unfolding spelling_rest
+unfolding spelling_rest tail_of
 sealed_is h is = record {
   rules = record {
     fits = record {
@@ -39,10 +45,15 @@ sealed_is h is = record {
       size = is.fits.size;
       slot = is.fits.slot;
       block_kind = is.fits.block_kind;
+      version = is.fits.version;
+      boot = is.fits.boot;
+      group = is.fits.group;
+      group_last = is.fits.group_last;
     };
     cluster = is.cluster;
     size = is.size;
     kind = kind_sealed h.kind h is.kind;
+    version = version_sealed h.kind h is.version;
   };
   checksum = refl;
 }

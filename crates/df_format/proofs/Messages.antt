@@ -6,7 +6,7 @@ use Rattle.df_base.proofs.Laws.{AreBytes-check_of, AreBytes-spelled, AreBytes-ap
 use Rattle.df_format.specs.declared.header.Header.{Header}
 use Rattle.df_format.specs.declared.kind.Kind.{Kind}
 use Rattle.df_format.specs.declared.kind.Kind.TheVariants.{Reserved, Prepare, Reply, Block, Trailer}
-use Rattle.df_format.specs.Spelling.{code_of, header_version, spelling, spelling_rest, tail_of}
+use Rattle.df_format.specs.Spelling.{code_of, spelling, spelling_rest, tail_of}
 use Rattle.df_format.specs.Rules.{IsSealed}
 use Rattle.df_format.specs.Message.{Message, unit_of, sectors_of, sectors_end}
 use Rattle.df_format.proofs.Spelled.{length-spelling}
@@ -19,10 +19,6 @@ unfolding sectors_of
 length-sectors u is =
     let n : ℕ = 256 + length u.body in
     omega (arith, length-append (unit_of u) (replicate (sectors_end n - n) 0), length-unit u is, length-replicate {A = ℕ} (sectors_end n - n) 0)
-
-AreBytes-tail : (number : ℕ) → AreBytes (tail_of number)
-unfolding tail_of
-AreBytes-tail number = AreBytes-append (spelled 2 number) (replicate 132 0) (AreBytes-spelled 2 number) (AreBytes-zeros 132)
 
 code-small : (kind : Kind) → code_of kind < 256
 code-small Reserved = omega arith
@@ -37,10 +33,18 @@ AreBytes-kind kind block_kind rest small are = AreBytes-cons (code_of kind) (blo
 number : (n x : ℕ) (rest : List ℕ) → AreBytes rest → AreBytes (spelled n x ++ rest)
 number n x rest are = AreBytes-append (spelled n x) rest (AreBytes-spelled n x) are
 
+AreBytes-tail : (h : Header) → AreBytes (tail_of h)
+unfolding tail_of
+AreBytes-tail h =
+    let r140 : List ℕ = spelled 8 h.group_last ++ replicate 108 0 in
+    let r132 : List ℕ = spelled 8 h.group ++ r140 in
+    let r124 : List ℕ = spelled 8 h.boot ++ r132 in
+    number 2 h.version r124 (number 8 h.boot r132 (number 8 h.group r140 (number 8 h.group_last (replicate 108 0) (AreBytes-zeros 108))))
+
 AreBytes-rest : (h : Header) → IsSealed h → AreBytes (spelling_rest h)
 unfolding spelling_rest
 AreBytes-rest h is =
-    let r120 : List ℕ = code_of h.kind ∷ (h.block_kind ∷ tail_of header_version) in
+    let r120 : List ℕ = code_of h.kind ∷ (h.block_kind ∷ tail_of h) in
     let r116 : List ℕ = spelled 4 h.slot ++ r120 in
     let r112 : List ℕ = spelled 4 h.size ++ r116 in
     let r104 : List ℕ = spelled 8 h.checkpoint ++ r112 in
@@ -48,7 +52,7 @@ AreBytes-rest h is =
     let r88 : List ℕ = spelled 8 h.request ++ r96 in
     let r80 : List ℕ = spelled 8 h.op ++ r88 in
     let r64 : List ℕ = spelled 16 h.client ++ r80 in
-    let b80 : AreBytes r80 = number 8 h.op r88 (number 8 h.request r96 (number 8 h.mark r104 (number 8 h.checkpoint r112 (number 4 h.size r116 (number 4 h.slot r120 (AreBytes-kind h.kind h.block_kind (tail_of header_version) is.rules.fits.block_kind (AreBytes-tail header_version))))))) in
+    let b80 : AreBytes r80 = number 8 h.op r88 (number 8 h.request r96 (number 8 h.mark r104 (number 8 h.checkpoint r112 (number 4 h.size r116 (number 4 h.slot r120 (AreBytes-kind h.kind h.block_kind (tail_of h) is.rules.fits.block_kind (AreBytes-tail h))))))) in
     let b48 : AreBytes (h.parent ++ r64) = AreBytes-append h.parent r64 is.rules.fits.parent.each (number 16 h.client r80 b80) in
     AreBytes-append h.checksum_body (spelled 16 h.cluster ++ (h.parent ++ r64)) is.rules.fits.body.each (number 16 h.cluster (h.parent ++ r64) b48)
 

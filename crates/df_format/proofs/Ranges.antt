@@ -1,5 +1,5 @@
--- The rules of each kind, as the tests have them and as facts.
-use Rattle.std.proofs.Common.{inl, inr, ◌≡◌, ◌↔◌, ◌<◌, ◌≤◌, ◌^◌, ◌==◌, ◌||◌, ◌&&◌, ℕ, Bool, true, false, not, List, [], refl, cond, arith}
+-- The rules of each kind and of each version, as the tests have them and as facts.
+use Rattle.std.proofs.Common.{inl, inr, ◌≡◌, ◌↔◌, ◌<◌, ◌≤◌, ◌+◌, ◌^◌, ◌==◌, ◌||◌, ◌&&◌, ℕ, Bool, true, false, not, List, [], refl, cond, arith}
 use Rattle.std.proofs.lemmas.Bool.{and_parts, and_from, or_cases, or_left, or_right, both_ways, not-true, not_from_false, ltb-true, lt-ltb, leb-true, le-leb, eqb-true, eq-eqb, ne_eqb, cases_eq}
 use Rattle.std.proofs.lemmas.Slice.Eq.{bytes_eq-Decides}
 use Rattle.std.specs.Prelude.{nat_lt}
@@ -9,14 +9,15 @@ use Rattle.df_format.specs.declared.header.Header.{Header}
 use Rattle.df_format.specs.declared.kind.Kind.{Kind}
 use Rattle.df_format.specs.declared.kind.Kind.TheVariants.{Reserved, Prepare, Reply, Block, Trailer}
 use Rattle.df_format.specs.Spelling.{no_checksum}
-use Rattle.df_format.specs.Rules.{IsCounter, ObeysReserved, ObeysPrepare, ObeysReply, ObeysBlock, ObeysTrailer, ObeysKind}
-use Rattle.df_format.specs.Reading.{is_counter, is_prepare, is_reply, is_bare, is_reserved, is_block, is_linked, is_trailer, is_of_kind, has_numbers}
+use Rattle.df_format.specs.Rules.{HasBoot, HasGroup, IsCounter, IsGroup, IsUngrouped, ObeysReserved, ObeysPrepare, ObeysReply, ObeysBlock, ObeysTrailer, ObeysKind, ObeysFirst, ObeysSecond, ObeysVersion}
+use Rattle.df_format.specs.Reading.{is_counter, is_prepare, is_reply, is_bare, is_reserved, is_block, is_linked, is_trailer, is_of_kind, is_ungrouped, is_grouped, is_first, has_boot, has_group, is_second, has_version, has_numbers}
 
 -- the numbers of a header are in their ranges
 pub record AreInRange (h : Header) : Type 0 where
   pub cluster : 0 < h.cluster
   pub size : 256 ≤ h.size
   pub kind : ObeysKind h.kind h
+  pub version : ObeysVersion h.kind h
 
 counter : (n : ℕ) → is_counter n ≡ true → IsCounter n
 counter n is = let t = and_parts _ _ is in (ltb-true _ _ t.0, leb-true _ _ t.1)
@@ -261,13 +262,107 @@ obeys_kind Reply h is = obeys_reply h is
 obeys_kind Block h is = obeys_block h is
 obeys_kind Trailer h is = obeys_trailer h is
 
+-- ---- the version
+
+ungrouped : (h : Header) → is_ungrouped h ≡ true → IsUngrouped h.group h.group_last
+unfolding is_ungrouped
+ungrouped h is = let a = and_parts _ _ is in record { none_first = eqb-true _ _ a.0; none_last = eqb-true _ _ a.1 }
+
+passes_ungrouped : (h : Header) → IsUngrouped h.group h.group_last → is_ungrouped h ≡ true
+unfolding is_ungrouped
+passes_ungrouped h is = and_from _ _ (eq-eqb h.group 0 is.none_first) (eq-eqb h.group_last 0 is.none_last)
+
+grouped : (h : Header) → is_grouped h ≡ true → IsGroup h.op h.group h.group_last
+unfolding is_grouped
+grouped h is =
+    let a = and_parts _ _ is in
+    let b = and_parts _ _ a.0 in
+    let c = and_parts _ _ b.0 in
+    record { begins = (ltb-true _ _ c.0, leb-true _ _ c.1); ends = (leb-true _ _ b.1, leb-true _ _ a.1) }
+
+passes_grouped : (h : Header) → IsGroup h.op h.group h.group_last → is_grouped h ≡ true
+unfolding is_grouped
+passes_grouped h is =
+    let c = and_from _ _ (lt-ltb 0 h.group is.begins.0) (le-leb h.group h.op is.begins.1) in
+    let b = and_from _ _ c (le-leb h.op h.group_last is.ends.0) in
+    and_from _ _ b (le-leb h.group_last (h.group + 7) is.ends.1)
+
+first_obeys : (h : Header) → is_first h ≡ true → ObeysFirst h
+unfolding is_first
+first_obeys h is =
+    let a = and_parts _ _ is in
+    let b = and_parts _ _ a.0 in
+    let none = ungrouped h a.1 in
+    record { version = eqb-true _ _ b.0; boot = eqb-true _ _ b.1; group = none.none_first; group_last = none.none_last }
+
+obeys_first : (h : Header) → ObeysFirst h → is_first h ≡ true
+unfolding is_first
+obeys_first h is =
+    let b = and_from _ _ (eq-eqb h.version 1 is.version) (eq-eqb h.boot 0 is.boot) in
+    and_from _ _ b (passes_ungrouped h (record { none_first = is.group; none_last = is.group_last }))
+
+boot_obeys : (kind : Kind) (h : Header) → has_boot kind h ≡ true → HasBoot kind h.boot
+boot_obeys Reserved h is = eqb-true _ _ is
+boot_obeys Prepare h is = counter h.boot is
+boot_obeys Reply h is = counter h.boot is
+boot_obeys Block h is = counter h.boot is
+boot_obeys Trailer h is = counter h.boot is
+
+obeys_boot : (kind : Kind) (h : Header) → HasBoot kind h.boot → has_boot kind h ≡ true
+obeys_boot Reserved h is = eq-eqb h.boot 0 is
+obeys_boot Prepare h is = passes_counter h.boot is
+obeys_boot Reply h is = passes_counter h.boot is
+obeys_boot Block h is = passes_counter h.boot is
+obeys_boot Trailer h is = passes_counter h.boot is
+
+group_obeys : (kind : Kind) (h : Header) → has_group kind h ≡ true → HasGroup kind h.op h.group h.group_last
+group_obeys Reserved h is = ungrouped h is
+group_obeys Prepare h is = grouped h is
+group_obeys Reply h is = ungrouped h is
+group_obeys Block h is = ungrouped h is
+group_obeys Trailer h is = ungrouped h is
+
+obeys_group : (kind : Kind) (h : Header) → HasGroup kind h.op h.group h.group_last → has_group kind h ≡ true
+obeys_group Reserved h is = passes_ungrouped h is
+obeys_group Prepare h is = passes_grouped h is
+obeys_group Reply h is = passes_ungrouped h is
+obeys_group Block h is = passes_ungrouped h is
+obeys_group Trailer h is = passes_ungrouped h is
+
+second_obeys : (kind : Kind) (h : Header) → is_second kind h ≡ true → ObeysSecond kind h
+unfolding is_second
+second_obeys kind h is =
+    let a = and_parts _ _ is in
+    let b = and_parts _ _ a.0 in
+    record { version = eqb-true _ _ b.0; boot = boot_obeys kind h b.1; group = group_obeys kind h a.1 }
+
+obeys_second : (kind : Kind) (h : Header) → ObeysSecond kind h → is_second kind h ≡ true
+unfolding is_second
+obeys_second kind h is =
+    let b = and_from _ _ (eq-eqb h.version 2 is.version) (obeys_boot kind h is.boot) in
+    and_from _ _ b (obeys_group kind h is.group)
+
+version_obeys : (h : Header) → has_version h ≡ true → ObeysVersion h.kind h
+version_obeys h is = elim (or_cases _ _ is) [
+  | inl first ↦ inl (first_obeys h first)
+  | inr second ↦ inr (second_obeys h.kind h second)
+]
+
+obeys_version : (h : Header) → ObeysVersion h.kind h → has_version h ≡ true
+obeys_version h is = elim is [
+  | inl first ↦ or_left _ _ (obeys_first h first)
+  | inr second ↦ or_right _ _ (obeys_second h.kind h second)
+]
+
 pub in_range : (h : Header) → has_numbers h ≡ true → AreInRange h
 in_range h is =
     let a = and_parts _ _ is in
     let b = and_parts _ _ a.0 in
-    record { cluster = ltb-true _ _ b.0; size = leb-true _ _ b.1; kind = kind_obeys h.kind h a.1 }
+    let c = and_parts _ _ b.0 in
+    record { cluster = ltb-true _ _ c.0; size = leb-true _ _ c.1; kind = kind_obeys h.kind h b.1; version = version_obeys h a.1 }
 
 pub passes : (h : Header) → AreInRange h → has_numbers h ≡ true
 passes h is =
     let both = and_from _ _ (lt-ltb 0 h.cluster is.cluster) (le-leb 256 h.size is.size) in
-    and_from _ _ both (obeys_kind h.kind h is.kind)
+    let kind = and_from _ _ both (obeys_kind h.kind h is.kind) in
+    and_from _ _ kind (obeys_version h is.version)

@@ -3,9 +3,10 @@ use Rattle.std.proofs.Common.{◌≡◌, ◌≢◌, ◌≤◌, ◌-◌, ◌*◌,
 use Rattle.std.proofs.lemmas.Bool.{cond-true, cond-false, and_parts, and_from, eqb-true, eq-eqb, leb-true, le-leb, false_from_ne_true}
 use Rattle.std.proofs.lemmas.List.{take_at, drop_at, take-append-drop, length-take-le, length-drop}
 use Rattle.std.proofs.lemmas.Slice.Eq.{bytes_eq-Decides}
+use Rattle.std.specs.Prelude.{slice_index}
 use Rattle.std.specs.Str.{bytes_eq}
 use Rattle.std.proofs.lemmas.Option.{cond_some, same_Some}
-use Rattle.df_base.specs.Fields.{AreBytes, check_of, spelled}
+use Rattle.df_base.specs.Fields.{AreBytes, check_of}
 use Rattle.df_base.proofs.Laws.{AreBytes-take, AreBytes-drop, cond_there}
 use Rattle.df_base.specs.Image.{Image}
 use Rattle.df_layout.specs.declared.damage.Class.{Class}
@@ -16,7 +17,9 @@ use Rattle.df_layout.specs.declared.places.Zone.{Zone}
 use Rattle.df_layout.specs.declared.places.Zone.TheVariants.{Superblock, WalHeaders, WalPrepares, ClientReplies, Grid}
 use Rattle.df_layout.specs.Spans.{HasPlace, place_sectors}
 use Rattle.df_format.specs.declared.header.Header.{Header}
-use Rattle.df_format.specs.Spelling.{header_version, spelling, tail_of}
+use Rattle.df_format.specs.declared.kind.Kind.{Kind}
+use Rattle.df_format.specs.declared.kind.Kind.TheVariants.{Reserved, Prepare, Reply, Block, Trailer}
+use Rattle.df_format.specs.Spelling.{code_of, spelling}
 use Rattle.df_format.specs.Rules.{IsSealed}
 use Rattle.df_format.specs.Reading.{header_in}
 use Rattle.df_format.specs.Message.{Message}
@@ -224,13 +227,17 @@ one_unit layout cluster place bytes u size are = (
   λ begun. begun_is_shown layout cluster place bytes u begun,
 )
 
-zeros_are_no_version : take 134 (drop 122 (replicate 256 0)) ≡ tail_of header_version → ⊥
-unfolding tail_of spelled
-zeros_are_no_version is = cc
+-- no kind has the code 0
+zero_is_no_code : (kind : Kind) → 0 ≡ code_of kind → ⊥
+zero_is_no_code Reserved is = omega (arith, is)
+zero_is_no_code Prepare is = omega (arith, is)
+zero_is_no_code Reply is = omega (arith, is)
+zero_is_no_code Block is = omega (arith, is)
+zero_is_no_code Trailer is = omega (arith, is)
 
 -- zeros are no header
 pub zeros_are_none : (bytes : List ℕ) (h : Header) → take 256 bytes ≡ replicate 256 0 → header_in (take 256 bytes) ≡ Some h → ⊥
-zeros_are_none bytes h zeros is = zeros_are_no_version (subst (λ (l : List ℕ). take 134 (drop 122 l) ≡ tail_of header_version) zeros (read_as _ _ is).version)
+zeros_are_none bytes h zeros is = zero_is_no_code h.kind (subst (λ (l : List ℕ). slice_index l 120 ≡ code_of h.kind) zeros (read_as _ _ is).code)
 
 pub blank-true : (bytes : List ℕ) → is_blank bytes ≡ true → take 256 bytes ≡ replicate 256 0
 unfolding is_blank

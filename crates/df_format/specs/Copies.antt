@@ -1,5 +1,6 @@
 -- The copy of the superblock that a sector is, and what the four sectors of an image say.
-use Rattle.std.specs.Prelude.{◌+◌, ◌==◌, ◌&&◌, ℕ, Bool, not, nat_lt, if◌then◌else◌, List, take, drop, replicate, position, option_map, Option, Some, None, Result, Ok, Err}
+use Rattle.std.specs.Prelude.{◌+◌, ◌-◌, ◌*◌, ◌==◌, ◌&&◌, ℕ, zero, suc, Bool, not, nat_lt, if◌then◌else◌, List, [], ◌∷◌, take, drop, replicate, position, option_map, Option, Some, None, Result, Ok, Err}
+use Rattle.std.specs.Option.{option_or}
 use Rattle.std.specs.Str.{bytes_eq}
 use Rattle.df_base.specs.Fields.{field_at, check_of}
 use Rattle.df_base.specs.Image.{Image}
@@ -11,9 +12,19 @@ use Rattle.df_format.specs.Super.{covered_bytes}
 use Rattle.df_format.specs.declared.superblock.SuperFields.{SuperFields}
 use Rattle.df_format.specs.declared.superblock.SuperCopy.{SuperCopy}
 
--- the offset of the first byte behind the fields that isn't zero
-abbrev pub first_nonzero_of : List ℕ → Option ℕ
-first_nonzero_of bytes = option_map (λ i. 160 + i) (position (λ b. not (b == 0)) (drop 160 bytes))
+-- the offset of the first byte from one offset up to another that isn't zero
+abbrev pub nonzero_between : ℕ → ℕ → List ℕ → Option ℕ
+nonzero_between at end bytes = option_map (λ i. at + i) (position (λ b. not (b == 0)) (take (end - at) (drop at bytes)))
+
+-- the offset of the first byte that isn't zero where the version has no fields: in version 2 between the checksum of the head's
+-- prepare and those of the replies, and behind these; in any other behind the boot
+abbrev pub first_nonzero_of : ℕ → List ℕ → Option ℕ
+first_nonzero_of version bytes = if version == 2 then option_or (nonzero_between 176 192 bytes) (nonzero_between 1216 4096 bytes) else nonzero_between 160 4096 bytes
+
+-- so many checksums, one behind the other from an offset on
+unfoldable pub checks_at : ℕ → ℕ → List ℕ → List (List ℕ)
+checks_at zero at bytes = []
+checks_at (suc n) at bytes = take 16 (drop at bytes) ∷ checks_at n (at + 16) bytes
 
 -- the fields as they stand at their offsets
 unfoldable pub super_fields_of : List ℕ → SuperFields
@@ -34,7 +45,9 @@ super_fields_of bytes = record {
   trailer_checksum = take 16 (drop 128 bytes);
   trailer_size = field_at 8 144 bytes;
   boot = field_at 8 152 bytes;
-  first_nonzero = first_nonzero_of bytes;
+  head_checksum = take 16 (drop 160 bytes);
+  reply_checksums = checks_at 64 192 bytes;
+  first_nonzero = first_nonzero_of (field_at 4 32 bytes) bytes;
 }
 
 -- the checksum is that of all behind the number and its zeros
@@ -79,9 +92,9 @@ content_at image number = content_of (copy_at image number)
 abbrev pub content_with : SuperFields → Content
 content_with f = record { checksum = check_of (covered_bytes f); fields = f }
 
--- the order of contents: the later one is greater
+-- the order of contents, whatever their version: by sequence, and by boot where these are equal; a boot is below 2^64
 abbrev pub rank_of : Content → ℕ
-rank_of c = c.fields.sequence
+rank_of c = 18446744073709551616 * c.fields.sequence + c.fields.boot
 
 -- all bytes of the sector are zero, as one that was never written shows
 unfoldable pub is_blank_copy : List ℕ → Bool

@@ -1,25 +1,30 @@
 -- What holds of every copy of the superblock, sector and image: what the layers above rest on.
-use Rattle.std.specs.Prelude.{◌≡◌, ◌≢◌, ◌↔◌, ◌<◌, ℕ, List, Some, None}
+use Rattle.std.specs.Prelude.{◌≡◌, ◌≢◌, ◌↔◌, ◌<◌, ℕ, List, replicate, Some, None}
 use Rattle.df_base.specs.Fields.{check_of}
 use Rattle.df_base.specs.Image.{Image, IsSector, IsPiece, blank, written}
 use Rattle.df_layout.specs.declared.damage.Class.TheVariants.{Stale}
-use Rattle.df_format.specs.Super.{FitsSuper, covered_bytes, copy_bytes}
+use Rattle.df_format.specs.Super.{FitsSuper, NamesNone, covered_bytes, copy_bytes, named_bytes}
 use Rattle.df_format.specs.SuperRules.{IsUsable}
 use Rattle.df_format.specs.Copies.{copy_in, copy_at, content_at, content_with, class_of_copy}
 use Rattle.df_format.specs.declared.superblock.SuperFields.{SuperFields}
 use Rattle.df_format.specs.declared.superblock.SuperCopy.{SuperCopy}
 
--- a copy as it is written: one of the four, with the checksum that its fields give, and zeros behind them
+-- a copy as it is written: one of the four, with the checksum that its fields give, and zeros where its version has no fields
 pub record IsWritten (copy : SuperCopy) : Type 0 where
   pub number : copy.number < 4
   pub fits : FitsSuper copy.fields
+  pub named : copy.fields.version ≢ 2 → NamesNone copy.fields
   pub checksum : copy.checksum ≡ check_of (covered_bytes copy.fields)
 
--- a sector is read as a copy with zeros behind its fields exactly where it is that copy's spelling
+-- a sector is read as a copy with zeros where its version has no fields exactly where it is that copy's spelling
 abbrev pub CopiesHaveOneSpelling : Type 0
 CopiesHaveOneSpelling =
     (bytes : List ℕ) (copy : SuperCopy) → IsSector bytes → copy.fields.first_nonzero ≡ None
     → (copy_in bytes ≡ Some copy) ↔ (IsWritten copy × (bytes ≡ copy_bytes copy.number copy.fields))
+
+-- behind its boot a copy that names nothing ends in zeros
+abbrev pub NamelessEndsInZeros : Type 0
+NamelessEndsInZeros = (f : SuperFields) → FitsSuper f → NamesNone f → named_bytes f ≡ replicate 3936 0
 
 -- a copy that is written is shown at its own place, whatever was there before
 abbrev pub WrittenCopyIsShown : Type 0

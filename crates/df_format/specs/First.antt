@@ -2,6 +2,7 @@
 use Rattle.std.specs.Prelude.{ℕ, None}
 use Rattle.df_layout.specs.declared.layout.Layout.{Layout}
 use Rattle.df_format.specs.Spelling.{no_checksum}
+use Rattle.df_format.specs.Super.{no_checksums}
 use Rattle.df_format.specs.Copies.{Content, content_with}
 use Rattle.df_format.specs.declared.superblock.SuperFields.{SuperFields}
 
@@ -24,6 +25,8 @@ blank_super layout cluster = record {
   trailer_checksum = no_checksum;
   trailer_size = 0;
   boot = 0;
+  head_checksum = no_checksum;
+  reply_checksums = no_checksums;
   first_nonzero = None;
 }
 

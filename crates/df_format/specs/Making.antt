@@ -6,7 +6,7 @@ use Rattle.df_format.specs.declared.kind.Kind.{Kind}
 use Rattle.df_format.specs.declared.kind.Kind.TheVariants.{Reserved, Prepare, Reply, Block, Trailer}
 use Rattle.df_format.specs.Spelling.{no_checksum}
 
--- a header of this kind and cluster that says nothing else: all other fields are zero
+-- a header of version 1, this kind and this cluster that says nothing else: all other fields are zero
 abbrev pub blank_header : Kind → ℕ → Header
 blank_header kind cluster = record {
   checksum = no_checksum;
@@ -22,11 +22,15 @@ blank_header kind cluster = record {
   slot = 0;
   kind = kind;
   block_kind = 0;
+  version = 1;
+  boot = 0;
+  group = 0;
+  group_last = 0;
 }
 
 -- the fields that each kind names, as a header has them; size and checksums follow from these and the body, and all others are zero
 abbrev pub of_kind : Kind → ℕ → Header → Header
-of_kind Reserved cluster h = record (blank_header Reserved cluster) { slot = h.slot }
+of_kind Reserved cluster h = record (blank_header Reserved cluster) { slot = h.slot; version = h.version }
 of_kind Prepare cluster h = record (blank_header Prepare cluster) {
   parent = h.parent;
   client = h.client;
@@ -35,6 +39,10 @@ of_kind Prepare cluster h = record (blank_header Prepare cluster) {
   mark = h.mark;
   checkpoint = h.checkpoint;
   slot = h.slot;
+  version = h.version;
+  boot = h.boot;
+  group = h.group;
+  group_last = h.group_last;
 }
 of_kind Reply cluster h = record (blank_header Reply cluster) {
   parent = h.parent;
@@ -44,14 +52,18 @@ of_kind Reply cluster h = record (blank_header Reply cluster) {
   mark = h.mark;
   checkpoint = h.checkpoint;
   slot = h.slot;
+  version = h.version;
+  boot = h.boot;
 }
-of_kind Block cluster h = record (blank_header Block cluster) { op = h.op; block_kind = h.block_kind }
+of_kind Block cluster h = record (blank_header Block cluster) { op = h.op; block_kind = h.block_kind; version = h.version; boot = h.boot }
 of_kind Trailer cluster h = record (blank_header Trailer cluster) {
   parent = h.parent;
   op = h.op;
   request = h.request;
   mark = h.mark;
   checkpoint = h.checkpoint;
+  version = h.version;
+  boot = h.boot;
 }
 
 -- a header with the fields that follow from the body

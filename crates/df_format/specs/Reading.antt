@@ -1,11 +1,11 @@
 -- The fields of a header at their offsets, and the tests that its bytes have to pass.
-use Rattle.std.specs.Prelude.{◌^◌, ◌==◌, ℕ, List, [], Bool, ◌&&◌, ◌||◌, not, nat_lt, nat_le, if◌then◌else◌, take, drop, slice_index, Option, Some, None}
+use Rattle.std.specs.Prelude.{◌+◌, ◌^◌, ◌==◌, ℕ, List, [], Bool, ◌&&◌, ◌||◌, not, nat_lt, nat_le, if◌then◌else◌, take, drop, replicate, slice_index, Option, Some, None}
 use Rattle.std.specs.Str.{bytes_eq}
 use Rattle.df_base.specs.Fields.{field_at, check_of}
 use Rattle.df_format.specs.declared.header.Header.{Header}
 use Rattle.df_format.specs.declared.kind.Kind.{Kind}
 use Rattle.df_format.specs.declared.kind.Kind.TheVariants.{Reserved, Prepare, Reply, Block, Trailer}
-use Rattle.df_format.specs.Spelling.{header_version, no_checksum, tail_of}
+use Rattle.df_format.specs.Spelling.{no_checksum}
 
 -- the kind of a code
 unfoldable pub kind_of : ℕ → Option Kind
@@ -29,6 +29,10 @@ fields_of kind bytes = record {
   slot = field_at 4 116 bytes;
   kind = kind;
   block_kind = slice_index bytes 121;
+  version = field_at 2 122 bytes;
+  boot = field_at 8 124 bytes;
+  group = field_at 8 132 bytes;
+  group_last = field_at 8 140 bytes;
 }
 
 -- a number from 1 to 2 ^ 62
@@ -96,17 +100,53 @@ is_of_kind Reply h = is_reply h
 is_of_kind Block h = is_block h
 is_of_kind Trailer h = is_trailer h
 
+-- no group
+unfoldable pub is_ungrouped : Header → Bool
+is_ungrouped h = (h.group == 0) && (h.group_last == 0)
+
+-- a group of at most eight ops, one of which is the header's
+unfoldable pub is_grouped : Header → Bool
+is_grouped h = nat_lt 0 h.group && nat_le h.group h.op && nat_le h.op h.group_last && nat_le h.group_last (h.group + 7)
+
+-- neither a boot nor a group, as in version 1
+unfoldable pub is_first : Header → Bool
+is_first h = (h.version == 1) && (h.boot == 0) && is_ungrouped h
+
+-- the boot of version 2
+abbrev pub has_boot : Kind → Header → Bool
+has_boot Reserved h = h.boot == 0
+has_boot Prepare h = is_counter h.boot
+has_boot Reply h = is_counter h.boot
+has_boot Block h = is_counter h.boot
+has_boot Trailer h = is_counter h.boot
+
+-- and its group
+abbrev pub has_group : Kind → Header → Bool
+has_group Reserved h = is_ungrouped h
+has_group Prepare h = is_grouped h
+has_group Reply h = is_ungrouped h
+has_group Block h = is_ungrouped h
+has_group Trailer h = is_ungrouped h
+
+-- what a header says as one of version 2
+unfoldable pub is_second : Kind → Header → Bool
+is_second kind h = (h.version == 2) && has_boot kind h && has_group kind h
+
+-- one of the two versions
+abbrev pub has_version : Header → Bool
+has_version h = is_first h || is_second h.kind h
+
 -- the numbers of a header are in their ranges
 abbrev pub has_numbers : Header → Bool
-has_numbers h = nat_lt 0 h.cluster && nat_le 256 h.size && is_of_kind h.kind h
+has_numbers h = nat_lt 0 h.cluster && nat_le 256 h.size && is_of_kind h.kind h && has_version h
 
--- the tail is that of a version
-abbrev pub has_tail : ℕ → List ℕ → Bool
-has_tail number bytes = bytes_eq (take 134 (drop 122 bytes)) (tail_of number)
+-- the bytes behind the fields are zero
+abbrev pub ends_in_zeros : List ℕ → Bool
+ends_in_zeros bytes = bytes_eq (take 108 (drop 148 bytes)) (replicate 108 0)
 
--- the checksum is right, and the tail is that of the version
+-- the checksum is right, and zeros stand behind the fields
 unfoldable pub is_spelled : List ℕ → Bool
-is_spelled bytes = bytes_eq (take 16 bytes) (check_of (take 240 (drop 16 bytes))) && has_tail header_version bytes
+is_spelled bytes = bytes_eq (take 16 bytes) (check_of (take 240 (drop 16 bytes))) && ends_in_zeros bytes
 
 -- the header of this kind, where the bytes pass every test that needs no layout
 abbrev pub header_of_kind : List ℕ → Option Kind → Option Header

@@ -1,5 +1,5 @@
--- The rules of each kind's header that need no layout. A field that a kind doesn't name is zero.
-use Rattle.std.specs.Prelude.{◌≡◌, ◌↔◌, ◌<◌, ◌≤◌, ◌^◌, ℕ, []}
+-- The rules of each kind's header that need no layout, and those of its version. A field that kind and version don't name is zero.
+use Rattle.std.specs.Prelude.{◌≡◌, ◌↔◌, ◌⊎◌, ◌<◌, ◌≤◌, ◌+◌, ◌^◌, ℕ, []}
 use Rattle.df_base.specs.Fields.{check_of}
 use Rattle.df_format.specs.declared.header.Header.{Header}
 use Rattle.df_format.specs.declared.kind.Kind.{Kind}
@@ -70,6 +70,49 @@ ObeysKind Reply h = ObeysReply h
 ObeysKind Block h = ObeysBlock h
 ObeysKind Trailer h = ObeysTrailer h
 
+-- a header of version 1: it says nothing of boots and groups
+pub record ObeysFirst (h : Header) : Type 0 where
+  pub version : h.version ≡ 1
+  pub boot : h.boot ≡ 0
+  pub group : h.group ≡ 0
+  pub group_last : h.group_last ≡ 0
+
+-- a group of at most eight prepares, by its first and its last op, one of which is this
+pub record IsGroup (op first last : ℕ) : Type 0 where
+  pub begins : (0 < first) × (first ≤ op)
+  pub ends : (op ≤ last) × (last ≤ first + 7)
+
+-- a unit that was appended with no group
+pub record IsUngrouped (first last : ℕ) : Type 0 where
+  pub none_first : first ≡ 0
+  pub none_last : last ≡ 0
+
+-- what each kind says of its boot in version 2: a reserved header is made in none
+abbrev pub HasBoot : Kind → ℕ → Type 0
+HasBoot Reserved boot = boot ≡ 0
+HasBoot Prepare boot = IsCounter boot
+HasBoot Reply boot = IsCounter boot
+HasBoot Block boot = IsCounter boot
+HasBoot Trailer boot = IsCounter boot
+
+-- and of its group: prepares alone are appended in groups
+abbrev pub HasGroup : Kind → ℕ → ℕ → ℕ → Type 0
+HasGroup Reserved op first last = IsUngrouped first last
+HasGroup Prepare op first last = IsGroup op first last
+HasGroup Reply op first last = IsUngrouped first last
+HasGroup Block op first last = IsUngrouped first last
+HasGroup Trailer op first last = IsUngrouped first last
+
+-- a header of version 2
+pub record ObeysSecond (kind : Kind) (h : Header) : Type 0 where
+  pub version : h.version ≡ 2
+  pub boot : HasBoot kind h.boot
+  pub group : HasGroup kind h.op h.group h.group_last
+
+-- the rules of a version
+abbrev pub ObeysVersion : Kind → Header → Type 0
+ObeysVersion kind h = ObeysFirst h ⊎ ObeysSecond kind h
+
 -- each field fits its bytes
 pub record FitsFields (h : Header) : Type 0 where
   pub body : IsCheck h.checksum_body
@@ -83,6 +126,10 @@ pub record FitsFields (h : Header) : Type 0 where
   pub size : h.size < 2 ^ 32
   pub slot : h.slot < 2 ^ 32
   pub block_kind : h.block_kind < 256
+  pub version : h.version < 2 ^ 16
+  pub boot : h.boot < 2 ^ 64
+  pub group : h.group < 2 ^ 64
+  pub group_last : h.group_last < 2 ^ 64
 
 -- what a header says is in range, whatever the layout
 pub record ObeysRules (h : Header) : Type 0 where
@@ -90,6 +137,7 @@ pub record ObeysRules (h : Header) : Type 0 where
   pub cluster : 0 < h.cluster
   pub size : 256 ≤ h.size
   pub kind : ObeysKind h.kind h
+  pub version : ObeysVersion h.kind h
 
 -- a header that obeys the rules, with the checksum that its other fields give
 pub record IsSealed (h : Header) : Type 0 where

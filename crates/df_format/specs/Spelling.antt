@@ -17,19 +17,16 @@ code_of Reply = 3
 code_of Block = 4
 code_of Trailer = 5
 
--- the version of every header
-abbrev pub header_version : ℕ
-header_version = 1
+-- bytes 122 to 256 of a header: its version, the boot in which it was made, the group that it was appended with, and zeros; in
+-- version 1, which has neither boots nor groups, all behind the version is zero
+unfoldable pub tail_of : Header → List ℕ
+tail_of h = spelled 2 h.version ++ (spelled 8 h.boot ++ (spelled 8 h.group ++ (spelled 8 h.group_last ++ replicate 108 0)))
 
--- bytes 122 to 256 of a header, by its version: version 1 has its number there, boot 0, and zeros
-unfoldable pub tail_of : ℕ → List ℕ
-tail_of number = spelled 2 number ++ replicate 132 0
-
--- bytes 16 to 256: one piece for each field that a kind may name, then the tail of the version
+-- bytes 16 to 256: one piece for each field that a kind may name, then the tail
 unfoldable pub spelling_rest : Header → List ℕ
 spelling_rest h =
     h.checksum_body ++ (spelled 16 h.cluster ++ (h.parent ++ (spelled 16 h.client ++ (spelled 8 h.op ++ (spelled 8 h.request ++ (spelled 8 h.mark ++ (spelled 8 h.checkpoint
-    ++ (spelled 4 h.size ++ (spelled 4 h.slot ++ (code_of h.kind ∷ (h.block_kind ∷ tail_of header_version)))))))))))
+    ++ (spelled 4 h.size ++ (spelled 4 h.slot ++ (code_of h.kind ∷ (h.block_kind ∷ tail_of h)))))))))))
 
 -- the 256 bytes of a header
 abbrev pub spelling : Header → List ℕ

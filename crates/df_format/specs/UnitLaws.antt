@@ -1,6 +1,6 @@
 -- What holds of every header, and of every unit, place and image of a layout: what the layers above rest on.
-use Rattle.std.specs.Prelude.{◌≡◌, ◌≢◌, ◌↔◌, ◌<◌, ◌≤◌, ◌+◌, ◌-◌, ◌*◌, ◌/◌, ◌%◌, ℕ, false, List, [], ◌∷◌, ◌++◌, length, take, drop, slice_get, Some, None}
-use Rattle.df_base.specs.Fields.{AreBytes}
+use Rattle.std.specs.Prelude.{◌≡◌, ◌≢◌, ◌↔◌, ◌<◌, ◌≤◌, ◌+◌, ◌-◌, ◌*◌, ◌/◌, ◌%◌, ℕ, false, List, [], ◌∷◌, ◌++◌, length, take, drop, replicate, slice_get, Some, None}
+use Rattle.df_base.specs.Fields.{AreBytes, spelled}
 use Rattle.df_base.specs.Image.{Image, IsImage, IsPiece, blank, bytes_at, written}
 use Rattle.df_base.specs.Log.{Log, Write, IsLeft, add, loose, now}
 use Rattle.df_layout.specs.declared.damage.Class.TheVariants.{Blank, Elsewhere, Stale}
@@ -11,8 +11,8 @@ use Rattle.df_layout.specs.declared.places.Zone.TheVariants.{WalHeaders}
 use Rattle.df_layout.specs.Spans.{HasPlace, place_sectors, span_of}
 use Rattle.df_layout.specs.Order.{ShareHeaderSector}
 use Rattle.df_format.specs.declared.header.Header.{Header}
-use Rattle.df_format.specs.Spelling.{spelling}
-use Rattle.df_format.specs.Rules.{IsSealed}
+use Rattle.df_format.specs.Spelling.{spelling, tail_of}
+use Rattle.df_format.specs.Rules.{IsSealed, ObeysFirst}
 use Rattle.df_format.specs.Reading.{header_in}
 use Rattle.df_format.specs.Message.{Message, sectors_of}
 use Rattle.df_format.specs.Own.{place_in, own_place}
@@ -23,6 +23,10 @@ use Rattle.df_format.specs.Valid.{IsUnit, Begins, Belongs}
 -- 256 bytes are read as a header exactly where it is sealed and they are its spelling
 abbrev pub HeadersHaveOneSpelling : Type 0
 HeadersHaveOneSpelling = (bytes : List ℕ) (h : Header) → length bytes ≡ 256 → AreBytes bytes → (header_in bytes ≡ Some h) ↔ (IsSealed h × (bytes ≡ spelling h))
+
+-- behind its version a header of version 1 ends in zeros
+abbrev pub FirstVersionEndsInZeros : Type 0
+FirstVersionEndsInZeros = (h : Header) → ObeysFirst h → tail_of h ≡ spelled 2 1 ++ replicate 132 0
 
 -- how many bytes a place of a zone has; a header has its part of a sector
 abbrev pub place_size : Layout → Zone → ℕ

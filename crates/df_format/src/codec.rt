@@ -2,12 +2,14 @@
 ghost use Rattle.std.specs.Prelude.{◌≡◌, ◌+◌, ◌≤◌, ◌++◌, ◌∷◌, [], length, take, drop};
 ghost use Rattle.df_format.specs.Spelling.{sealed, spelling, spelling_rest, code_of, tail_of};
 ghost use Rattle.df_format.specs.Rules.{ObeysRules, IsSealed};
-ghost use Rattle.df_format.specs.Reading.{kind_of, fields_of, has_tail, is_spelled, header_in};
+ghost use Rattle.df_format.specs.Reading.{kind_of, fields_of, ends_in_zeros, is_spelled, header_in};
 
-use crate::pieces::put_bytes;
+use crate::pieces::{put_bytes, put_zeros};
 use crate::rules::has_numbers;
 use crate::{Header, Kind};
-use df_base::{Check, HEADER, check, put_u16, put_u32, put_u64, put_u128, u32_at, u64_at, u128_at};
+use df_base::{
+    Check, HEADER, check, put_u16, put_u32, put_u64, put_u128, u16_at, u32_at, u64_at, u128_at,
+};
 
 // The end of the checksum, which covers all that follows it.
 const SUMMED: usize = 16;
@@ -15,11 +17,8 @@ const SUMMED: usize = 16;
 // Where the kind stands, and what its owner says of a block behind it.
 const KIND: usize = 120;
 
-// Where the fields end that a kind may name, and the tail of the version begins.
-const TAIL: usize = 122;
-
-// The version of every header.
-const VERSION: u16 = 1;
+// Where the fields end; zeros follow up to the end of the header.
+const END: usize = 148;
 
 // Writes a checksum over 16 bytes.
 pub(crate) fn put_check(into: &mut [u8], at: usize, value: &Check)
@@ -51,22 +50,16 @@ fn put_kind(into: &mut [u8], kind: Kind, block_kind: u8)
     put_bytes(into, KIND, &[code_of(kind), block_kind]);
 }
 
-// Bytes 122 to 256 of a header, by its version: version 1 has its number there, boot 0, and zeros.
-#[tactic(auto, unfolding(crate::specs::Spelling::tail_of))]
-fn tail_of(version: u16) -> [u8; HEADER - TAIL]
-    ensures { result ≡ tail_of version }
-{
-    let mut tail = [0; HEADER - TAIL];
-    put_u16(&mut tail, 0, version);
-    tail
-}
-
-// Writes the tail of a version.
-fn put_tail(into: &mut [u8], version: u16)
+// Writes the version with what it says of boot and group, and the zeros behind them.
+fn put_tail(into: &mut [u8], header: &Header)
     requires { length into.old ≡ 256 }
-    ensures { into.new ≡ take 122 into.old ++ tail_of version }
+    ensures { into.new ≡ take 122 into.old ++ tail_of header.now }
 {
-    put_bytes(into, TAIL, &tail_of(version));
+    put_u16(into, 122, header.version);
+    put_u64(into, 124, header.boot);
+    put_u64(into, 132, header.group);
+    put_u64(into, 140, header.group_last);
+    put_zeros(into, END, HEADER);
 }
 
 // Writes all that the checksum covers.
@@ -85,7 +78,7 @@ fn put_fields(into: &mut [u8], header: &Header)
     put_u32(into, 112, header.size);
     put_u32(into, 116, header.slot);
     put_kind(into, header.kind, header.block_kind);
-    put_tail(into, VERSION);
+    put_tail(into, header);
 }
 
 /// The header with the checksum that its other fields give.
@@ -140,6 +133,10 @@ fn fields_of(kind: Kind, bytes: &[u8]) -> Header
         slot: u32_at(bytes, 116),
         kind,
         block_kind: bytes[121],
+        version: u16_at(bytes, 122),
+        boot: u64_at(bytes, 124),
+        group: u64_at(bytes, 132),
+        group_last: u64_at(bytes, 140),
     }
 }
 
@@ -158,12 +155,12 @@ fn kind_of(code: u8) -> Option<Kind>
     }
 }
 
-// Whether the tail is that of a version.
-fn has_tail(bytes: &[u8], version: u16) -> bool
+// Whether the bytes behind the fields are zero.
+fn ends_in_zeros(bytes: &[u8]) -> bool
     requires { length bytes.now ≡ 256 }
-    ensures { result ≡ has_tail version bytes.now }
+    ensures { result ≡ ends_in_zeros bytes.now }
 {
-    &bytes[TAIL..HEADER] == tail_of(version).as_slice()
+    bytes[END..HEADER] == [0; 108]
 }
 
 #[tactic(auto, unfolding(crate::specs::Reading::is_spelled))]
@@ -171,11 +168,11 @@ fn is_spelled(bytes: &[u8]) -> bool
     requires { length bytes.now ≡ 256 }
     ensures { result ≡ is_spelled bytes.now }
 {
-    &bytes[..SUMMED] == check(&bytes[SUMMED..HEADER]).as_slice() && has_tail(bytes, VERSION)
+    &bytes[..SUMMED] == check(&bytes[SUMMED..HEADER]).as_slice() && ends_in_zeros(bytes)
 }
 
-/// The header that 256 bytes are the spelling of; None where they are that of no header that obeys the rules of its
-/// kind. The rules that need a layout aren't tested.
+/// The header, of either version, that 256 bytes are the spelling of; None where they are that of no header that obeys the
+/// rules of its kind and its version. The rules that need a layout aren't tested.
 #[tactic(auto, unfolding(crate::specs::Reading::header_in))]
 pub fn decode_header(bytes: &[u8]) -> Option<Header>
     requires { length bytes.now ≡ 256 }

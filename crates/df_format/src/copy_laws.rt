@@ -1,9 +1,14 @@
 // Laws of every copy of the superblock, sector and image, each the clause of a function that does nothing.
-ghost use Rattle.df_format.specs.CopyLaws.{CopiesHaveOneSpelling, WrittenCopyIsShown, OtherSectorsStay, OtherCopiesStay, CopyIsOneSector, SameSectorSameCopy, ValidCopyIsStale, StaleIsCopy, BlankShowsNoCopy};
+ghost use Rattle.df_format.specs.CopyLaws.{CopiesHaveOneSpelling, NamelessEndsInZeros, WrittenCopyIsShown, OtherSectorsStay, OtherCopiesStay, CopyIsOneSector, SameSectorSameCopy, ValidCopyIsStale, StaleIsCopy, BlankShowsNoCopy};
 
-/// A sector is read as a copy with zeros behind its fields exactly where it is that copy's spelling.
+/// A sector is read as a copy with zeros where its version has no fields exactly where it is that copy's spelling.
 pub fn copies_have_one_spelling()
     ensures { CopiesHaveOneSpelling }
+{}
+
+/// A copy that names nothing, as each of version 1, is spelled with zeros in place of the names.
+pub fn nameless_copy_ends_in_zeros()
+    ensures { NamelessEndsInZeros }
 {}
 
 /// A copy that is written is shown at its own place; it is one sector, so that the others and what they show stay.

@@ -1,4 +1,4 @@
-// The message header: what it says of a unit. Fields that its kind has no use for are zero.
+// The message header: what it says of a unit. Fields that its kind and its version have no use for are zero.
 ghost use Rattle.std.specs.Prelude.{◌≡◌};
 ghost use Rattle.df_format.specs.Making.{blank_header};
 
@@ -7,6 +7,9 @@ use df_base::Check;
 
 /// What stands in place of a checksum where there is none, or where it is set later.
 pub const NO_CHECKSUM: Check = [0; 16];
+
+/// What stands in place of the checksums of the replies where none is named.
+pub const NO_CHECKSUMS: [Check; 64] = [NO_CHECKSUM; 64];
 
 /// The header of a unit, 256 bytes in the file.
 #[derive(Clone, Copy, Debug, PartialEq, Eq)]
@@ -36,11 +39,19 @@ pub struct Header {
     pub kind: Kind,
     /// What its owner says of a block, from 1; 0 in all other kinds.
     pub block_kind: u8,
+    /// 1, or 2, in which units have boots and groups.
+    pub version: u16,
+    /// In version 2 the number of the boot in which the unit was made, from 1; 0 of a reserved header and in version 1.
+    pub boot: u64,
+    /// Of a prepare of version 2, the first op of the group that it was appended with; 0 in all others.
+    pub group: u64,
+    /// The last op of that group.
+    pub group_last: u64,
 }
 
 impl Header {
-    /// A header of this kind and cluster with all other fields zero: what it has to say besides is set by its maker, and size
-    /// and checksums as it is made (`make_unit`).
+    /// A header of version 1, this kind and this cluster with all other fields zero: what it has to say besides is set by its
+    /// maker, and size and checksums as it is made (`make_unit`).
     #[tactic(auto, unfolding(crate::specs::Spelling::no_checksum))]
     pub fn of(kind: Kind, cluster: u128) -> Header
         ensures { result ≡ blank_header kind cluster }
@@ -59,6 +70,10 @@ impl Header {
             slot: 0,
             kind,
             block_kind: 0,
+            version: 1,
+            boot: 0,
+            group: 0,
+            group_last: 0,
         }
     }
 }

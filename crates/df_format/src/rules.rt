@@ -1,12 +1,21 @@
-// The tests of a header that need no layout: the rules of its kind. A field that a kind has no use for is zero.
+// The tests of a header that need no layout: the rules of its kind and of its version. A field that these have no use for is
+// zero.
 ghost use Rattle.std.specs.Prelude.{◌≡◌};
-ghost use Rattle.df_format.specs.Reading.{is_counter, has_no_parent, is_prepare, is_reply, is_bare, is_reserved, is_block, is_linked, is_trailer, is_of_kind, has_numbers};
+ghost use Rattle.df_format.specs.Reading.{is_counter, has_no_parent, is_prepare, is_reply, is_bare, is_reserved, is_block, is_linked, is_trailer, is_of_kind, is_ungrouped, is_grouped, is_first, has_boot, has_group, is_second, has_version, has_numbers};
 
 use crate::{Header, Kind, NO_CHECKSUM};
 use df_base::{HEADER, check};
 
-// The greatest op, request and sequence.
+// The greatest op, request, sequence and boot.
 const GREATEST: u64 = 1 << 62;
+
+// The greatest distance from the first op of a group to its last.
+const GROUP: u64 = 7;
+
+// The two versions.
+const FIRST: u16 = 1;
+
+const SECOND: u16 = 2;
 
 fn is_counter(n: u64) -> bool
     ensures { result ≡ is_counter n }
@@ -113,9 +122,66 @@ fn is_of_kind(header: &Header) -> bool
     }
 }
 
-// Whether the numbers of a header are in the ranges of its kind.
+#[tactic(auto, unfolding(crate::specs::Reading::is_ungrouped))]
+fn is_ungrouped(header: &Header) -> bool
+    ensures { result ≡ is_ungrouped header.now }
+{
+    header.group == 0 && header.group_last == 0
+}
+
+// Whether a prepare's group has its op, and at most eight ops; no sum is taken, since its numbers may be any.
+#[tactic(auto, unfolding(crate::specs::Reading::is_grouped))]
+fn is_grouped(header: &Header) -> bool
+    ensures { result ≡ is_grouped header.now }
+{
+    0 < header.group
+        && header.group <= header.op
+        && header.op <= header.group_last
+        && header.group_last - header.group <= GROUP
+}
+
+#[tactic(auto, unfolding(crate::specs::Reading::is_first))]
+fn is_first(header: &Header) -> bool
+    ensures { result ≡ is_first header.now }
+{
+    header.version == FIRST && header.boot == 0 && is_ungrouped(header)
+}
+
+fn has_boot(header: &Header) -> bool
+    ensures { result ≡ has_boot header.now.kind header.now }
+{
+    match header.kind {
+        Kind::Reserved => header.boot == 0,
+        Kind::Prepare | Kind::Reply | Kind::Block | Kind::Trailer => is_counter(header.boot),
+    }
+}
+
+fn has_group(header: &Header) -> bool
+    ensures { result ≡ has_group header.now.kind header.now }
+{
+    match header.kind {
+        Kind::Prepare => is_grouped(header),
+        Kind::Reserved | Kind::Reply | Kind::Block | Kind::Trailer => is_ungrouped(header),
+    }
+}
+
+#[tactic(auto, unfolding(crate::specs::Reading::is_second))]
+fn is_second(header: &Header) -> bool
+    ensures { result ≡ is_second header.now.kind header.now }
+{
+    header.version == SECOND && has_boot(header) && has_group(header)
+}
+
+// Whether the header is one of version 1 or one of version 2.
+fn has_version(header: &Header) -> bool
+    ensures { result ≡ has_version header.now }
+{
+    is_first(header) || is_second(header)
+}
+
+// Whether the numbers of a header are in the ranges of its kind and its version.
 pub(crate) fn has_numbers(header: &Header) -> bool
     ensures { result ≡ has_numbers header.now }
 {
-    0 < header.cluster && HEADER as u32 <= header.size && is_of_kind(header)
+    0 < header.cluster && HEADER as u32 <= header.size && is_of_kind(header) && has_version(header)
 }

@@ -1,14 +1,14 @@
 // The sector of a copy of the superblock: how it is written, and how it is tested and read.
-ghost use Rattle.std.specs.Prelude.{◌≡◌, ◌<◌, ◌+◌, ◌++◌, ◌==◌, not, length, take, drop, replicate, position, IfSome, IsTrue};
+ghost use Rattle.std.specs.Prelude.{◌≡◌, ◌<◌, ◌≤◌, ◌+◌, ◌++◌, ◌==◌, not, length, take, drop, replicate, position, IfSome, IsTrue};
 ghost use Rattle.df_base.specs.Fields.{field_at, spelled};
-ghost use Rattle.df_format.specs.Super.{fields_bytes, covered_bytes, copy_bytes};
+ghost use Rattle.df_format.specs.Super.{checks_bytes, fields_bytes, named_bytes, covered_bytes, copy_bytes};
 ghost use Rattle.df_format.specs.SuperRules.{IsUsable};
 ghost use Rattle.df_format.specs.Own.{place_in};
-ghost use Rattle.df_format.specs.Copies.{first_nonzero_of, super_fields_of, has_checksum, has_zeros, is_copy, copy_in, is_blank_copy, class_of_no_copy, own_copy};
+ghost use Rattle.df_format.specs.Copies.{nonzero_between, first_nonzero_of, checks_at, super_fields_of, has_checksum, has_zeros, is_copy, copy_in, is_blank_copy, class_of_no_copy, own_copy};
 
 use crate::codec::{check_at, put_check};
 use crate::pieces::put_zeros;
-use crate::{Super, SuperCopy, SuperFields};
+use crate::{NO_CHECKSUMS, Super, SuperCopy, SuperFields};
 use df_base::{Check, SECTOR, check, put_u32, put_u64, put_u128, u32_at, u64_at, u128_at};
 use df_layout::{Class, Place, Zone};
 
@@ -23,10 +23,23 @@ const ZEROS: usize = 20;
 // Where the part begins that the checksum covers.
 const COVERED: usize = 32;
 
-// The end of the fields; zeros follow up to the end of the sector.
-const END: usize = 160;
+// The end of the fields that both versions have.
+const NAMED: usize = 160;
 
-// Writes the fields, each at its offset.
+// Where version 2 has the checksums of the replies, behind that of the head's prepare and zeros, and where they end.
+const REPLIES: usize = 192;
+
+const END: usize = 1216;
+
+// Bytes of a checksum, and how many there are of replies.
+const SUM: usize = 16;
+
+const PLACES: usize = 64;
+
+// The version that names the head's prepare and the replies.
+const SECOND: u32 = 2;
+
+// Writes the fields of both versions, each at its offset.
 fn put_fields(into: &mut [u8], fields: &SuperFields)
     requires { length into.old ≡ 4096 }
     ensures { take 160 into.new ≡ take 32 into.old ++ fields_bytes fields.now }
@@ -49,13 +62,36 @@ fn put_fields(into: &mut [u8], fields: &SuperFields)
     put_u64(into, 152, fields.boot);
 }
 
+// Writes the checksums of the replies, one behind the other.
+fn put_checks(into: &mut [u8], checks: &[Check; 64])
+    requires { length into.old ≡ 4096 }
+    ensures { take 1216 into.new ≡ take 192 into.old ++ checks_bytes checks.now }
+{
+    let mut place = 0;
+    while place < PLACES {
+        put_check(into, REPLIES + SUM * place, &checks[place]);
+        place += 1;
+    }
+}
+
+// Writes what version 2 names behind the fields of both versions, and the zeros between and behind it.
+fn put_named(into: &mut [u8], fields: &SuperFields)
+    requires { length into.old ≡ 4096 }
+    ensures { into.new ≡ take 160 into.old ++ named_bytes fields.now }
+{
+    put_check(into, NAMED, &fields.head_checksum);
+    put_zeros(into, NAMED + SUM, REPLIES);
+    put_checks(into, &fields.reply_checksums);
+    put_zeros(into, END, SECTOR);
+}
+
 // Writes all that the checksum covers.
 fn put_covered(into: &mut [u8], fields: &SuperFields)
     requires { length into.old ≡ 4096 }
     ensures { drop 32 into.new ≡ covered_bytes fields.now }
 {
     put_fields(into, fields);
-    put_zeros(into, END, SECTOR);
+    put_named(into, fields);
 }
 
 // Writes what the checksum doesn't cover: itself, the number and the zeros behind it.
@@ -88,13 +124,39 @@ fn first_other(bytes: &[u8]) -> Option<usize>
     bytes.iter().position(|b| *b != 0)
 }
 
-// The offset of the first byte behind the fields that isn't zero.
-fn first_nonzero(bytes: &[u8]) -> Option<u64>
-    requires { length bytes.now ≡ 4096 }
-    ensures { result ≡ first_nonzero_of bytes.now }
+// The offset of the first byte from one offset up to another that isn't zero.
+fn nonzero_between(bytes: &[u8], at: usize, end: usize) -> Option<u64>
+    requires order { at ≤ end }
+    requires room { end ≤ length bytes.now }
+    ensures { result ≡ nonzero_between at end bytes.now }
 {
-    let behind = first_other(&bytes[END..])?;
-    Some((END + behind) as u64)
+    let behind = first_other(&bytes[at..end])?;
+    Some((at + behind) as u64)
+}
+
+// The offset of the first byte that isn't zero where the version has no fields.
+fn first_nonzero(version: u32, bytes: &[u8]) -> Option<u64>
+    requires { length bytes.now ≡ 4096 }
+    ensures { result ≡ first_nonzero_of version bytes.now }
+{
+    if version == SECOND {
+        let between = nonzero_between(bytes, NAMED + SUM, REPLIES);
+        between.or(nonzero_between(bytes, END, SECTOR))
+    } else {
+        nonzero_between(bytes, NAMED, SECTOR)
+    }
+}
+
+// The checksums that stand where version 2 has those of the replies.
+fn checks_of(bytes: &[u8]) -> [Check; 64]
+    requires { length bytes.now ≡ 4096 }
+    ensures { result ≡ checks_at 64 192 bytes.now }
+{
+    let mut checks = NO_CHECKSUMS;
+    for place in 0..PLACES {
+        checks[place] = check_at(bytes, REPLIES + SUM * place);
+    }
+    checks
 }
 
 #[tactic(auto, unfolding(crate::specs::Copies::super_fields_of))]
@@ -119,7 +181,9 @@ fn fields_of(bytes: &[u8]) -> SuperFields
         trailer_checksum: check_at(bytes, 128),
         trailer_size: u64_at(bytes, 144),
         boot: u64_at(bytes, 152),
-        first_nonzero: first_nonzero(bytes),
+        head_checksum: check_at(bytes, NAMED),
+        reply_checksums: checks_of(bytes),
+        first_nonzero: first_nonzero(u32_at(bytes, 32), bytes),
     }
 }
 

@@ -1,24 +1,31 @@
 // The rules of a superblock's fields: whether it can be used, or which field is the first that breaks its rule.
-ghost use Rattle.std.specs.Prelude.{◌≡◌, ◌==◌, ◌<◌, [], ◌∷◌, if◌then◌else◌, IfOk, IfErr};
+ghost use Rattle.std.specs.Prelude.{◌≡◌, ◌==◌, ◌<◌, [], ◌∷◌, length, if◌then◌else◌, IfOk, IfErr, IfSome, None, Some};
 ghost use Rattle.std.specs.Result.{result_err};
-ghost use Rattle.df_format.specs.SuperRules.{IsSuper, IsUsable, FaultsAreBrokenRules, is_whole_between, is_zero_check, greatest_trailer, has_trailer_size, test, size_tests, checkpoint_tests, progress_tests, trailer_tests, zero_tests, field_tests, first_failing, fault_of};
+ghost use Rattle.df_format.specs.Spelling.{IsCheck};
+ghost use Rattle.df_format.specs.Super.{AreChecks};
+ghost use Rattle.df_format.specs.SuperRules.{IsSuper, IsUsable, FaultsAreBrokenRules, is_whole_between, is_zero_check, greatest_trailer, has_trailer_size, test, size_tests, checkpoint_tests, progress_tests, trailer_tests, first_named, first_spare, names_none, first_tests, has_head_checksum, second_tests, version_tests, field_tests, first_failing, is_known_version, fault_of};
 
 use crate::{NO_CHECKSUM, SuperFault, SuperFields};
 use df_base::{Check, u128_at};
 use df_layout::{Field, Layout};
 use std::marker::Model;
 
-// The version whose rules these are.
-const VERSION: u32 = 1;
+// The two versions.
+const FIRST: u32 = 1;
 
-// The greatest op and the greatest sequence.
+const SECOND: u32 = 2;
+
+// The greatest op, the greatest sequence and the greatest boot.
 const GREATEST: u64 = 1 << 62;
+
+// The places of the checksums of replies.
+const PLACES: usize = 64;
 
 // How many more ops than replies there may be.
 const PIPELINE: u64 = 8;
 
-/// A superblock that can be used: version 1, and every field within its range. `test_fields` alone makes one. Contracts
-/// see its fields.
+/// A superblock that can be used: of version 1 or 2, and every field within the range that it has there. `test_fields` alone
+/// makes one. Contracts see its fields.
 #[derive(Clone, Copy, Debug, PartialEq, Eq)]
 pub struct Super {
     fields: SuperFields,
@@ -198,16 +205,84 @@ fn test_trailer(fields: &SuperFields) -> Result<(), SuperFault>
     )
 }
 
+// The first of some checksums that isn't zeros.
+fn first_named(checks: &[Check]) -> Option<usize>
+    ensures value { result ≡ first_named checks.now }
+    ensures bound { IfSome result (λ i. i < length checks.now) }
+{
+    checks.iter().position(|check| !is_zero_check(check))
+}
+
+// The first place without a session that has a checksum.
+fn first_spare(fields: &SuperFields) -> Option<u64>
+    ensures { result ≡ first_spare fields.now }
+{
+    let spare = fields.reply_checksums.get(fields.clients as usize..)?;
+    let place = first_named(spare)?;
+    Some(u64::from(fields.clients) + place as u64)
+}
+
+fn names_none(fields: &SuperFields) -> bool
+    ensures { result ≡ names_none fields.now }
+{
+    is_zero_check(&fields.head_checksum) && first_named(&fields.reply_checksums).is_none()
+}
+
 // What version 1 leaves empty.
-fn test_zeros(fields: &SuperFields) -> Result<(), SuperFault>
-    ensures { result_err result ≡ first_failing (zero_tests fields.now) }
+fn test_first(fields: &SuperFields) -> Result<(), SuperFault>
+    ensures { result_err result ≡ first_failing (first_tests fields.now) }
 {
     test(fields.boot == 0, Field::Boot, u128::from(fields.boot))?;
+    test(
+        fields.first_nonzero.is_none() && names_none(fields),
+        Field::Zero,
+        u128::from(fields.first_nonzero.unwrap_or(0)),
+    )
+}
+
+fn has_head_checksum(fields: &SuperFields) -> bool
+    ensures { result ≡ has_head_checksum fields.now }
+{
+    (fields.head != 0 || is_zero_check(&fields.head_checksum))
+        && (fields.head != fields.op || fields.head_checksum == fields.op_checksum)
+}
+
+// The boot of version 2, what it names, and what it leaves empty.
+fn test_second(fields: &SuperFields) -> Result<(), SuperFault>
+    ensures { result_err result ≡ first_failing (second_tests fields.now) }
+{
+    let spare = first_spare(fields);
+    test(
+        fields.boot <= GREATEST,
+        Field::Boot,
+        u128::from(fields.boot),
+    )?;
+    test(
+        has_head_checksum(fields),
+        Field::Head,
+        u128_at(&fields.head_checksum, 0),
+    )?;
+    test(
+        spare.is_none(),
+        Field::Replies,
+        u128::from(spare.unwrap_or(0)),
+    )?;
     test(
         fields.first_nonzero.is_none(),
         Field::Zero,
         u128::from(fields.first_nonzero.unwrap_or(0)),
     )
+}
+
+// The tests of one version.
+fn test_by_version(fields: &SuperFields) -> Result<(), SuperFault>
+    ensures { result_err result ≡ first_failing (version_tests fields.now) }
+{
+    if fields.version == FIRST {
+        test_first(fields)
+    } else {
+        test_second(fields)
+    }
 }
 
 // All fields, in the order of their tests.
@@ -218,13 +293,13 @@ fn test_each(fields: &SuperFields) -> Result<(), SuperFault>
     test_checkpoint(fields)?;
     test_progress(fields)?;
     test_trailer(fields)?;
-    test_zeros(fields)
+    test_by_version(fields)
 }
 
 fn test_version(version: u32) -> Result<(), SuperFault>
-    ensures { result_err result ≡ (if version == 1 then None else Some (SuperFault.Version version)) }
+    ensures { result_err result ≡ (if is_known_version version then None else Some (SuperFault.Version version)) }
 {
-    if version == VERSION {
+    if version == FIRST || version == SECOND {
         Ok(())
     } else {
         Err(SuperFault::Version { found: version })
@@ -240,16 +315,46 @@ fn test_all(fields: &SuperFields) -> Result<(), SuperFault>
     test_each(fields)
 }
 
+// A checksum has sixteen bytes, as its type says.
+fn as_check(check: Check) -> Check
+    ensures value { result ≡ check }
+    ensures check { IsCheck check }
+{
+    check
+}
+
+// And so has each of these.
+fn are_checks(checks: &[Check; 64])
+    ensures { AreChecks checks.now }
+{
+    let mut place = 0;
+    while place < PLACES {
+        as_check(checks[place]);
+        place += 1;
+    }
+}
+
 // The superblock of fields that have passed their tests.
 fn usable(fields: SuperFields) -> Super
     requires { IsSuper fields }
     ensures { result ≡ fields }
 {
-    Super { fields }
+    let op_checksum = as_check(fields.op_checksum);
+    let trailer_checksum = as_check(fields.trailer_checksum);
+    let head_checksum = as_check(fields.head_checksum);
+    are_checks(&fields.reply_checksums);
+    Super {
+        fields: SuperFields {
+            op_checksum,
+            trailer_checksum,
+            head_checksum,
+            ..fields
+        },
+    }
 }
 
-/// The superblock of these fields, if it can be used. Else why not: the version, which is tested first, or the first
-/// field that is out of its range.
+/// The superblock of these fields, if it can be used. Else why not: the version, which is tested first and is neither 1 nor 2, or
+/// the first field that is out of the range that it has in its version.
 pub fn test_fields(fields: &SuperFields) -> Result<Super, SuperFault>
     ensures fields { IfOk result (λ content. content ≡ fields.now) }
     ensures usable { IfOk result (λ _. fault_of fields.now ≡ None) }

@@ -2,7 +2,7 @@
 ghost use Rattle.std.specs.Prelude.{◌≡◌};
 ghost use Rattle.df_format.specs.First.{blank_super};
 
-use crate::NO_CHECKSUM;
+use crate::{NO_CHECKSUM, NO_CHECKSUMS};
 use df_base::Check;
 use df_layout::{Field, Layout};
 
@@ -37,15 +37,20 @@ pub struct SuperFields {
     pub trailer_checksum: Check,
     /// Bytes of the trailer's text.
     pub trailer_size: u64,
+    /// One more with each open of version 2, 0 before the first; 0 in version 1.
     pub boot: u64,
-    /// The offset in the sector of the first byte behind these fields that isn't zero.
+    /// The checksum of the prepare with op `head`, zeros where head is 0 and in version 1.
+    pub head_checksum: Check,
+    /// For each session's place the checksum of the reply that was stored at the update, or zeros; zeros in version 1.
+    pub reply_checksums: [Check; 64],
+    /// The offset in the sector of the first byte that isn't zero where this version has no fields.
     pub first_nonzero: Option<u64>,
 }
 
 impl SuperFields {
     /// The fields of a file of this layout and cluster, of version 1 and with nothing else: the numbers of its update and its
     /// checkpoint are set by their maker.
-    #[tactic(auto, unfolding(crate::specs::Spelling::no_checksum))]
+    #[tactic(auto, unfolding(crate::specs::Spelling::no_checksum, crate::specs::Super::no_checksums))]
     pub fn of(layout: &Layout, cluster: u128) -> SuperFields
         ensures { result ≡ blank_super layout.now cluster }
     {
@@ -66,6 +71,8 @@ impl SuperFields {
             trailer_checksum: NO_CHECKSUM,
             trailer_size: 0,
             boot: 0,
+            head_checksum: NO_CHECKSUM,
+            reply_checksums: NO_CHECKSUMS,
             first_nonzero: None,
         }
     }
@@ -83,7 +90,7 @@ pub struct SuperCopy {
 /// Why a superblock that two copies agree on can't be used.
 #[derive(Clone, Copy, Debug, PartialEq, Eq)]
 pub enum SuperFault {
-    /// A version that this program doesn't know.
+    /// Neither of the two versions.
     Version { found: u32 },
     /// The first field that is out of its range, and its value; a checksum's is its bytes as a little-endian number, and that
     /// of bytes that have to be zero is the offset of the first that isn't.

@@ -1,10 +1,15 @@
 // Laws of every header, and of every unit, place and image of a layout, each the clause of a function that does nothing.
 ghost use Rattle.df_format.specs.Brings.{MadeBrings, FrontBrings};
-ghost use Rattle.df_format.specs.UnitLaws.{HeadersHaveOneSpelling, UnitsHaveOneSpelling, ShownBelongs, ShownIsUnit, ReadBelongs, ValidBelongs, BodyFollows, RingHasNoBody, ValidIsStale, StaleIsValid, ElsewhereIsOther, SameIsShown, ReadIsShown, WrittenIsShown, SectorsFitPlace, WrittenIsApart, LeftIsApart, SectorIsShown, HeadersFillSector, HeaderIsShown, BlankShowsNone};
+ghost use Rattle.df_format.specs.UnitLaws.{HeadersHaveOneSpelling, FirstVersionEndsInZeros, UnitsHaveOneSpelling, ShownBelongs, ShownIsUnit, ReadBelongs, ValidBelongs, BodyFollows, RingHasNoBody, ValidIsStale, StaleIsValid, ElsewhereIsOther, SameIsShown, ReadIsShown, WrittenIsShown, SectorsFitPlace, WrittenIsApart, LeftIsApart, SectorIsShown, HeadersFillSector, HeaderIsShown, BlankShowsNone};
 
 /// 256 bytes are read as a header exactly where it is sealed and they are its spelling.
 pub fn headers_have_one_spelling()
     ensures { HeadersHaveOneSpelling }
+{}
+
+/// The fields that version 1 doesn't have are spelled as the zeros that it has in their place.
+pub fn first_version_ends_in_zeros()
+    ensures { FirstVersionEndsInZeros }
 {}
 
 /// A place shows a unit exactly where its bytes begin with one that is valid there.

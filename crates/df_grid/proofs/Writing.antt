@@ -1,6 +1,7 @@
 -- A sound block stands at the address that its header names, and its write is the machine's put there.
-use Rattle.std.proofs.Common.{◌≡◌, ◌↔◌, ℕ, ◌+◌, ◌<◌, ◌≤◌, ◌^◌, List, [], ◌∷◌, length, take, Option, Some, None, refl, sym, ap, subst, ◌∙◌, arith}
+use Rattle.std.proofs.Common.{◌≡◌, ◌==◌, ◌↔◌, inl, inr, ℕ, ◌+◌, ◌<◌, ◌≤◌, ◌^◌, List, [], ◌∷◌, length, take, Option, Some, None, refl, sym, ap, subst, ◌∙◌, arith}
 use Rattle.std.specs.Prelude.{IfSome, IsSome, slice_get}
+use Rattle.std.proofs.lemmas.Bool.{cases_lt, cond-true, cond-false, eq-eqb, ne_eqb}
 use Rattle.std.proofs.lemmas.Bool.Decides.{nat_tests}
 use Rattle.df_base.specs.Log.{Write}
 use Rattle.df_base.specs.Fields.{spelled}
@@ -16,10 +17,10 @@ use Rattle.df_format.specs.declared.reference.Reference.{Reference}
 use Rattle.df_format.specs.Making.{for_body}
 use Rattle.df_format.specs.Message.{Message, sectors_end, sectors_of}
 use Rattle.df_format.specs.Own.{own_place, place_in}
-use Rattle.df_format.specs.Rules.{ObeysRules}
+use Rattle.df_format.specs.Rules.{ObeysRules, ObeysVersion}
 use Rattle.df_format.specs.Spelling.{IsCheck, no_checksum}
 use Rattle.df_format.specs.Valid.{Belongs, IsAtAddress, IsUnit}
-use Rattle.df_format.proofs.Laws.{given_obeys, valid_belongs}
+use Rattle.df_format.proofs.Laws.{given_obeys, of_first, valid_belongs}
 use Rattle.df_buffers.specs.Sounds.{Holding, IsSound}
 use Rattle.df_theory.specs.Device.{AreSteps}
 use Rattle.df_theory.specs.Units
@@ -32,7 +33,7 @@ use Rattle.df_units.proofs.Laws.{no_number, whole_check}
 use Rattle.df_places.specs.Units.{put_events, put_steps}
 use Rattle.df_grid.specs.Grid.{GridState}
 use Rattle.df_grid.specs.Table.{pair_in}
-use Rattle.df_grid.specs.Writes.{IsBefore, address_in, block_events, block_steps, checksum_in, first_address, first_sum, header_with, made, made_events, next_block, next_header, next_unit}
+use Rattle.df_grid.specs.Writes.{IsBefore, address_in, block_events, block_steps, checksum_in, first_address, first_sum, header_with, made, made_events, next_block, next_header, next_unit, version_in}
 
 pub own_block : (layout : Layout) (kind : Kind) (held : Holding) → IsSound Grid kind held → held.layout ≡ layout → IsUnit layout held.unit.header.cluster (place_in Grid held.unit.header.op) held.unit
 own_block layout kind held sound same =
@@ -100,21 +101,21 @@ first_left : (left : List ℕ) (a : ℕ) → Some a ≡ slice_get left 0 → a �
 first_left [] a is = absurd (cc)
 first_left (x ∷ xs) a is = let same : a ≡ x = cc in same
 
-pub header_is : (cluster sequence a index : ℕ) (b : Blocks) (before : Option Reference) → Some a ≡ slice_get b.left 0 → index ≡ length b.written → pair_in before ≡ slice_get b.written 0 → IsCheck (checksum_in before)
-    → header_with cluster a index sequence (address_in before) (checksum_in before) ≡ next_header cluster sequence b
-header_is cluster sequence a index b before first count pair fits =
-    ap (λ (n : ℕ). header_with cluster n index sequence (address_in before) (checksum_in before)) (first_left b.left a first)
-    ∙ ap (λ (n : ℕ). header_with cluster (first_of b.left) n sequence (address_in before) (checksum_in before)) count
-    ∙ ap (λ (n : ℕ). header_with cluster (first_of b.left) (length b.written) sequence n (checksum_in before)) (address_is before b.written pair)
-    ∙ ap (λ (c : List ℕ). header_with cluster (first_of b.left) (length b.written) sequence (first_address b.written) c) (parent_is before b.written pair fits)
+pub header_is : (cluster boot sequence a index : ℕ) (b : Blocks) (before : Option Reference) → Some a ≡ slice_get b.left 0 → index ≡ length b.written → pair_in before ≡ slice_get b.written 0 → IsCheck (checksum_in before)
+    → header_with cluster boot a index sequence (address_in before) (checksum_in before) ≡ next_header cluster boot sequence b
+header_is cluster boot sequence a index b before first count pair fits =
+    ap (λ (n : ℕ). header_with cluster boot n index sequence (address_in before) (checksum_in before)) (first_left b.left a first)
+    ∙ ap (λ (n : ℕ). header_with cluster boot (first_of b.left) n sequence (address_in before) (checksum_in before)) count
+    ∙ ap (λ (n : ℕ). header_with cluster boot (first_of b.left) (length b.written) sequence n (checksum_in before)) (address_is before b.written pair)
+    ∙ ap (λ (c : List ℕ). header_with cluster boot (first_of b.left) (length b.written) sequence (first_address b.written) c) (parent_is before b.written pair fits)
 
 -- the header that was made is the one of the next block
-pub header_next : (w v : GridState) (sequence a index : ℕ) (header : Header) (before : Option Reference) → w ≡ v → header ≡ header_with w.cluster a index sequence (address_in before) (checksum_in before) → Some a ≡ slice_get w.blocks.left 0 → index ≡ length v.blocks.written
-    → pair_in before ≡ slice_get w.blocks.written 0 → IsCheck (checksum_in before) → header ≡ next_header w.cluster sequence w.blocks
-header_next w v sequence a index header before same is next count pair fits = is ∙ header_is w.cluster sequence a index w.blocks before next (count ∙ ap (λ (g : GridState). length g.blocks.written) (sym same)) pair fits
+pub header_next : (w v : GridState) (sequence a index : ℕ) (header : Header) (before : Option Reference) → w ≡ v → header ≡ header_with w.cluster w.boot a index sequence (address_in before) (checksum_in before) → Some a ≡ slice_get w.blocks.left 0 → index ≡ length v.blocks.written
+    → pair_in before ≡ slice_get w.blocks.written 0 → IsCheck (checksum_in before) → header ≡ next_header w.cluster w.boot sequence w.blocks
+header_next w v sequence a index header before same is next count pair fits = is ∙ header_is w.cluster w.boot sequence a index w.blocks before next (count ∙ ap (λ (g : GridState). length g.blocks.written) (sym same)) pair fits
 
 -- and its write is the machine's
-pub next_steps : (w v : GridState) (sequence : ℕ) (piece : List ℕ) (header : Header) → w ≡ v → header ≡ next_header w.cluster sequence w.blocks → AreSteps (format_of w.layout header.cluster) (made_events w.layout (made header piece)) (block_steps (made header piece))
+pub next_steps : (w v : GridState) (sequence : ℕ) (piece : List ℕ) (header : Header) → w ≡ v → header ≡ next_header w.cluster w.boot sequence w.blocks → AreSteps (format_of w.layout header.cluster) (made_events w.layout (made header piece)) (block_steps (made header piece))
     → AreSteps (format_of v.layout v.cluster) (made_events v.layout (next_unit v sequence piece)) (block_steps (next_unit v sequence piece))
 next_steps w v sequence piece header same is steps =
     subst (λ (g : GridState). AreSteps (format_of g.layout g.cluster) (made_events g.layout (next_unit g sequence piece)) (block_steps (next_unit g sequence piece))) same
@@ -130,7 +131,7 @@ sum_back (Some r) (x ∷ xs) same fits =
 
 pub next_is : (g : GridState) (sequence : ℕ) (piece : List ℕ) (before : Option Reference) → pair_in before ≡ slice_get g.blocks.written 0 → IsCheck (checksum_in before)
     → block_of (next_unit g sequence piece) ≡ next_block g sequence piece (number_of (next_unit g sequence piece).header.checksum)
-next_is g sequence piece before pair fits = ap (λ (n : ℕ). (record { checksum = number_of (next_unit g sequence piece).header.checksum; kind = 0; sequence = sequence; index = length g.blocks.written; before = first_address g.blocks.written; before_checksum = n; body = piece })) (sum_back before g.blocks.written pair fits)
+next_is g sequence piece before pair fits = ap (λ (n : ℕ). (record { checksum = number_of (next_unit g sequence piece).header.checksum; kind = 0; sequence = sequence; index = length g.blocks.written; before = first_address g.blocks.written; before_checksum = n; boot = g.boot; body = piece })) (sum_back before g.blocks.written pair fits)
 
 -- ---- its rules
 
@@ -142,10 +143,21 @@ before_first : (index : ℕ) (before : Option Reference) → IsBefore index befo
 before_first index None is = (λ _. is, λ _. refl)
 before_first index (Some r) is = (λ none. absurd (omega (arith, is.1, none)), λ none. absurd (omega (arith, is.0, none)))
 
-pub header_obeys : (cluster a index sequence : ℕ) (before : Option Reference) (piece : List ℕ) → (0 < cluster) × (cluster < 2 ^ 128) → (0 < a) × (a < 2 ^ 64) → index < 2 ^ 64 → (2 ≤ sequence) × (sequence ≤ 2 ^ 62) → IsBefore index before → IsCheck (checksum_in before)
-    → address_in before < 2 ^ 64 → 256 + length piece < 2 ^ 32 → ObeysRules (for_body (header_with cluster a index sequence (address_in before) (checksum_in before)) piece)
-header_obeys cluster a index sequence before piece named at count running is fits low size =
-    given_obeys cluster named (header_with cluster a index sequence (address_in before) (checksum_in before)) piece Trailer (
+-- in a boot its version is 2, and else 1
+of_boot : (boot : ℕ) (h : Header) → boot ≤ 2 ^ 62 → h.version ≡ version_in boot → h.boot ≡ boot → h.group ≡ 0 → h.group_last ≡ 0 → ObeysVersion Trailer h
+of_boot boot h most version booted group group_last = elim (cases_lt 0 boot) [
+  | inl some ↦
+      let second : h.version ≡ 2 = version ∙ cond-false (boot == 0) 1 2 (ne_eqb boot 0 (λ none. absurd (omega (arith, some, none)))) in
+      inr (record { version = second; boot = (omega (arith, some, booted), omega (arith, most, booted)); group = record { none_first = group; none_last = group_last } })
+  | inr none ↦
+      let no_boot : boot ≡ 0 = omega (arith, none) in
+      of_first Trailer h (version ∙ cond-true (boot == 0) 1 2 (eq-eqb boot 0 no_boot)) (booted ∙ no_boot) group group_last
+]
+
+pub header_obeys : (cluster boot a index sequence : ℕ) (before : Option Reference) (piece : List ℕ) → (0 < cluster) × (cluster < 2 ^ 128) → boot ≤ 2 ^ 62 → (0 < a) × (a < 2 ^ 64) → index < 2 ^ 64 → (2 ≤ sequence) × (sequence ≤ 2 ^ 62) → IsBefore index before → IsCheck (checksum_in before)
+    → address_in before < 2 ^ 64 → 256 + length piece < 2 ^ 32 → ObeysRules (for_body (header_with cluster boot a index sequence (address_in before) (checksum_in before)) piece)
+header_obeys cluster boot a index sequence before piece named most at count running is fits low size =
+    given_obeys cluster named (header_with cluster boot a index sequence (address_in before) (checksum_in before)) piece Trailer (of_boot boot (header_with cluster boot a index sequence (address_in before) (checksum_in before)) most refl refl refl refl) (
       record {
         parent = fits;
         first = parent_first index before is;
@@ -157,9 +169,9 @@ header_obeys cluster a index sequence before piece named at count running is fit
       size,
     )
 
-pub header_owns : (layout : Layout) (cluster a index sequence before : ℕ) (parent : List ℕ) → (1 ≤ a) × (a ≤ layout.blocks) → IsSome (own_place layout Grid (header_with cluster a index sequence before parent))
+pub header_owns : (layout : Layout) (cluster boot a index sequence before : ℕ) (parent : List ℕ) → (1 ≤ a) × (a ≤ layout.blocks) → IsSome (own_place layout Grid (header_with cluster boot a index sequence before parent))
 unfolding own_place
-header_owns layout cluster a index sequence before parent has = grind (arith, nat_tests)
+header_owns layout cluster boot a index sequence before parent has = grind (arith, nat_tests)
 
-abbrev pub state_of : Layout → ℕ → Blocks → GridState
-state_of layout cluster blocks = record { layout = layout; cluster = cluster; blocks = blocks }
+abbrev pub state_of : Layout → (cluster boot : ℕ) → Blocks → GridState
+state_of layout cluster boot blocks = record { layout = layout; cluster = cluster; boot = boot; blocks = blocks }

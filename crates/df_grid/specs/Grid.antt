@@ -1,4 +1,4 @@
--- The grid as its callers see it: the file's layout and cluster, and what the machine knows of the blocks.
+-- The grid as its callers see it: the file's layout and cluster, the boot, and what the machine knows of the blocks.
 use Rattle.std.specs.Prelude.{◌≡◌, ◌<◌, ◌≤◌, ◌^◌, ℕ, false, Option, Some, List}
 use Rattle.df_layout.specs.declared.layout.Layout.{Layout}
 use Rattle.df_layout.specs.declared.places.Zone.TheVariants.{Grid}
@@ -12,11 +12,16 @@ use Rattle.df_units.specs.Meaning.{layout_of, number_of}
 pub record GridState : Type 0 where
   pub layout : Layout
   pub cluster : ℕ
+  pub boot : ℕ  -- that a trailer block is sealed in, 0 where none was set
   pub blocks : Blocks
 
 -- the grid with other blocks
 abbrev pub with_blocks : GridState → Blocks → GridState
-with_blocks g b = record { layout = g.layout; cluster = g.cluster; blocks = b }
+with_blocks g b = record { layout = g.layout; cluster = g.cluster; boot = g.boot; blocks = b }
+
+-- the grid in another boot
+abbrev pub with_boot : GridState → ℕ → GridState
+with_boot g boot = record { layout = g.layout; cluster = g.cluster; boot = boot; blocks = g.blocks }
 
 -- the addresses that aren't held, from the least on
 abbrev pub free_of : GridState → List ℕ
@@ -36,9 +41,10 @@ pub record IsUnheld (g : GridState) (a : ℕ) : Type 0 where
   pub unheld : is_held_in g.blocks a ≡ false
 
 -- what holds of the parts of a grid: a table of the layout's addresses, and rooms of the layout
-pub record IsGrid (layout : Layout) (cluster size : ℕ) (of_block of_trailer : Layout) : Type 0 where
+pub record IsGrid (layout : Layout) (cluster boot size : ℕ) (of_block of_trailer : Layout) : Type 0 where
   pub named : 0 < cluster
   pub fits : cluster < 2 ^ 128
+  pub boots : boot ≤ 2 ^ 62
   pub size_is : size ≡ layout.blocks
   pub block : of_block ≡ layout
   pub trailer : of_trailer ≡ layout

@@ -1,5 +1,5 @@
 -- What is written of a block: one write into its place, which is the machine's put of one unit.
-use Rattle.std.specs.Prelude.{◌≡◌, ◌<◌, ℕ, List, [], ◌∷◌, length, Option, Some, None}
+use Rattle.std.specs.Prelude.{◌≡◌, ◌==◌, ◌<◌, ℕ, if◌then◌else◌, List, [], ◌∷◌, length, Option, Some, None}
 use Rattle.df_base.specs.Fields.{spelled}
 use Rattle.df_base.specs.Log.{Event, Write}
 use Rattle.df_layout.specs.declared.layout.Layout.{Layout}
@@ -44,23 +44,29 @@ first_sum (x ∷ xs) = x.1
 abbrev pub made : Header → List ℕ → Message
 made header body = record { header = sealed (for_body header body); body = body }
 
+-- the version of a unit that is made in this boot: version 2 counts its boots from 1, and version 1 has none
+abbrev pub version_in : ℕ → ℕ
+version_in boot = if boot == 0 then 1 else 2
+
 -- the header of a trailer block at an address, behind the block with this checksum, if there is one
-abbrev pub header_with : (cluster address index sequence before : ℕ) → List ℕ → Header
-header_with cluster address index sequence before parent = record (blank_header Trailer cluster) {
+abbrev pub header_with : (cluster boot address index sequence before : ℕ) → List ℕ → Header
+header_with cluster boot address index sequence before parent = record (blank_header Trailer cluster) {
   parent = parent;
   op = address;
   request = before;
   mark = index;
   checkpoint = sequence;
+  version = version_in boot;
+  boot = boot;
 }
 
 -- that of the running trailer's next block: its index is how many are written, and before it stands the one that was written last
-abbrev pub next_header : (cluster sequence : ℕ) → Blocks → Header
-next_header cluster sequence b = header_with cluster (first_of b.left) (length b.written) sequence (first_address b.written) (spelled 16 (first_sum b.written))
+abbrev pub next_header : (cluster boot sequence : ℕ) → Blocks → Header
+next_header cluster boot sequence b = header_with cluster boot (first_of b.left) (length b.written) sequence (first_address b.written) (spelled 16 (first_sum b.written))
 
 -- the running trailer's next block, over this piece of the text
 abbrev pub next_unit : GridState → (sequence : ℕ) → List ℕ → Message
-next_unit g sequence piece = made (next_header g.cluster sequence g.blocks) piece
+next_unit g sequence piece = made (next_header g.cluster g.boot sequence g.blocks) piece
 
 -- in the machine's words
 abbrev pub next_block : GridState → (sequence : ℕ) → List ℕ → (sum : ℕ) → Units.Block
@@ -71,6 +77,7 @@ next_block g sequence piece sum = record {
   index = length g.blocks.written;
   before = first_address g.blocks.written;
   before_checksum = first_sum g.blocks.written;
+  boot = g.boot;
   body = piece;
 }
 

@@ -1,8 +1,8 @@
 // The grid: which addresses are held and why, and what a new block, a release and a checkpoint make of that.
-ghost use Rattle.std.specs.Prelude.{◌≡◌, ◌≢◌, ◌*◌, ◌<◌, ◌≤◌, false, [], length, map, take, replicate, slice_get, All, IfSome, IsSome, nat_lt};
+ghost use Rattle.std.specs.Prelude.{◌≡◌, ◌≢◌, ◌*◌, ◌^◌, ◌<◌, ◌≤◌, false, [], length, map, take, replicate, slice_get, All, IfSome, IsSome, nat_lt};
 ghost use Rattle.std.specs.List.{filter};
 ghost use Rattle.df_grid.specs.Below.{block_released, blocks_captured, capture_finished, sum_at, is_known, number_in, is_referenced, ones, captured_blocks, referenced_among, number_of};
-ghost use Rattle.df_grid.specs.Grid.{GridState, HasAddress, IsUnheld, free_of, referenced_of, with_blocks};
+ghost use Rattle.df_grid.specs.Grid.{GridState, HasAddress, IsUnheld, free_of, referenced_of, with_blocks, with_boot};
 ghost use Rattle.df_grid.specs.Table.{IsIdle, adopted, last_of, no_blocks, pair_in};
 
 use crate::table::Table;
@@ -19,6 +19,7 @@ use std::marker::Model;
 pub struct Grid {
     pub(crate) layout: Layout,
     pub(crate) cluster: u128,
+    pub(crate) boot: u64,
     pub(crate) table: Table,
     pub(crate) block: Shelf<Block>,
     pub(crate) trailer: Shelf<Trailer>,
@@ -30,6 +31,7 @@ impl Drop for Grid {
         let Grid {
             layout: _,
             cluster: _,
+            boot: _,
             table: _,
             block: _,
             trailer: _,
@@ -42,14 +44,15 @@ impl Model for Grid {
 
     ghost Value = { GridState };
 
-    ghost view = { λ g. record { layout = g.layout; cluster = g.cluster; blocks = g.table.blocks } };
+    ghost view = { λ g. record { layout = g.layout; cluster = g.cluster; boot = g.boot; blocks = g.table.blocks } };
 
-    ghost invariant = { λ g. IsGrid g.layout g.cluster g.table.size g.block.layout g.trailer.layout };
+    ghost invariant = { λ g. IsGrid g.layout g.cluster g.boot g.table.size g.block.layout g.trailer.layout };
 }
 
 impl Grid {
     /// A grid in which no address is held: over a free set of the layout's blocks that are all free, a checksum and a byte of marks
-    /// for each, the marks all zero, and rooms of the layout for what is shown and for trailer blocks. The cluster isn't 0.
+    /// for each, the marks all zero, and rooms of the layout for what is shown and for trailer blocks. The cluster isn't 0. Trailer
+    /// blocks are of version 1, until a boot is set.
     pub fn over(
         layout: Layout,
         cluster: u128,
@@ -66,11 +69,12 @@ impl Grid {
         requires zero { All (λ mark. mark ≡ 0) marks.items }
         requires block { block.layout ≡ layout }
         requires trailer { trailer.layout ≡ layout }
-        ensures { result ≡ record { layout = layout; cluster = cluster; blocks = no_blocks } }
+        ensures { result ≡ record { layout = layout; cluster = cluster; boot = 0; blocks = no_blocks } }
     {
         Grid {
             layout,
             cluster,
+            boot: 0,
             table: Table::over(free, checks, marks),
             block: Shelf::over(layout, block),
             trailer: Shelf::over(layout, trailer),
@@ -89,6 +93,7 @@ impl Grid {
         let Grid {
             layout: _,
             cluster: _,
+            boot: _,
             table,
             block,
             trailer,
@@ -102,6 +107,14 @@ impl Grid {
         ensures { result ≡ self.now.layout }
     {
         self.layout
+    }
+
+    /// From now on trailer blocks are sealed in this boot, 1 to 2^62, and of version 2.
+    pub fn set_boot(&mut self, boot: u64)
+        requires boot { (1 ≤ boot) × (boot ≤ 2 ^ 62) }
+        ensures { self.new ≡ with_boot self.old boot }
+    {
+        self.boot = boot;
     }
 
     /// The least address that isn't held, None exactly where all are.

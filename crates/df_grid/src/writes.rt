@@ -3,7 +3,7 @@ ghost use Rattle.std.specs.Prelude.{◌≡◌, ◌≢◌, ◌+◌, ◌≤◌, �
 ghost use Rattle.df_grid.specs.Below.{HasCause, Adds, for_body, own_place, ObeysRules, IsCheck, greatest_size, block_written, is_held_in, AreSteps, format_of, block_of, number_of};
 ghost use Rattle.df_grid.specs.Grid.{HasAddress, with_blocks};
 ghost use Rattle.df_grid.specs.Table.{next_written};
-ghost use Rattle.df_grid.specs.Writes.{IsBefore, address_in, block_events, block_steps, checksum_in, header_with, made, made_events, next_block, next_unit};
+ghost use Rattle.df_grid.specs.Writes.{IsBefore, address_in, block_events, block_steps, checksum_in, header_with, made, made_events, next_block, next_unit, version_in};
 
 use crate::Grid;
 use crate::reads::grid_place;
@@ -46,9 +46,17 @@ fn address_of(before: Option<Reference>) -> u64
     }
 }
 
+// The version of a unit that is made in this boot: 0 is none.
+fn version_in(boot: u64) -> u16
+    ensures { result ≡ version_in boot }
+{
+    if boot == 0 { 1 } else { 2 }
+}
+
 // The header of a trailer block behind another one, as its maker gives it over a piece.
 fn trailer_header(
     cluster: u128,
+    boot: u64,
     address: u64,
     index: u64,
     sequence: u64,
@@ -56,11 +64,12 @@ fn trailer_header(
     piece: &[u8],
 ) -> Header
     requires cluster { 0 < cluster }
+    requires boot { boot ≤ 2 ^ 62 }
     requires address { 0 < address }
     requires sequence { (2 ≤ sequence) × (sequence ≤ 2 ^ 62) }
     requires before { IsBefore index before }
     requires size { 256 + length piece.now < 2 ^ 32 }
-    ensures header { result ≡ header_with cluster address index sequence (address_in before) (checksum_in before) }
+    ensures header { result ≡ header_with cluster boot address index sequence (address_in before) (checksum_in before) }
     ensures parent { IsCheck (checksum_in before) }
     ensures rules { ObeysRules (for_body result piece.now) }
 {
@@ -72,6 +81,8 @@ fn trailer_header(
         request: before,
         mark: index,
         checkpoint: sequence,
+        version: version_in(boot),
+        boot,
         ..Header::of(Kind::Trailer, cluster)
     }
 }
@@ -126,7 +137,7 @@ impl Grid {
 
     /// Seals the running trailer's next block over a piece of the text and writes it into its place, without a sync. Its index is the
     /// number of blocks that are written, so each is written once, and the sequence is the running checkpoint's, 2 to 2^62. After an
-    /// error the block is still the next one.
+    /// error the block is still the next one. It is of version 2 and of the boot that was set, or of version 1 where none was.
     pub fn write_trailer<D: Disk>(
         &mut self,
         disk: &mut D,
@@ -149,7 +160,15 @@ impl Grid {
             unreachable!()
         };
         let before = self.table.last_written();
-        let header = trailer_header(self.cluster, address, index, sequence, before, piece);
+        let header = trailer_header(
+            self.cluster,
+            self.boot,
+            address,
+            index,
+            sequence,
+            before,
+            piece,
+        );
         match put_made(&mut self.trailer, disk, &self.layout, header, piece) {
             Ok(checksum) => {
                 self.table.put_trailer(checksum);

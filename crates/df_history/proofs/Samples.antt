@@ -89,7 +89,7 @@ told : AreTold IsOurs
 told = record { contents = content_with; headers = header_with; prepares = prepare_with; replies = λ n. prepare; blocks = λ n. no_block; content = λ c is. is.0; header = λ h is. is; prepare = λ p is. is; reply = λ r none. absurd none; block = λ b none. absurd none }
   where
     no_block : Block
-    no_block = record { checksum = 0; kind = 0; sequence = 0; index = 0; before = 0; before_checksum = 0; body = [] }
+    no_block = record { checksum = 0; kind = 0; sequence = 0; index = 0; before = 0; before_checksum = 0; boot = 0; body = [] }
 
 pub distinct : (x y : AnyUnit) → IsOurs x → IsOurs y → Distinct x y
 distinct = distinct_of IsOurs told

@@ -1,21 +1,21 @@
 -- The counters are the greatest numbers.
-use Rattle.std.proofs.Common.{◌≡◌, ◌↔◌, inl, inr, ℕ, ◌+◌, ◌-◌, ◌<◌, ◌≤◌, Bool, true, false, List, length, get_or, Option, Some, None, refl, sym, ◌∙◌, ap, subst, arith, max}
+use Rattle.std.proofs.Common.{◌≡◌, ◌==◌, ◌↔◌, inl, inr, ℕ, ◌+◌, ◌<◌, ◌≤◌, Bool, true, false, List, length, get_or, Option, Some, None, refl, sym, ◌∙◌, ap, subst, arith, max}
 use Rattle.std.specs.Prelude.{Result, Ok, Err, IsTrue, IsFalse}
 use Rattle.std.specs.Bool.{OnFalse}
 use Rattle.std.specs.List.{slice_get}
-use Rattle.std.proofs.lemmas.Bool.{cases_lt}
+use Rattle.std.proofs.lemmas.Bool.{cases_eq, cases_lt, cond-true, cond-false, eq-eqb, ne_eqb}
 use Rattle.std.proofs.lemmas.Option.{slice_get_cases, slice_get-get_or}
 use Rattle.df_layout.specs.declared.damage.Class.{Class}
 use Rattle.df_format.specs.declared.header.Header.{Header as FileHeader}
 use Rattle.df_stamps.specs.declared.counters.Counters.{Counters}
 use Rattle.df_stamps.specs.Evidence.{IsBehind, IsComplete, IsLost, IsUpToDate}
-use Rattle.df_theory.specs.Units.{AnyUnit, Content, Header, HeaderPlace, HeaderUnit, IsAlone, Message, PreparePlace, PrepareUnit, ReplyPlace, ReplyUnit, Units}
+use Rattle.df_theory.specs.Units.{AnyUnit, Content, Header, HeaderPlace, HeaderUnit, Message, PreparePlace, PrepareUnit, Units}
 use Rattle.df_theory.specs.Shape.{Shape, slots}
 use Rattle.df_theory.specs.Found.{NotBehind, NotLost}
 use Rattle.df_units.specs.Meaning.{header_of}
 use Rattle.df_buffers.specs.declared.slots.SlotSeen.{SlotSeen}
 use Rattle.df_journal.specs.Shows.{ShowsHeader, ShowsPrepare, ShowsTable}
-use Rattle.df_journal.specs.Counts.{CountsAll, CountsRings, RingsWithin, checkpoint_in, op_in, with_unit}
+use Rattle.df_journal.specs.Counts.{CountsAll, CountsOps, CountsOwn, CountsRings, OwnAreAlone, RingsWithin, boot_in, checkpoint_in, in_boot, op_in, own_op, with_unit}
 
 -- ---- the rings
 
@@ -32,20 +32,13 @@ pub checkpoint_is : (r : Result FileHeader Class) → checkpoint_in r ≡ number
 checkpoint_is (Ok h) = refl
 checkpoint_is (Err class) = refl
 
-no_boot : (r : Result FileHeader Class) → number_in (λ h. h.boot) r ≡ 0
-no_boot (Ok h) = refl
-no_boot (Err class) = refl
+pub own_op_is : (boot : ℕ) (r : Result FileHeader Class) → own_op boot r ≡ number_in (in_boot boot (λ h. h.op)) r
+own_op_is boot (Ok h) = refl
+own_op_is boot (Err class) = refl
 
--- how far the numbers of a group are from the op
-abbrev apart_of : Header → ℕ
-apart_of h = (h.group - h.op) + (h.op - h.group) + (h.group_last - h.op) + (h.op - h.group_last)
-
-not_apart : (r : Result FileHeader Class) → number_in apart_of r ≡ 0
-not_apart (Ok h) = omega arith
-not_apart (Err class) = refl
-
-is_alone : (h : Header) → apart_of h ≤ 0 → IsAlone h
-is_alone h none = record { first = omega (arith, none); last = omega (arith, none) }
+pub boot_is : (r : Result FileHeader Class) → boot_in r ≡ number_in (λ h. h.boot) r
+boot_is (Ok h) = refl
+boot_is (Err class) = refl
 
 -- in the first k slots the numbers are at most n
 abbrev pub SlotsWithin : (Header → ℕ) → ℕ → ℕ → List SlotSeen → Type 0
@@ -123,70 +116,81 @@ module _ (image : Units) (table : List SlotSeen) (shows : ShowsTable image table
 pub record CountsSlots (table : List SlotSeen) (k : ℕ) (seen : Counters) : Type 0 where
   pub ring_op : IsTop (λ h. h.op) table k seen.ring_op
   pub checkpoint : IsTop (λ h. h.checkpoint) table k seen.checkpoint
+  pub boot : IsTop (λ h. h.boot) table k seen.boot
 
-pub slots_none : (table : List SlotSeen) (seen : Counters) → seen.ring_op ≡ 0 → seen.checkpoint ≡ 0 → CountsSlots table 0 seen
-slots_none table seen op checkpoint = record {
+pub slots_none : (table : List SlotSeen) (seen : Counters) → seen.ring_op ≡ 0 → seen.checkpoint ≡ 0 → seen.boot ≡ 0 → CountsSlots table 0 seen
+slots_none table seen op checkpoint boot = record {
   ring_op = subst (IsTop (λ h. h.op) table 0) (sym op) (top_none (λ h. h.op) table);
   checkpoint = subst (IsTop (λ h. h.checkpoint) table 0) (sym checkpoint) (top_none (λ h. h.checkpoint) table);
+  boot = subst (IsTop (λ h. h.boot) table 0) (sym boot) (top_none (λ h. h.boot) table);
 }
 
 pub slots_more : (table : List SlotSeen) (k : ℕ) (seen : Counters) (slot : SlotSeen) → slice_get table k ≡ Some slot → CountsSlots table k seen → CountsSlots table (k + 1) (with_unit (with_unit seen slot.header) slot.prepare)
 slots_more table k seen slot at is = record {
   ring_op = top_more (λ h. h.op) table k seen.ring_op (op_in slot.header) (op_in slot.prepare) slot at (op_is slot.header) (op_is slot.prepare) is.ring_op;
   checkpoint = top_more (λ h. h.checkpoint) table k seen.checkpoint (checkpoint_in slot.header) (checkpoint_in slot.prepare) slot at (checkpoint_is slot.header) (checkpoint_is slot.prepare) is.checkpoint;
+  boot = top_more (λ h. h.boot) table k seen.boot (boot_in slot.header) (boot_in slot.prepare) slot at (boot_is slot.header) (boot_is slot.prepare) is.boot;
 }
 
 then_iff : {A B C : Type 0} → A ↔ B → B ↔ C → A ↔ C
 then_iff one two = (λ a. two.0 (one.0 a), λ c. one.1 (two.1 c))
 
-pub slots_count : (table : List SlotSeen) (seen : Counters) (image : Units) (boot : ℕ) → boot ≡ 0 → CountsSlots table (length table) seen → ShowsTable image table → CountsRings image boot seen
-slots_count table seen image boot none is shows = record {
+pub slots_count : (table : List SlotSeen) (seen : Counters) (image : Units) → CountsSlots table (length table) seen → ShowsTable image table → CountsRings image seen
+slots_count table seen image is shows = record {
   ring_op = λ n. then_iff (is.ring_op n) (rings_within image table shows (λ h. h.op) n);
   checkpoint = λ n. then_iff (is.checkpoint n) (rings_within image table shows (λ h. h.checkpoint) n);
-  boots = record {
-    header = λ s h shown. omega (arith, none, without.header s h shown);
-    prepare = λ s p shown. omega (arith, none, without.prepare s p shown);
-    alone = λ s p shown. is_alone p.header (together.prepare s p shown);
-  };
+  boot = λ n. then_iff (is.boot n) (rings_within image table shows (λ h. h.boot) n);
 }
-  where
-    without : RingsWithin image (λ h. h.boot) 0
-    without = (rings_within image table shows (λ h. h.boot) 0).0 (λ s seen less at. (omega (arith, no_boot seen.header), omega (arith, no_boot seen.prepare)))
-
-    together : RingsWithin image apart_of 0
-    together = (rings_within image table shows apart_of 0).0 (λ s seen less at. (omega (arith, not_apart seen.header), omega (arith, not_apart seen.prepare)))
 
 -- ---- what they say of a state
 
-pub up_to_date : (sh : Shape) (image : Units) (c : Content) (seen : Counters) (boot : ℕ) → CountsAll image boot seen → boot ≤ c.boot → IsUpToDate seen c.sequence c.op (slots sh) ↔ NotBehind sh image c
-up_to_date sh image c seen boot counts low = (
+pub up_to_date : (sh : Shape) (image : Units) (c : Content) (seen : Counters) → CountsAll image seen → IsUpToDate seen c.sequence c.op (slots sh) c.boot ↔ NotBehind sh image c
+up_to_date sh image c seen counts = (
   λ is.
       let op = (counts.ring_op (c.op + slots sh)).0 is.ring_op in
       let sequence = (counts.checkpoint c.sequence).0 is.checkpoint in
+      let boot = (counts.boot c.boot).0 is.boot in
       record {
-        header = λ s h shown. (sequence.0.header s h shown, op.header s h shown, (let own = counts.boots.0.header s h shown in omega (arith, own, low)));
-        prepare = λ s p shown. (sequence.0.prepare s p shown, op.prepare s p shown, (let own = counts.boots.0.prepare s p shown in omega (arith, own, low)));
-        reply = λ k r shown. (sequence.1 k r shown, (let own = counts.boots.1 k r shown in omega (arith, own, low)));
+        header = λ s h shown. (sequence.0.header s h shown, op.header s h shown, boot.0.header s h shown);
+        prepare = λ s p shown. (sequence.0.prepare s p shown, op.prepare s p shown, boot.0.prepare s p shown);
+        reply = λ k r shown. (sequence.1 k r shown, boot.1 k r shown);
       },
   λ is. record {
     checkpoint = (counts.checkpoint c.sequence).1 (record { header = λ s h shown. (is.header s h shown).0; prepare = λ s p shown. (is.prepare s p shown).0 }, λ k r shown. (is.reply k r shown).0);
     ring_op = (counts.ring_op (c.op + slots sh)).1 (record { header = λ s h shown. (is.header s h shown).1; prepare = λ s p shown. (is.prepare s p shown).1 });
+    boot = (counts.boot c.boot).1 (record { header = λ s h shown. (is.header s h shown).2; prepare = λ s p shown. (is.prepare s p shown).2 }, λ k r shown. (is.reply k r shown).1);
   },
 )
 
-pub complete : (image : Units) (c : Content) (head : ℕ) (seen : Counters) (one : ℕ) → CountsAll image one seen → c.boot ≡ one → IsComplete seen c.head head ↔ NotLost image c head
-complete image c head seen one counts boot = (
+-- the number of a unit of this boot
+own_is : (boot : ℕ) (number : Header → ℕ) (h : Header) → h.boot ≡ boot → in_boot boot number h ≡ number h
+own_is boot number h own = cond-true (h.boot == boot) (number h) 0 (eq-eqb h.boot boot own)
+
+within_own : (boot n : ℕ) (number : Header → ℕ) (h : Header) → (h.boot ≡ boot → number h ≤ n) → in_boot boot number h ≤ n
+within_own boot n number h all = elim (cases_eq h.boot boot) [
+  | inl own ↦ omega (arith, own_is boot number h own, all own)
+  | inr other ↦ omega (arith, cond-false (h.boot == boot) (number h) 0 (ne_eqb h.boot boot other))
+]
+
+pub own_within : (boot n : ℕ) (number : Header → ℕ) (h : Header) → in_boot boot number h ≤ n → h.boot ≡ boot → number h ≤ n
+own_within boot n number h le own = omega (arith, le, own_is boot number h own)
+
+pub complete : (image : Units) (c : Content) (head : ℕ) (seen : Counters) → CountsOwn c.boot image seen → OwnAreAlone image c.boot → IsComplete seen c.head head ↔ NotLost image c head
+complete image c head seen counts alone = (
   λ is.
       let op = (counts.ring_op head).0 is.ring_op in
-      let reply = (counts.reply_top head).0 is.reply_top in
-      record { header = λ s h shown own. op.header s h shown; prepare = λ s p shown own. inl (op.prepare s p shown); superblock = is.superblock; reply = λ k r shown own. (reply.0 k r shown, reply.1 k r shown) },
-  λ is.
-      let header : (s : ℕ) (h : Header) → image (HeaderPlace s) ≡ Some (HeaderUnit h) → h.op ≤ head = λ s h shown. is.header s h shown (counts.boots.0.header s h shown ∙ sym boot) in
-      let prepare : (s : ℕ) (p : Message) → image (PreparePlace s) ≡ Some (PrepareUnit p) → p.header.op ≤ head = λ s p shown. elim (is.prepare s p shown (counts.boots.0.prepare s p shown ∙ sym boot)) [ inl below ↦ below | inr cut ↦ let own = counts.boots.0.alone s p shown in absurd (omega (arith, own.first, own.last, cut.several)) ] in
-      let reply : (k : ℕ) (r : Message) → image (ReplyPlace k) ≡ Some (ReplyUnit r) → (r.header.op ≤ head) × (r.header.mark ≤ head) = λ k r shown. is.reply k r shown (counts.boots.1 k r shown ∙ sym boot) in
+      let reply = (counts.replies head).0 is.reply_top in
       record {
-        ring_op = (counts.ring_op head).1 (record { header = header; prepare = prepare });
-        reply_top = (counts.reply_top head).1 (λ k r shown. (reply k r shown).0, λ k r shown. (reply k r shown).1);
+        header = λ s h shown. own_within c.boot head (λ x. x.op) h (op.header s h shown);
+        prepare = λ s p shown own. inl (own_within c.boot head (λ x. x.op) p.header (op.prepare s p shown) own);
+        superblock = is.superblock;
+        reply = λ k r shown own. (own_within c.boot head (λ x. x.op) r.header (reply.0 k r shown) own, own_within c.boot head (λ x. x.mark) r.header (reply.1 k r shown) own);
+      },
+  λ is.
+      let prepare : (s : ℕ) (p : Message) → image (PreparePlace s) ≡ Some (PrepareUnit p) → p.header.boot ≡ c.boot → p.header.op ≤ head = λ s p shown own. elim (is.prepare s p shown own) [ inl below ↦ below | inr cut ↦ let one = alone s p shown own in absurd (omega (arith, one.first, one.last, cut.several)) ] in
+      record {
+        ring_op = (counts.ring_op head).1 (record { header = λ s h shown. within_own c.boot head (λ x. x.op) h (is.header s h shown); prepare = λ s p shown. within_own c.boot head (λ x. x.op) p.header (prepare s p shown) });
+        reply_top = (counts.replies head).1 (λ k r shown. within_own c.boot head (λ x. x.op) r.header (λ own. (is.reply k r shown own).0), λ k r shown. within_own c.boot head (λ x. x.mark) r.header (λ own. (is.reply k r shown own).1));
         superblock = is.superblock;
       },
 )
@@ -199,17 +203,24 @@ tells : {Bad Good N : Type 0} (b : Bool) → IsTrue b ↔ Bad → OnFalse b Good
 tells true found none iff apart = record { yes = (λ is n. apart (found.0 refl) (iff.1 n), λ no. refl); no = (λ is. absurd (cc), λ n. absurd (apart (found.0 refl) (iff.1 n))) }
 tells false found none iff apart = record { yes = (λ is. absurd (cc), λ no. absurd (no (iff.0 none))); no = (λ is. iff.0 none, λ n. refl) }
 
-pub behind_tells : (sh : Shape) (image : Units) (c : Content) (seen : Counters) (b : Bool) (boot sequence op slot_count : ℕ) → IsTrue b ↔ IsBehind seen sequence op slot_count → OnFalse b (IsUpToDate seen sequence op slot_count)
-    → CountsAll image boot seen → boot ≤ c.boot → c.sequence ≡ sequence → c.op ≡ op → slots sh ≡ slot_count → Tells b (NotBehind sh image c)
-behind_tells sh image c seen b boot sequence op slot_count found none counts low sequence_is op_is slots_are =
-    let iff : IsUpToDate seen sequence op slot_count ↔ NotBehind sh image c =
-    subst (λ (k : ℕ). IsUpToDate seen k op slot_count ↔ NotBehind sh image c) sequence_is (subst (λ (k : ℕ). IsUpToDate seen c.sequence k slot_count ↔ NotBehind sh image c) op_is (subst (λ (k : ℕ). IsUpToDate seen c.sequence c.op k ↔ NotBehind sh image c) slots_are (up_to_date sh image c seen boot counts low))) in
-    tells b found none iff (λ bad good. elim bad [ inl later ↦ omega (arith, later, good.checkpoint) | inr further ↦ omega (arith, further, good.ring_op) ])
+pub behind_tells : (sh : Shape) (image : Units) (c : Content) (seen : Counters) (b : Bool) (boot sequence op slot_count : ℕ) → IsTrue b ↔ IsBehind seen sequence op slot_count boot → OnFalse b (IsUpToDate seen sequence op slot_count boot)
+    → CountsAll image seen → c.boot ≡ boot → c.sequence ≡ sequence → c.op ≡ op → slots sh ≡ slot_count → Tells b (NotBehind sh image c)
+behind_tells sh image c seen b boot sequence op slot_count found none counts boot_is sequence_is op_is slots_are =
+    let own : IsUpToDate seen c.sequence c.op (slots sh) c.boot ↔ NotBehind sh image c = up_to_date sh image c seen counts in
+    let booted = subst (λ (k : ℕ). IsUpToDate seen c.sequence c.op (slots sh) k ↔ NotBehind sh image c) boot_is own in
+    let sloted = subst (λ (k : ℕ). IsUpToDate seen c.sequence c.op k boot ↔ NotBehind sh image c) slots_are booted in
+    let opped = subst (λ (k : ℕ). IsUpToDate seen c.sequence k slot_count boot ↔ NotBehind sh image c) op_is sloted in
+    let iff = subst (λ (k : ℕ). IsUpToDate seen k op slot_count boot ↔ NotBehind sh image c) sequence_is opped in
+    tells b found none iff (λ bad good. elim bad [
+      | inl later ↦ omega (arith, later, good.checkpoint)
+      | inr (inl further) ↦ omega (arith, further, good.ring_op)
+      | inr (inr booted) ↦ omega (arith, booted, good.boot)
+    ])
 
-pub lost_tells : (image : Units) (c : Content) (seen : Counters) (b : Bool) (one superblock_head head : ℕ) → IsTrue b ↔ IsLost seen superblock_head head → OnFalse b (IsComplete seen superblock_head head)
-    → CountsAll image one seen → c.boot ≡ one → c.head ≡ superblock_head → Tells b (NotLost image c head)
-lost_tells image c seen b one superblock_head head found none counts boot is =
-    let iff : IsComplete seen superblock_head head ↔ NotLost image c head = subst (λ (k : ℕ). IsComplete seen k head ↔ NotLost image c head) is (complete image c head seen one counts boot) in
+pub lost_tells : (image : Units) (c : Content) (seen : Counters) (b : Bool) (superblock_head head : ℕ) → IsTrue b ↔ IsLost seen superblock_head head → OnFalse b (IsComplete seen superblock_head head)
+    → CountsOwn c.boot image seen → OwnAreAlone image c.boot → c.head ≡ superblock_head → Tells b (NotLost image c head)
+lost_tells image c seen b superblock_head head found none counts alone is =
+    let iff : IsComplete seen superblock_head head ↔ NotLost image c head = subst (λ (k : ℕ). IsComplete seen k head ↔ NotLost image c head) is (complete image c head seen counts alone) in
     tells b found none iff (λ bad good. elim bad [ inl ring ↦ omega (arith, ring, good.ring_op) | inr (inl reply) ↦ omega (arith, reply, good.reply_top) | inr (inr own) ↦ omega (arith, own, good.superblock) ])
 
 -- ---- turns of the loops, by what is read at an index
@@ -222,3 +233,18 @@ slot_turn table k seen one two d e within first second is =
     let same : get_or table k e ≡ get_or table k d = cc in
     let counted : two ≡ with_unit (with_unit seen (get_or table k d).header) (get_or table k d).prepare = second ∙ ap (λ (x : SlotSeen). with_unit one x.prepare) same ∙ ap (λ (x : Counters). with_unit x (get_or table k d).prepare) first in
     subst (CountsSlots table (k + 1)) (sym counted) (slots_more table k seen (get_or table k d) at is)
+
+-- the same of the greatest op of a boot
+pub own_turn : (boot : ℕ) (table : List SlotSeen) (k top one two : ℕ) (d e : SlotSeen) → k < length table → one ≡ max top (own_op boot (get_or table k d).header) → two ≡ max one (own_op boot (get_or table k e).prepare)
+    → IsTop (in_boot boot (λ h. h.op)) table k top → IsTop (in_boot boot (λ h. h.op)) table (k + 1) two
+own_turn boot table k top one two d e within first second is =
+    let at : slice_get table k ≡ Some (get_or table k d) = slice_get-get_or table k d within in
+    let other : slice_get table k ≡ Some (get_or table k e) = slice_get-get_or table k e within in
+    let both : Some (get_or table k e) ≡ Some (get_or table k d) = sym other ∙ at in
+    let same : get_or table k e ≡ get_or table k d = cc in
+    let counted : two ≡ max (max top (own_op boot (get_or table k d).header)) (own_op boot (get_or table k d).prepare) = second ∙ ap (λ (x : SlotSeen). max one (own_op boot x.prepare)) same ∙ ap (λ (x : ℕ). max x (own_op boot (get_or table k d).prepare)) first in
+    subst (IsTop (in_boot boot (λ h. h.op)) table (k + 1)) (sym counted)
+    (top_more (in_boot boot (λ h. h.op)) table k top (own_op boot (get_or table k d).header) (own_op boot (get_or table k d).prepare) (get_or table k d) at (own_op_is boot (get_or table k d).header) (own_op_is boot (get_or table k d).prepare) is)
+
+pub ops_count : (boot : ℕ) (table : List SlotSeen) (top : ℕ) (image : Units) → IsTop (in_boot boot (λ h. h.op)) table (length table) top → ShowsTable image table → CountsOps boot image top
+ops_count boot table top image is shows n = then_iff (is n) (rings_within image table shows (in_boot boot (λ h. h.op)) n)

@@ -1,7 +1,8 @@
 -- What the table decides of a slot is what the theory decides of the image.
-use Rattle.std.proofs.Common.{◌≡◌, ℕ, ◌%◌, ◌<◌, ◌^◌, ◌≤◌, length, List, Option, Some, sym, ◌∙◌, ap, subst}
+use Rattle.std.proofs.Common.{◌≡◌, ◌==◌, inl, inr, ℕ, ◌%◌, ◌<◌, ◌^◌, ◌≤◌, length, List, Option, Some, sym, ◌∙◌, ap, subst, arith}
 use Rattle.std.specs.Prelude.{Result, Ok, Err}
 use Rattle.std.specs.List.{slice_get}
+use Rattle.std.proofs.lemmas.Bool.{cases_eq, cond-true, cond-false, eq-eqb, ne_eqb}
 use Rattle.df_base.proofs.Laws.{length-check_of, AreBytes-check_of}
 use Rattle.df_layout.specs.declared.damage.Class.{Class}
 use Rattle.df_layout.specs.declared.layout.Layout.{Layout}
@@ -11,12 +12,15 @@ use Rattle.df_format.specs.Message.{Message}
 use Rattle.df_format.specs.Spelling.{IsCheck, spelling_rest}
 use Rattle.df_format.specs.declared.kind.Kind.{Kind}
 use Rattle.df_format.specs.Own.{place_in}
-use Rattle.df_format.specs.Rules.{ObeysKind, ObeysPrepare}
+use Rattle.df_format.specs.declared.kind.Kind.TheVariants.{Prepare}
+use Rattle.df_format.specs.Rules.{ObeysKind, ObeysPrepare, ObeysVersion}
 use Rattle.df_format.specs.Valid.{IsInSlot, IsUnit}
 use Rattle.df_format.proofs.Laws.{valid_belongs}
 use Rattle.df_layout.specs.declared.places.Zone.TheVariants.{WalPrepares}
 use Rattle.df_theory.specs.Units
-use Rattle.df_theory.specs.Units.{AnyUnit, HeaderPlace, PreparePlace, PrepareUnit}
+use Rattle.df_theory.specs.Units.{AnyUnit, HeaderPlace, IsAlone, PreparePlace, PrepareUnit}
+use Rattle.df_units.specs.Meaning.{header_of}
+use Rattle.df_units.proofs.Laws.{first_alone}
 use Rattle.df_theory.specs.Cases
 use Rattle.df_buffers.specs.declared.slots.SlotSeen.{SlotSeen}
 use Rattle.df_places.specs.Units.{IsThere}
@@ -25,19 +29,19 @@ use Rattle.df_journal.proofs.Ops.{one_op}
 use Rattle.df_journal.specs.Seen.{HasChecks, IsOfCheck, IsOpOf, IsTaken, decision_on, seen_in}
 use Rattle.df_journal.specs.Shows.{IsHeaderThere, IsTable, ShowsHeader, ShowsPrepare, ShowsSlot, Tells}
 
-header_seen : (o : ℕ) (x : Option AnyUnit) (r : Result Header Class) → ShowsHeader x r → Cases.seen_header 0 o x ≡ seen_in o r
-header_seen o x (Ok h) is = ap (Cases.seen_header 0 o) is
-header_seen o x (Err class) is = ap (Cases.seen_header 0 o) is
+header_seen : (b o : ℕ) (x : Option AnyUnit) (r : Result Header Class) → ShowsHeader x r → Cases.seen_header b o x ≡ seen_in b o r
+header_seen b o x (Ok h) is = ap (Cases.seen_header b o) is
+header_seen b o x (Err class) is = ap (Cases.seen_header b o) is
 
-prepare_seen : (o : ℕ) (x : Option AnyUnit) (r : Result Header Class) → ShowsPrepare x r → Cases.seen_prepare 0 o x ≡ seen_in o r
-prepare_seen o x (Ok h) (p, shown, same) = ap (Cases.seen_prepare 0 o) shown ∙ ap (Cases.seen 0 o) same
-prepare_seen o x (Err class) is = ap (Cases.seen_prepare 0 o) is
+prepare_seen : (b o : ℕ) (x : Option AnyUnit) (r : Result Header Class) → ShowsPrepare x r → Cases.seen_prepare b o x ≡ seen_in b o r
+prepare_seen b o x (Ok h) (p, shown, same) = ap (Cases.seen_prepare b o) shown ∙ ap (Cases.seen b o) same
+prepare_seen b o x (Err class) is = ap (Cases.seen_prepare b o) is
 
 -- the decision on the slot of an op
-pub decision_is : (n o : ℕ) (image : Units.Units) (seen : SlotSeen) → ShowsSlot image (o % n) seen → Cases.decision n 0 image o ≡ decision_on o seen
-decision_is n o image seen shows =
-    ap (λ (a : Cases.Seen). Cases.case a (Cases.seen_prepare 0 o (image (PreparePlace (o % n))))) (header_seen o _ seen.header shows.header)
-    ∙ ap (Cases.case (seen_in o seen.header)) (prepare_seen o _ seen.prepare shows.prepare)
+pub decision_is : (n b o : ℕ) (image : Units.Units) (seen : SlotSeen) → ShowsSlot image (o % n) seen → Cases.decision n b image o ≡ decision_on b o seen
+decision_is n b o image seen shows =
+    ap (λ (a : Cases.Seen). Cases.case a (Cases.seen_prepare b o (image (PreparePlace (o % n))))) (header_seen b o _ seen.header shows.header)
+    ∙ ap (Cases.case (seen_in b o seen.header)) (prepare_seen b o _ seen.prepare shows.prepare)
 
 -- ---- checksums have sixteen bytes
 
@@ -59,8 +63,8 @@ slot_checks layout cluster s table seen is at = (header_check layout cluster s s
 
 -- ---- a prepare that is taken is a unit
 
-pub taken_unit : (layout : Layout) (cluster s op : ℕ) (table : List SlotSeen) (seen : SlotSeen) (h : Header) → IsTable layout cluster table → slice_get table s ≡ Some seen → IsTaken op seen h → IsThere layout cluster (place_in WalPrepares s) (Ok h)
-taken_unit layout cluster s op table seen h is at taken = subst (λ (r : Result Header Class). IsThere layout cluster (place_in WalPrepares s) r) taken.shown (is.each s seen at).prepare
+pub taken_unit : (layout : Layout) (cluster s boot op : ℕ) (table : List SlotSeen) (seen : SlotSeen) (h : Header) → IsTable layout cluster table → slice_get table s ≡ Some seen → IsTaken boot op seen h → IsThere layout cluster (place_in WalPrepares s) (Ok h)
+taken_unit layout cluster s boot op table seen h is at taken = subst (λ (r : Result Header Class). IsThere layout cluster (place_in WalPrepares s) r) taken.shown (is.each s seen at).prepare
 
 pub taken_parent : (layout : Layout) (cluster s : ℕ) (h : Header) → IsThere layout cluster (place_in WalPrepares s) (Ok h) → IsCheck h.parent
 taken_parent layout cluster s h (body, is) = is.sealed.rules.fits.parent
@@ -86,11 +90,32 @@ taken_op layout cluster s h (body, is) =
 pub taken_check : (layout : Layout) (cluster s : ℕ) (h : Header) → IsThere layout cluster (place_in WalPrepares s) (Ok h) → IsCheck h.checksum
 taken_check layout cluster s h (body, is) = unit_check layout cluster (place_in WalPrepares s) (record { header = h; body = body }) is
 
+-- its group ends at its op or later
+group_reaches : (h : Header) → ObeysVersion Prepare h → h.op ≤ (header_of h).group_last
+group_reaches h is = elim (cases_eq h.group_last 0) [
+  | inl none ↦ omega (arith, cond-true (h.group_last == 0) h.op h.group_last (eq-eqb h.group_last 0 none))
+  | inr some ↦ elim is [
+    | inl first ↦ absurd (some first.group_last)
+    | inr second ↦ omega (arith, cond-false (h.group_last == 0) h.op h.group_last (ne_eqb h.group_last 0 some), second.group.ends.0)
+  ]
+]
+
+pub taken_group : (layout : Layout) (cluster s : ℕ) (h : Header) → IsThere layout cluster (place_in WalPrepares s) (Ok h) → h.op ≤ (header_of h).group_last
+taken_group layout cluster s h (body, is) =
+    let in_slot : IsInSlot layout s h = (valid_belongs layout cluster (place_in WalPrepares s) (record { header = h; body = body }) is).belongs in
+    group_reaches h (subst (λ (kind : Kind). ObeysVersion kind h) in_slot.kind is.sealed.rules.version)
+
+-- without a boot it is a group by itself
+pub taken_alone : (layout : Layout) (cluster s : ℕ) (h : Header) → IsThere layout cluster (place_in WalPrepares s) (Ok h) → h.boot ≡ 0 → IsAlone (header_of h)
+taken_alone layout cluster s h (body, is) none =
+    let in_slot : IsInSlot layout s h = (valid_belongs layout cluster (place_in WalPrepares s) (record { header = h; body = body }) is).belongs in
+    let version : ObeysVersion Prepare h = subst (λ (kind : Kind). ObeysVersion kind h) in_slot.kind is.sealed.rules.version in
+    first_alone Prepare h version (λ same. cc) none
+
 -- the decision that is given on a slot
 pub decided_slot : (layout : Layout) (image : Units.Units) (scan : Scan) (slot op o : ℕ) (seen : SlotSeen) (d : Cases.Decision) → Tells layout image scan → slice_get scan.slots slot ≡ Some seen → IsOpOf (length scan.slots) scan.start.op slot op
-    → (HasChecks seen → d ≡ decision_on op seen) → IsOpOf layout.slots scan.start.op slot o → d ≡ Cases.decision layout.slots scan.start.boot image o
+    → (HasChecks seen → d ≡ decision_on scan.start.boot op seen) → IsOpOf layout.slots scan.start.op slot o → d ≡ Cases.decision layout.slots scan.start.boot image o
 decided_slot layout image scan slot op o seen d tells at own is of =
     let same : op ≡ o = one_op layout.slots scan.start.op slot op o (subst (λ (n : ℕ). IsOpOf n scan.start.op slot op) tells.table.size own) of in
-    is (slot_checks layout scan.start.cluster slot scan.slots seen tells.table at) ∙ ap (λ (k : ℕ). decision_on k seen) same
-    ∙ sym (decision_is layout.slots o image seen (subst (λ (k : ℕ). ShowsSlot image k seen) (sym of.slot_is) (tells.shows.each slot seen at)))
-    ∙ ap (λ (b : ℕ). Cases.decision layout.slots b image o) (sym tells.version.boot)
+    is (slot_checks layout scan.start.cluster slot scan.slots seen tells.table at) ∙ ap (λ (k : ℕ). decision_on scan.start.boot k seen) same
+    ∙ sym (decision_is layout.slots scan.start.boot o image seen (subst (λ (k : ℕ). ShowsSlot image k seen) (sym of.slot_is) (tells.shows.each slot seen at)))

@@ -4,5 +4,6 @@ pub use Rattle.df_journal.proofs.Moments.{append_moments, append_steps, ends_app
 -- ---- the op of a slot, and the header of a prepare in the header ring
 pub use Rattle.df_journal.proofs.Ops.{one_op, op_of_slot}
 pub use Rattle.df_journal.proofs.Moments.{in_header_ring}
+pub use Rattle.df_journal.proofs.Counted.{own_within}
 -- ---- a sync behind what was told
 pub use Rattle.df_journal.proofs.RingWrites.{sync_adds}

@@ -8,14 +8,14 @@ use Rattle.df_theory.specs.Cases.{Decision, IsTake, Nothing, Seen, case, seen as
 use Rattle.df_units.specs.Meaning.{header_of}
 use Rattle.df_buffers.specs.declared.slots.SlotSeen.{SlotSeen}
 
--- what a ring shows, where the op is wanted in a file of version 1
-abbrev pub seen_in : ℕ → Result Header Class → Seen
-seen_in op (Ok h) = seen_of_header 0 op (header_of h)
-seen_in op (Err class) = Nothing
+-- what a ring shows, where the op is wanted in this boot
+abbrev pub seen_in : ℕ → ℕ → Result Header Class → Seen
+seen_in boot op (Ok h) = seen_of_header boot op (header_of h)
+seen_in boot op (Err class) = Nothing
 
 -- the decision of the one table of recovery cases
-abbrev pub decision_on : ℕ → SlotSeen → Decision
-decision_on op seen = case (seen_in op seen.header) (seen_in op seen.prepare)
+abbrev pub decision_on : ℕ → ℕ → SlotSeen → Decision
+decision_on boot op seen = case (seen_in boot op seen.header) (seen_in boot op seen.prepare)
 
 -- the checksum of a header that is shown has sixteen bytes
 abbrev pub IsOfCheck : Result Header Class → Type 0
@@ -27,15 +27,16 @@ abbrev pub HasChecks : SlotSeen → Type 0
 HasChecks seen = IsOfCheck seen.header × IsOfCheck seen.prepare
 
 -- the prepare with this header is taken
-pub record IsTaken (op : ℕ) (seen : SlotSeen) (h : Header) : Type 0 where
+pub record IsTaken (boot op : ℕ) (seen : SlotSeen) (h : Header) : Type 0 where
   pub shown : seen.prepare ≡ Ok h
   pub op_is : h.op ≡ op
-  pub take : IsTake (decision_on op seen)
+  pub boot_is : h.boot ≡ boot
+  pub take : IsTake (decision_on boot op seen)
 
 -- as an answer
-abbrev pub TakesNow : ℕ → SlotSeen → Option Header → Type 0
-TakesNow op seen None = IsTake (decision_on op seen) → ⊥
-TakesNow op seen (Some h) = IsTaken op seen h
+abbrev pub TakesNow : ℕ → ℕ → SlotSeen → Option Header → Type 0
+TakesNow boot op seen None = IsTake (decision_on boot op seen) → ⊥
+TakesNow boot op seen (Some h) = IsTaken boot op seen h
 
 -- the class of a slot where another unit is wanted
 abbrev pub class_of : Result Header Class → Class

@@ -47,11 +47,11 @@ pub record FindsTail (sh : Shape) (image : Units.Units) (b : Checkpoint) (end : 
   pub reach : Found.IsReach sh image b tail []
   pub ends : EndsAt b tail end sessions
 
--- the header of the prepare that comes next: it is taken from the slot of its op, and fits
-pub record IsNext (layout : Layout) (table : List SlotSeen) (last : Tail) (sessions : List Session) (h : Header) : Type 0 where
+-- the header of the prepare that comes next in this boot: it is taken from the slot of its op, and fits
+pub record IsNext (layout : Layout) (boot : ℕ) (table : List SlotSeen) (last : Tail) (sessions : List Session) (h : Header) : Type 0 where
   pub seen : SlotSeen
   pub at : slice_get table ((last.op + 1) % layout.slots) ≡ Some seen
-  pub taken : IsTaken (last.op + 1) seen h
+  pub taken : IsTaken boot (last.op + 1) seen h
   pub fits : Fits layout.clients (last.op + 1) (number_of last.checksum) last.mark (sessions_of sessions) (header_of h)
 
 -- no session's reply is stored in the table
@@ -63,9 +63,9 @@ abbrev pub AreNumbered : List Session → Type 0
 AreNumbered sessions = (k : ℕ) (s : Session) → slice_get sessions k ≡ Some s → s.request ≤ 2 ^ 62
 
 -- as an answer
-abbrev pub GoesOn : Layout → List SlotSeen → Tail → List Session → Option Header → Type 0
-GoesOn layout table last sessions None = (h : Header) → IsNext layout table last sessions h → ⊥
-GoesOn layout table last sessions (Some h) = IsNext layout table last sessions h
+abbrev pub GoesOn : Layout → ℕ → List SlotSeen → Tail → List Session → Option Header → Type 0
+GoesOn layout boot table last sessions None = (h : Header) → IsNext layout boot table last sessions h → ⊥
+GoesOn layout boot table last sessions (Some h) = IsNext layout boot table last sessions h
 
 -- the prepare's request can be noted
 pub record IsSound (sessions : Table) (h : Header) : Type 0 where

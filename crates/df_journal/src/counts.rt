@@ -1,9 +1,10 @@
 // The greatest numbers of the units in the two rings, and what they say of a state with those of the replies.
-ghost use Rattle.std.specs.Prelude.{◌≡◌, ◌↔◌, ◌≤◌, ℕ, IsTrue, IsFalse};
+ghost use Rattle.std.specs.Prelude.{◌≡◌, ◌↔◌, IsTrue, IsFalse, max};
+ghost use Rattle.std.specs.Bool.{OnFalse};
+ghost use Rattle.df_stamps.specs.Evidence.{IsComplete};
 ghost use Rattle.df_journal.specs.Below.{Content, Units, Shape, slots as shape_slots, NotBehind, NotLost};
-ghost use Rattle.df_journal.specs.Scan.{IsOfVersionOne};
 ghost use Rattle.df_journal.specs.Shows.{ShowsTable};
-ghost use Rattle.df_journal.specs.Counts.{CountsAll, CountsRings, checkpoint_in, op_in, with_unit};
+ghost use Rattle.df_journal.specs.Counts.{CountsAll, CountsOps, CountsOwn, CountsRings, OwnAreAlone, boot_in, checkpoint_in, op_in, own_op, with_unit};
 
 use crate::SlotTable;
 use df_format::Header;
@@ -28,6 +29,15 @@ fn checkpoint_in(seen: &Result<Header, Class>) -> u64
     }
 }
 
+fn boot_in(seen: &Result<Header, Class>) -> u64
+    ensures { result ≡ boot_in seen.now }
+{
+    match seen {
+        Ok(header) => header.boot,
+        Err(_) => 0,
+    }
+}
+
 // The counters with one more unit of the rings.
 fn with_unit(seen: &Counters, ring: &Result<Header, Class>) -> Counters
     ensures { result ≡ with_unit seen.now ring.now }
@@ -36,12 +46,13 @@ fn with_unit(seen: &Counters, ring: &Result<Header, Class>) -> Counters
         ring_op: seen.ring_op.max(op_in(ring)),
         reply_top: seen.reply_top,
         checkpoint: seen.checkpoint.max(checkpoint_in(ring)),
+        boot: seen.boot.max(boot_in(ring)),
     }
 }
 
-/// The counters that the units of the two rings show, of a file of version 1; they count no reply.
+/// The counters that the units of the two rings show; they count no reply.
 pub fn count_rings(found: &SlotTable) -> Counters
-    ensures rings { (image : Units) → IsOfVersionOne found.now.start → ShowsTable image found.now.slots → CountsRings image found.now.start.boot result }
+    ensures rings { (image : Units) → ShowsTable image found.now.slots → CountsRings image result }
     ensures replies { result.reply_top ≡ 0 }
 {
     let mut seen = Counters::default();
@@ -51,22 +62,52 @@ pub fn count_rings(found: &SlotTable) -> Counters
     seen
 }
 
-/// Whether a unit is of a later checkpoint than that of this sequence and op.
-pub fn is_behind(seen: &Counters, sequence: u64, op: u64, slots: u32) -> bool
-    ensures behind { (sh : Shape) (image : Units) (c : Content) (boot : ℕ) → CountsAll image boot seen.now → boot ≤ c.boot → c.sequence ≡ sequence → c.op ≡ op → shape_slots sh ≡ slots
-        → IsTrue result ↔ (NotBehind sh image c → ⊥) }
-    ensures none { (sh : Shape) (image : Units) (c : Content) (boot : ℕ) → CountsAll image boot seen.now → boot ≤ c.boot → c.sequence ≡ sequence → c.op ≡ op → shape_slots sh ≡ slots
-        → IsFalse result ↔ NotBehind sh image c }
+// The op of a unit of this boot, 0 of any other.
+fn own_op(seen: &Result<Header, Class>, boot: u64) -> u64
+    ensures { result ≡ own_op boot seen.now }
 {
-    behind(seen, sequence, op, slots)
+    match seen {
+        Ok(header) => { if header.boot == boot { header.op } else { 0 } }
+        Err(_) => 0,
+    }
 }
 
-/// Whether a unit shows an op above the head.
-pub fn is_lost(seen: &Counters, superblock_head: u64, head: u64) -> bool
-    ensures lost { (image : Units) (c : Content) (boot : ℕ) → CountsAll image boot seen.now → c.boot ≡ boot → c.head ≡ superblock_head
-        → IsTrue result ↔ (NotLost image c head → ⊥) }
-    ensures none { (image : Units) (c : Content) (boot : ℕ) → CountsAll image boot seen.now → c.boot ≡ boot → c.head ≡ superblock_head
-        → IsFalse result ↔ NotLost image c head }
+// The greater of a number and the op of a unit of this boot.
+fn raised(top: u64, seen: &Result<Header, Class>, boot: u64) -> u64
+    ensures { result ≡ max top (own_op boot seen.now) }
 {
-    lost(seen, superblock_head, head)
+    top.max(own_op(seen, boot))
+}
+
+/// The greatest op that a unit of this boot shows in the two rings, 0 where none does.
+pub fn ring_top(found: &SlotTable, boot: u64) -> u64
+    ensures { (image : Units) → ShowsTable image found.now.slots → CountsOps boot image result }
+{
+    let mut top = 0;
+    for slot in &found.slots {
+        top = raised(raised(top, &slot.header, boot), &slot.prepare, boot);
+    }
+    top
+}
+
+/// Whether a unit is of a later checkpoint than that of this sequence and op, or of a later boot.
+pub fn is_behind(seen: &Counters, sequence: u64, op: u64, slots: u32, boot: u64) -> bool
+    ensures behind { (sh : Shape) (image : Units) (c : Content) → CountsAll image seen.now → c.boot ≡ boot → c.sequence ≡ sequence → c.op ≡ op → shape_slots sh ≡ slots
+        → IsTrue result ↔ (NotBehind sh image c → ⊥) }
+    ensures none { (sh : Shape) (image : Units) (c : Content) → CountsAll image seen.now → c.boot ≡ boot → c.sequence ≡ sequence → c.op ≡ op → shape_slots sh ≡ slots
+        → IsFalse result ↔ NotBehind sh image c }
+{
+    behind(seen, sequence, op, slots, boot)
+}
+
+/// Whether a unit of the superblock's boot shows an op above the head; the counters are those of this boot's own units, and each
+/// of its prepares is a group by itself.
+pub fn is_lost(own: &Counters, superblock_head: u64, head: u64) -> bool
+    ensures lost { (image : Units) (c : Content) → CountsOwn c.boot image own.now → OwnAreAlone image c.boot → c.head ≡ superblock_head
+        → IsTrue result ↔ (NotLost image c head → ⊥) }
+    ensures none { (image : Units) (c : Content) → CountsOwn c.boot image own.now → OwnAreAlone image c.boot → c.head ≡ superblock_head
+        → IsFalse result ↔ NotLost image c head }
+    ensures counters { OnFalse result (IsComplete own.now superblock_head head) }
+{
+    lost(own, superblock_head, head)
 }

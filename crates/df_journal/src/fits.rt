@@ -36,12 +36,13 @@ fn has_mark(last: &Tail, header: &Header) -> bool
     last.mark <= header.mark && header.mark < header.op && header.op - header.mark <= 8
 }
 
-/// Whether the prepare with this header, which has the next op, fits.
+/// Whether the prepare with this header, which has the next op, fits. Its group ends there or later.
 pub(crate) fn fits(last: &Tail, sessions: &SessionTable, clients: u32, header: &Header) -> bool
     requires places { sessions.now.max ≡ clients }
     requires op { header.now.op ≡ last.now.op + 1 }
     requires parent { IsCheck header.now.parent }
     requires checksum { IsCheck last.now.checksum }
+    requires group { header.now.op ≤ (header_of header.now).group_last }
     ensures { IsTrue result ↔ Fits clients (last.now.op + 1) (number_of last.now.checksum) last.now.mark (sessions_of sessions.now.sessions) (header_of header.now) }
 {
     header.parent == last.checksum && has_mark(last, header) && may_ask(sessions, clients, header)

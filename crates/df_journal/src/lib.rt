@@ -12,7 +12,7 @@ mod table;
 mod tail;
 
 pub use appends::{append, put};
-pub use counts::{count_rings, is_behind, is_lost};
+pub use counts::{count_rings, is_behind, is_lost, ring_top};
 pub use reads::{scan, scanned_is_shown};
 pub use settling::settle;
 pub use table::{SlotTable, Start};

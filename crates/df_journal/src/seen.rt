@@ -1,4 +1,4 @@
-// What is decided of a slot where an op is wanted there.
+// What is decided of a slot where an op is wanted there, in a boot: a unit of an earlier one proves nothing.
 ghost use Rattle.std.specs.Prelude.{◌≡◌, ◌↔◌, IsTrue};
 ghost use Rattle.df_journal.specs.Below.{IsTake, HasCheck, decision_of, seen_of};
 ghost use Rattle.df_journal.specs.Seen.{decision_on, seen_in, HasChecks, IsOfCheck, TakesNow};
@@ -8,15 +8,19 @@ use df_cases::{Decision, Seen, case};
 use df_format::Header;
 use df_layout::Class;
 
-// What a ring shows, where the op is wanted.
-fn seen_in(ring: &Result<Header, Class>, op: u64) -> Seen
-    ensures shown { seen_of result ≡ seen_in op ring.now }
+// What a ring shows, where the op is wanted in this boot.
+fn seen_in(ring: &Result<Header, Class>, op: u64, boot: u64) -> Seen
+    ensures shown { seen_of result ≡ seen_in boot op ring.now }
     ensures check { IsOfCheck ring.now → HasCheck result }
 {
     match ring {
         Ok(header) => {
             if header.op == op {
-                Seen::Now(header.checksum)
+                if header.boot == boot {
+                    Seen::Now(header.checksum)
+                } else {
+                    Seen::Old
+                }
             } else if header.op < op {
                 Seen::Old
             } else {
@@ -28,10 +32,13 @@ fn seen_in(ring: &Result<Header, Class>, op: u64) -> Seen
 }
 
 // The decision on a slot.
-pub(crate) fn decision_on(seen: &SlotSeen, op: u64) -> Decision
-    ensures { HasChecks seen.now → decision_of result ≡ decision_on op seen.now }
+pub(crate) fn decision_on(seen: &SlotSeen, op: u64, boot: u64) -> Decision
+    ensures { HasChecks seen.now → decision_of result ≡ decision_on boot op seen.now }
 {
-    case(seen_in(&seen.header, op), seen_in(&seen.prepare, op))
+    case(
+        seen_in(&seen.header, op, boot),
+        seen_in(&seen.prepare, op, boot),
+    )
 }
 
 fn is_take(decision: &Decision) -> bool
@@ -40,12 +47,12 @@ fn is_take(decision: &Decision) -> bool
     matches!(decision, Decision::Take { .. })
 }
 
-/// The header of the prepare that is taken from a slot, where the op is wanted.
-pub(crate) fn taken(seen: &SlotSeen, op: u64) -> Option<Header>
+/// The header of the prepare that is taken from a slot, where the op is wanted in this boot.
+pub(crate) fn taken(seen: &SlotSeen, op: u64, boot: u64) -> Option<Header>
     requires { HasChecks seen.now }
-    ensures { TakesNow op seen.now result }
+    ensures { TakesNow boot op seen.now result }
 {
-    if is_take(&decision_on(seen, op)) {
+    if is_take(&decision_on(seen, op, boot)) {
         seen.prepare.ok()
     } else {
         None

@@ -125,7 +125,7 @@ impl SlotTable {
             self.start.op,
             u64::from(slot),
         );
-        decision_on(&self.seen(slot), op)
+        decision_on(&self.seen(slot), op, self.start.boot)
     }
 
     /// The header of the valid prepare that is shown in a slot.

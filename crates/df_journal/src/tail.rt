@@ -45,19 +45,25 @@ fn tail_to(header: &Header) -> Tail
     }
 }
 
-// The header of the prepare that comes next, if there is one.
-fn next(layout: &Layout, found: &SlotTable, last: &Tail, sessions: &SessionTable) -> Option<Header>
+// The header of the prepare that comes next in this boot, if there is one.
+fn next(
+    layout: &Layout,
+    found: &SlotTable,
+    boot: u64,
+    last: &Tail,
+    sessions: &SessionTable,
+) -> Option<Header>
     requires table { IsTable layout.now found.now.start.cluster found.now.slots }
     requires op { last.now.op < 2 ^ 63 }
     requires checksum { IsCheck last.now.checksum }
     requires places { sessions.now.max ≡ layout.now.clients }
-    ensures next { GoesOn layout.now found.now.slots last.now sessions.now.sessions result }
+    ensures next { GoesOn layout.now boot found.now.slots last.now sessions.now.sessions result }
     ensures op { IfSome result (λ h. h.op ≡ last.now.op + 1) }
     ensures sound { IfSome result (IsSound sessions.now) }
 {
     let op = last.op + 1;
     let seen = found.seen((op % u64::from(layout.slots)) as u32);
-    let header = taken(&seen, op)?;
+    let header = taken(&seen, op, boot)?;
     if fits(last, sessions, layout.clients, &header) {
         Some(header)
     } else {
@@ -89,9 +95,10 @@ pub fn find_tail(
     ensures numbered { AreNumbered sessions.old.sessions → AreNumbered sessions.new.sessions }
 {
     let first = found.start.op;
+    let boot = found.start.boot;
     let mut last = empty_tail(first, checksum);
     while last.op - first < u64::from(layout.slots) {
-        match next(layout, found, &last, sessions) {
+        match next(layout, found, boot, &last, sessions) {
             Some(header) => {
                 sessions.apply(header.client, header.request, header.op);
                 last = tail_to(&header);

@@ -1,11 +1,14 @@
 -- A file may be made on a disk that was never written.
 use Rattle.std.proofs.Common.{◌<◌, ◌^◌, ℕ, List, [], ◌∷◌, sym, subst, arith}
+use Rattle.std.proofs.lemmas.List.{length-replicate}
 use Rattle.df_base.specs.Image.{Image, IsImage}
 use Rattle.df_base.specs.Log.{AreEvents, AreSyncs, Event, Stop, Sync, Write}
 use Rattle.df_base.proofs.Laws.{blank_is_image}
 use Rattle.df_layout.specs.declared.layout.Layout.{Layout}
 use Rattle.df_format.specs.First.{first_content, first_super}
-use Rattle.df_format.specs.Super.{FitsSuper}
+use Rattle.df_format.specs.Spelling.{IsCheck, no_checksum}
+use Rattle.df_format.specs.Super.{AreChecks, FitsSuper, no_checksums}
+use Rattle.df_format.proofs.Laws.{no_names}
 use Rattle.df_theory.specs.Device.{units_log}
 use Rattle.df_theory.specs.MakingLaws.{IsMaking}
 use Rattle.df_units.specs.Format.{format_of}
@@ -17,6 +20,10 @@ use Rattle.df_replica.proofs.Laws.{first_is_super}
 use Rattle.df_lifetime.specs.NewDisks.{NewDisksAreMadeOn}
 
 -- ---- its superblock can be used
+
+no_checks : AreChecks no_checksums
+unfolding no_checksums
+no_checks = record { size = length-replicate {A = List ℕ} 64 no_checksum; each = λ k past inside. subst IsCheck (sym (no_names k past inside)) zeros_check }
 
 first_fits : (layout : Layout) (cluster : ℕ) → cluster < 2 ^ 128 → FitsSuper (first_super layout cluster)
 unfolding first_super
@@ -37,6 +44,8 @@ first_fits layout cluster below = record {
   trailer_checksum = zeros_check;
   trailer_size = omega arith;
   boot = omega arith;
+  head_checksum = zeros_check;
+  reply_checksums = no_checks;
 }
 
 -- ---- a blank disk

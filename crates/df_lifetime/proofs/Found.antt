@@ -3,7 +3,6 @@ use Rattle.std.proofs.Common.{◌≡◌, inl, inr, List, [], ◌∷◌, ◌++◌
 use Rattle.df_base.specs.Image.{Image, IsImage}
 use Rattle.df_base.specs.Log.{now}
 use Rattle.df_theory.specs.Found.{IsFound}
-use Rattle.df_theory.specs.Units.{Content}
 use Rattle.df_theory.specs.View.{View}
 use Rattle.df_theory.proofs.Laws.{one_found_law}
 use Rattle.df_units.specs.Bytes.{unit_at}
@@ -18,7 +17,7 @@ use Rattle.df_replica.specs.Below.{shape, spelling, DataFile}
 use Rattle.df_replica.specs.HeldBlocks.{AreInputs}
 use Rattle.df_replica.specs.Serving.{next}
 use Rattle.df_replica.specs.Session.{Act, answers_of, work_after}
-use Rattle.df_replica.proofs.Laws.{codec_of}
+use Rattle.df_replica.proofs.Laws.{codec_of, names_none}
 use Rattle.df_lifetime.specs.Acknowledged.{AcknowledgedIsFound, AllThere, AreThere}
 use Rattle.df_lifetime.specs.Life.{Chapter, GoesBy, LeadsTo, MayHave, start_of}
 use Rattle.df_lifetime.specs.There.{IsThere}
@@ -31,7 +30,7 @@ use Rattle.df_lifetime.proofs.Next.{stays}
 pub start_makes_sense : (file : DataFile) (image : Image) (view : View) → IsImage image → IsFound (shape file) (unit_at file.layout file.cluster image) view → IsWork (shape file) (spelling file) (start_of file image view)
 start_makes_sense file image view whole found =
     let choice = chosen_choice file.layout file.cluster image view.checkpoint.content whole found.chosen in
-    found_law (shape file) (spelling file) (unit_at file.layout file.cluster image) view (codec_of file) (record { version = refl; names = ap (λ (c : Content). c.reply_checksums) (sym choice.1) })
+    found_law (shape file) (spelling file) (unit_at file.layout file.cluster image) view (codec_of file) (record { version = refl; names = names_none choice.0 view.checkpoint.content choice.1 found.checkpoint.tests.version })
     (of_places file.layout file.cluster file.named (parse_of (layout_of file.layout)) image whole) found
 
 -- ---- what was answered stays, whatever is done next

@@ -2,7 +2,7 @@
 use Rattle.std.proofs.Common.{◌≡◌, ◌⊎◌, inl, inr, ℕ, ◌+◌, ◌-◌, Bool, true, false, List, [], ◌∷◌, ◌++◌, append_assoc, length, length-append, map, Option, Some, None, refl, sym, ◌∙◌, ap, subst, arith}
 use Rattle.std.specs.Prelude.{take}
 use Rattle.std.proofs.Math.Seq.{take-length}
-use Rattle.std.proofs.lemmas.List.{append-nil, take-append-le, map-append, length-map}
+use Rattle.std.proofs.lemmas.List.{append-nil, take-append-le, map-append}
 use Rattle.df_base.specs.Streams.{Appends, AppendsPart}
 use Rattle.df_base.specs.Log.{Sync}
 use Rattle.df_disk.specs.Adds.{after_all}
@@ -15,8 +15,7 @@ use Rattle.df_lines.specs.Script.{Begins, IsRefused, IsScript}
 use Rattle.df_lines.specs.Text.{after_line, line_of as first_line, taken}
 use Rattle.df_lines.proofs.Laws.{one_said, one_script, no_line, begins_one}
 use Rattle.df_theory.specs.Shape.{Shape}
-use Rattle.df_model.specs.Memory.{memory_of}
-use Rattle.df_model.specs.Supply.{Codec, Shown, next, shown_after}
+use Rattle.df_model.specs.Supply.{Codec, Shown}
 use Rattle.df_model.specs.Work.{Work, opened}
 use Rattle.df_units.specs.Bytes.{unit_at}
 use Rattle.df_replica.specs.Below.{DataFile, shape, told_after}
@@ -24,16 +23,18 @@ use Rattle.df_replica.specs.Reading.{shown_of}
 use Rattle.df_replica.proofs.Laws.{added_is_told}
 use Rattle.df_session.specs.Below.{AgreeShown, codec}
 use Rattle.df_model.specs.Commands.{Command}
-use Rattle.df_script_model.specs.Script.{answer_text, printed}
+use Rattle.df_pace.specs.Loop.{Stand, answer_at, paced, passed, start as stand_at}
+use Rattle.df_pace.specs.declared.pace.Pace.{Pace}
+use Rattle.df_script_model.specs.Script.{answer_text}
 use Rattle.df_session.specs.Found.{FoundFile}
 use Rattle.df_session.specs.Links.{events_made}
 use Rattle.df_top.specs.Acknowledging.{script_calls}
-use Rattle.df_top.specs.Lines.{Turned, all_text, command_of, printed as prints, said_in}
+use Rattle.df_top.specs.Lines.{Failing, Turned, act_of, all_said, all_text, command_of, printed as prints, said_of}
 use Rattle.df_top.specs.OneText.{text_by}
 use Rattle.df_top.specs.Outside.{Outside}
 use Rattle.df_top.specs.Resulting.{joined, text_over}
 use Rattle.df_top.specs.Run.{ServesScript, script_budget, start}
-use Rattle.df_top.specs.Session.{EndsWith, Failing, act_of, said_of}
+use Rattle.df_top.specs.Session.{EndsWith}
 use Rattle.df_top.specs.declared.status.Status.{Status}
 use Rattle.df_top.specs.declared.status.Status.TheVariants.{Done, Script, Words, Refused, Memory, DiskFault, ReadFault, WriteFault, Found}
 use Rattle.df_lifetime.specs.Printed.{FrontIsWritten, Scripted, whole_text}
@@ -84,19 +85,18 @@ cut_text bound budget text lines says script left rest begins refused = (same, �
 
 -- ---- what they print
 
--- the first lines print a front
-over_front : (sh : Shape) (by : Codec) (shown : Shown) (w : Work) (xs ys : List Command) → IsFront (joined (printed sh by shown w xs)) (joined (printed sh by shown w (xs ++ ys)))
-over_front sh by shown w [] ys = (joined (printed sh by shown w ys), refl)
-over_front sh by shown w (c ∷ xs) ys =
-    let line : List ℕ = answer_text c (next sh by shown w c).1 in
-    let then : Shown = shown_after by shown (memory_of sh by.spell w) c in
-    let more = over_front sh by then (next sh by shown w c).0 xs ys in
-    (more.0, ap (λ (l : List ℕ). line ++ l) more.1 ∙ sym (append_assoc line (joined (printed sh by then (next sh by shown w c).0 xs)) more.0))
+-- the first lines print a front, with this work beside them
+over_front : (sh : Shape) (by : Codec) (pace : Pace) (x : Stand) (xs ys : List Command) → IsFront (joined (paced sh by pace x xs)) (joined (paced sh by pace x (xs ++ ys)))
+over_front sh by pace x [] ys = (joined (paced sh by pace x ys), refl)
+over_front sh by pace x (c ∷ xs) ys =
+    let line : List ℕ = answer_text c (answer_at sh by x c) in
+    let more = over_front sh by pace (passed sh by pace x c) xs ys in
+    (more.0, ap (λ (l : List ℕ). line ++ l) more.1 ∙ sym (append_assoc line (joined (paced sh by pace (passed sh by pace x c) xs)) more.0))
 
-text_front : (file : DataFile) (shown : Shown) (w : Work) (lines says : List Said) → IsFront lines says → IsFront (text_over file shown w lines) (text_over file shown w says)
-text_front file shown w lines says (more, is) =
-    let front = over_front (shape file) (codec file) shown w (map command_of lines) (map command_of more) in
-    (front.0, ap (λ (l : List Command). joined (printed (shape file) (codec file) shown w l)) (ap (map command_of) is ∙ map-append command_of lines more) ∙ front.1)
+text_front : (pace : Pace) (file : DataFile) (shown : Shown) (w : Work) (lines says : List Said) → IsFront lines says → IsFront (text_over pace file shown w lines) (text_over pace file shown w says)
+text_front pace file shown w lines says (more, is) =
+    let front = over_front (shape file) (codec file) pace (stand_at shown w) (map command_of lines) (map command_of more) in
+    (front.0, ap (λ (l : List Command). joined (paced (shape file) (codec file) pace (stand_at shown w) l)) (ap (map command_of) is ∙ map-append command_of lines more) ∙ front.1)
 
 by_front : {A B : Type 0} (e : A ⊎ B) (n : ℕ) (line : List ℕ) → IsFront line (text_by e n line)
 by_front (inl none) n line = ([], sym (append-nil line))
@@ -107,11 +107,11 @@ front_on xs ys zs (a, one) (b, two) = (a ++ b, two ∙ ap (λ (l : List ℕ). l 
 
 -- ---- a session
 
-module _ (layout : Layout) (t : Told) (old new : Outside) (status : Status) (s : Scripted layout t old new status) where
+module _ (pace : Pace) (layout : Layout) (t : Told) (old new : Outside) (status : Status) (s : Scripted pace layout t old new status) where
   abbrev opening : FoundFile layout t
   opening = s.opening
 
-  abbrev serves : ServesScript layout t opening old new status
+  abbrev serves : ServesScript pace layout t opening old new status
   serves = s.serves
 
   abbrev file : DataFile
@@ -121,12 +121,12 @@ module _ (layout : Layout) (t : Told) (old new : Outside) (status : Status) (s :
   turns = serves.session.turns
 
   abbrev says_over : List Said → List ℕ
-  says_over says = text_over file (shown_of file t.shown) (opened (shape file) (unit_at file.layout file.cluster t.shown) s.view) says
+  says_over says = text_over pace file (shown_of file t.shown) (opened (shape file) (unit_at file.layout file.cluster t.shown) s.view) says
 
   agree_self : AgreeShown file.layout (shown_of file t.shown) (shown_of file t.shown)
   agree_self = record { units = record { prepare = λ k. refl; reply = λ k. refl; block = λ k. refl }; classes = λ place read none. refl }
 
-  lines_text : all_text turns ≡ says_over (map said_in turns)
+  lines_text : all_text turns ≡ says_over (all_said turns)
   lines_text = (serves.result s.view (shown_of file t.shown) s.found agree_self).text
 
   -- the disk tells what it shows up to the end
@@ -138,14 +138,14 @@ module _ (layout : Layout) (t : Told) (old new : Outside) (status : Status) (s :
       cc
 
   -- the lines that were executed print a front of the text
-  printed_front : (left : ℕ) (rest : List ℕ) → Begins (line_bound layout) script_budget s.text (map said_in turns) left rest → (cut : Bool) → (cut ≡ true → IsRefused (line_bound layout) left rest) → IsFront (prints 0 turns cut) (whole_text s)
+  printed_front : (left : ℕ) (rest : List ℕ) → Begins (line_bound layout) script_budget s.text (all_said turns) left rest → (cut : Bool) → (cut ≡ true → IsRefused (line_bound layout) left rest) → IsFront (prints 0 turns cut) (whole_text s)
   printed_front left rest begins false refused =
-      let lines = lines_front (line_bound layout) script_budget s.text (map said_in turns) s.says left s.script.left rest s.script.rest begins s.script.begins s.script.ends in
-      let text = text_front file (shown_of file t.shown) (opened (shape file) (unit_at file.layout file.cluster t.shown) s.view) (map said_in turns) s.says lines in
+      let lines = lines_front (line_bound layout) script_budget s.text (all_said turns) s.says left s.script.left rest s.script.rest begins s.script.begins s.script.ends in
+      let text = text_front pace file (shown_of file t.shown) (opened (shape file) (unit_at file.layout file.cluster t.shown) s.view) (all_said turns) s.says lines in
       front_on (all_text turns) (says_over s.says) (whole_text s) (subst (λ (l : List ℕ). IsFront l (says_over s.says)) (sym lines_text) text) (by_front s.script.ends (length s.says) (says_over s.says))
   printed_front left rest begins true refused =
-      let cut = cut_text (line_bound layout) script_budget s.text (map said_in turns) s.says s.script left rest begins (refused refl) in
-      let count : length s.says + 1 ≡ 0 + length turns + 1 = omega (arith, sym (ap length cut.0) ∙ length-map turns said_in) in
+      let cut = cut_text (line_bound layout) script_budget s.text (all_said turns) s.says s.script left rest begins (refused refl) in
+      let count : length s.says + 1 ≡ 0 + length (all_said turns) + 1 = omega (arith, sym (ap length cut.0)) in
       let line : says_over s.says ≡ all_text turns = sym (lines_text ∙ ap says_over cut.0) in (
         [],
         cut.1 (length s.says) (says_over s.says) ∙ (λ i. line i ++ script_text (count i)) ∙ sym (append-nil (prints 0 turns true)),
@@ -185,11 +185,11 @@ module _ (layout : Layout) (t : Told) (old new : Outside) (status : Status) (s :
     some_written f cut Memory front ends = absurd ends
     some_written f cut Found front ends = absurd ends
 
-    written : (failing : Option Failing) (cut : Bool) → Begins (line_bound layout) script_budget s.text (map said_in turns ++ said_of failing) left rest → (cut ≡ true → IsRefused (line_bound layout) left rest) → Ends failing cut status → Writes
+    written : (failing : Option Failing) (cut : Bool) → Begins (line_bound layout) script_budget s.text (all_said turns ++ said_of failing) left rest → (cut ≡ true → IsRefused (line_bound layout) left rest) → Ends failing cut status → Writes
     written None cut begins refused ends =
-        none_written cut status (printed_front left rest (subst (λ (l : List Said). Begins (line_bound layout) script_budget s.text l left rest) (append-nil (map said_in turns)) begins) cut refused) ends
+        none_written cut status (printed_front left rest (subst (λ (l : List Said). Begins (line_bound layout) script_budget s.text l left rest) (append-nil (all_said turns)) begins) cut refused) ends
     written (Some f) cut begins refused ends =
-        let some = begins_first (line_bound layout) script_budget s.text (map said_in turns) (said_of (Some f)) left rest begins in
+        let some = begins_first (line_bound layout) script_budget s.text (all_said turns) (said_of (Some f)) left rest begins in
         some_written f cut status (printed_front some.0 some.1 some.2 false (λ is. absurd (cc))) ends
 
   all_is_front : AppendsPart old.written new.written (whole_text s)
@@ -199,4 +199,4 @@ module _ (layout : Layout) (t : Told) (old new : Outside) (status : Status) (s :
       (subst (λ (o : Outside). EndsWith 0 (start opening.mended old opening.replica).outside o turns (act_of serves.session.failing) serves.session.cut status) serves.last_is serves.session.written)
 
 pub front_is_written : FrontIsWritten
-front_is_written layout t old new status s = all_is_front layout t old new status s
+front_is_written pace layout t old new status s = all_is_front pace layout t old new status s

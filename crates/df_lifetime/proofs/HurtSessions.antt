@@ -178,14 +178,14 @@ calls_keep_on g file view t base found c calls from adds same may stands =
     (subst (λ (f : DataFile). AnsweredOver f t found.mending.events c) one calls.acknowledged g view base same may stands) (from ∙ found.mending.told) adds
 
 pub scripts_keep_on : ScriptsKeepOn
-scripts_keep_on g file view t base old new status found serves same may stands = calls_keep_on g file view t base found (script_calls serves.session) serves.calls refl (ap (λ (o : Outside). o.told) serves.last_is ∙ serves.adds) same may stands
+scripts_keep_on g file view t base old new status pace found serves same may stands = calls_keep_on g file view t base found (script_calls serves.session) serves.calls refl (ap (λ (o : Outside). o.told) serves.last_is ∙ serves.adds) same may stands
 
 pub runs_keep_on : RunsKeepOn
 runs_keep_on g file view t base old new status seed count found works same may stands = calls_keep_on g file view t base found (run_calls works.worked) works.calls refl works.calls.adds same may stands
 
 pub hurt_scripts_keep : HurtScriptsKeep
-hurt_scripts_keep g file view t old new status found serves had same stands =
-    scripts_keep_on g file had.found t (begun t) old new status found serves refl (begun_may_open file had.found t (had.begins same)) stands
+hurt_scripts_keep g file view t old new status pace found serves had same stands =
+    scripts_keep_on g file had.found t (begun t) old new status pace found serves refl (begun_may_open file had.found t (had.begins same)) stands
 
 pub hurt_runs_keep : HurtRunsKeep
 hurt_runs_keep g file view t old new status seed count found works had same stands =

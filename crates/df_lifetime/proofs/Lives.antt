@@ -41,7 +41,7 @@ use Rattle.df_top.specs.Opening.{RefusesFile, StopsBefore}
 use Rattle.df_top.specs.Outside.{Outside}
 use Rattle.df_top.specs.Run.{ComesTo, Does, Works}
 use Rattle.df_top.specs.declared.mode.Mode.{Mode}
-use Rattle.df_top.specs.declared.mode.Mode.TheVariants.{Format, Run, Recover, Inspect, Scrub, Workload}
+use Rattle.df_top.specs.declared.mode.Mode.TheVariants.{Format, Run, Recover, Inspect, Scrub, Workload, Paced}
 use Rattle.df_top.specs.declared.status.Status.{Status}
 use Rattle.df_top.specs.declared.status.Status.TheVariants.{Done, Found, Words, Script, Refused, DiskFault, ReadFault, WriteFault, Memory}
 use Rattle.df_lifetime.specs.Life.{Chapter, EveryLifeGoesOn, EveryLifeIsInOrder, FormatWord, HaveAnswers, IsInOrder, MayHave, Outcome, ToAMoment, ToItsEnd, Word, calls_in, calls_made, calls_of, calls_to, chapter_of, chapters_of, outcome_of, sessions_in, start_of, word_calls}
@@ -305,6 +305,7 @@ module _ (file : DataFile) (chapters : List Chapter) (t : Told) (is : IsInOrder 
     works_come : (mode : Mode) (found : FoundFile layout t) (works : Works mode layout t found old new status) → Comes file chapters (word_calls mode layout t found old new status works) t n
     works_come (Format shape cluster) found works = absurd works
     works_come Run found serves = calls_come found.replica (script_calls serves.session) found.mending found.is_opened serves.adds serves.calls.keeps serves.calls.acknowledged
+    works_come (Paced pace) found serves = calls_come found.replica (script_calls serves.session) found.mending found.is_opened serves.adds serves.calls.keeps serves.calls.acknowledged
     works_come Recover found recovers = idles found recovers.told recovers.calls
     works_come Inspect found inspects = sync_comes n (one_told new.told (did Sync t) n inspects.barrier to)
     works_come Scrub found scrubs = idles found (scrubs.told ∙ sym scrubs.is_mended) scrubs.calls
@@ -317,6 +318,7 @@ module _ (file : DataFile) (chapters : List Chapter) (t : Told) (is : IsInOrder 
     before_comes Recover stops = stops_comes layout new.told n to stops
     before_comes Inspect stops = part_comes new.told n to stops
     before_comes Scrub stops = stops_comes layout new.told n to stops
+    before_comes (Paced pace) stops = stops_comes layout new.told n to stops
     before_comes (Workload seed count) stops = stops_comes layout new.told n to stops
 
     comes_so : (mode : Mode) (comes : ComesTo mode layout t old new status) → Comes file chapters (calls_to mode layout t old new status comes) t n

@@ -41,7 +41,7 @@ use Rattle.df_session.specs.Found.{FoundFile}
 use Rattle.df_session.specs.Links.{command_in}
 use Rattle.df_top.specs.Outside.{Outside}
 use Rattle.df_top.specs.Working.{WorksThrough}
-use Rattle.df_top.specs.Works.{workload_of}
+use Rattle.df_top.specs.Works.{workload_of, workload_with}
 use Rattle.df_top.specs.declared.status.Status.{Status}
 use Rattle.df_top.specs.declared.status.Status.TheVariants.{Done}
 use Rattle.df_top.proofs.Laws.{agree_self}
@@ -213,18 +213,7 @@ module _ (seed count : ℕ) (layout : Layout) (t : Told) (old new : Outside) (st
       last_numbers seed count layout t old new status opening works whole ended ∙ ap (after_answers works.worked.answers) (first_numbers ∙ none_added first) ∙ all_added works.worked.answers first (0, 0, 0) ∙ ap (added first) (sym run_counted)
 
   report : workload_of works.run works.last ≡ workload_by view works.run
-  report = λ i. record {
-    appended = works.run.counts.appended;
-    replied = works.run.counts.replied;
-    wrote = works.run.counts.wrote;
-    released = works.run.counts.released;
-    checkpoints = works.run.counts.checkpoints;
-    refused = works.run.counts.refused;
-    bytes = works.run.counts.bytes;
-    head = (numbers i).0;
-    replies = (numbers i).1;
-    sequence = (numbers i).2;
-  }
+  report = λ i. workload_with works.run (numbers i).0 (numbers i).1 (numbers i).2
 
   prints_result : (run : Run) × IsRun seed count file t.shown view run × (status ≡ Done) × Appends old.written new.written (run_text view run)
   prints_result =

@@ -21,6 +21,7 @@ use Rattle.df_session.specs.Acknowledging.{KeepsAnswered, WereAnswered}
 use Rattle.df_top.specs.Acknowledging.{run_calls, script_calls}
 use Rattle.df_session.specs.Keeping.{KeepsFile, over}
 use Rattle.df_top.specs.Outside.{Outside}
+use Rattle.df_pace.specs.declared.pace.Pace.{Pace}
 use Rattle.df_top.specs.Run.{ServesScript}
 use Rattle.df_top.specs.Working.{WorksThrough}
 use Rattle.df_top.specs.declared.status.Status.{Status}
@@ -60,7 +61,7 @@ pub record KeepsOn (file : DataFile) (g : Grade) (w : Work) (base : Told) (mendi
 -- so does each session, whatever was done to the disk before: by each log that shows what it shows, and by which the file may be opened
 abbrev pub ScriptsKeepOn : Type 0
 ScriptsKeepOn =
-    (g : Grade) (file : DataFile) (view : View) (t base : Told) (old new : Outside) (status : Status) (found : FoundFile file.layout t) (serves : ServesScript file.layout t found old new status) → base.shown ≡ t.shown → MayOpen file view base
+    (g : Grade) (file : DataFile) (view : View) (t base : Told) (old new : Outside) (status : Status) (pace : Pace) (found : FoundFile file.layout t) (serves : ServesScript pace file.layout t found old new status) → base.shown ≡ t.shown → MayOpen file view base
     → StandsFor g (unit_at file.layout file.cluster t.shown) view → KeepsOn file g (start_of file t.shown view) base found.mending.events (script_calls serves.session)
 
 abbrev pub RunsKeepOn : Type 0
@@ -71,7 +72,7 @@ RunsKeepOn =
 -- A session on a hurt disk keeps it by the log that is begun anew, where its open finds the file's own checkpoint, as it does at rest while two copies stand.
 abbrev pub HurtScriptsKeep : Type 0
 HurtScriptsKeep =
-    (g : Grade) (file : DataFile) (view : View) (t : Told) (old new : Outside) (status : Status) (found : FoundFile file.layout t) (serves : ServesScript file.layout t found old new status) (had : FindsHad file view t found.replica) → KeepsCheckpoint view had.found
+    (g : Grade) (file : DataFile) (view : View) (t : Told) (old new : Outside) (status : Status) (pace : Pace) (found : FoundFile file.layout t) (serves : ServesScript pace file.layout t found old new status) (had : FindsHad file view t found.replica) → KeepsCheckpoint view had.found
     → StandsFor g (unit_at file.layout file.cluster t.shown) had.found → KeepsOn file g (start_of file t.shown had.found) (begun t) found.mending.events (script_calls serves.session)
 
 abbrev pub HurtRunsKeep : Type 0

@@ -29,7 +29,7 @@ use Rattle.df_top.specs.Formats.{Formats, MakesFile}
 use Rattle.df_top.specs.Outside.{Outside}
 use Rattle.df_top.specs.Run.{ComesTo, DidNothing, Does, RefusesSuperblock, Runs, ServesIn, ServesOwn, Works}
 use Rattle.df_top.specs.declared.mode.Mode.{Mode}
-use Rattle.df_top.specs.declared.mode.Mode.TheVariants.{Run, Workload}
+use Rattle.df_top.specs.declared.mode.Mode.TheVariants.{Run, Workload, Paced}
 use Rattle.df_top.specs.declared.status.Status.{Status}
 use Rattle.df_top.specs.declared.status.Status.TheVariants.{Done, Memory}
 
@@ -101,9 +101,10 @@ HaveAnswers zero log calls = Unit {0}
 HaveAnswers (suc k) log None = ⊥
 HaveAnswers (suc k) log (Some c) = WereAnswered (suc k) c.old log c
 
--- what a word did with the file that it found is a session where it served a script, or carried out a generated run
+-- what a word did with the file that it found is a session where it served a script, with work beside it or with none, or carried out a generated run
 abbrev pub word_calls : (mode : Mode) → (layout : Layout) → (t : Told) → (found : FoundFile layout t) → (old new : Outside) → (status : Status) → Works mode layout t found old new status → Option CallsMade
 word_calls Run layout t found old new status serves = Some (script_calls serves.session)
+word_calls (Paced pace) layout t found old new status serves = Some (script_calls serves.session)
 word_calls (Workload seed count) layout t found old new status works = Some (run_calls works.worked)
 word_calls mode layout t found old new status works = None
 

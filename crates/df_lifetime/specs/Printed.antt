@@ -28,6 +28,7 @@ use Rattle.df_top.specs.Works.{workload_with}
 use Rattle.df_top.specs.OneText.{ShowSame, text_by}
 use Rattle.df_top.specs.Outside.{Outside}
 use Rattle.df_top.specs.Reporting.{Recovers}
+use Rattle.df_pace.specs.declared.pace.Pace.{Pace}
 use Rattle.df_top.specs.Resulting.{script_text_of}
 use Rattle.df_top.specs.Run.{ServesScript, script_budget}
 use Rattle.df_top.specs.Scrubs.{ScrubsFile}
@@ -109,10 +110,10 @@ RunTextIsResult =
 
 -- ---- a session that anything failed in
 
--- a session of a script over a disk that tells what it shows, with the view that its open found and the lines that its text has
-pub record Scripted (layout : Layout) (t : Told) (old new : Outside) (status : Status) : Type 0 where
+-- a session of a script, with work of this pace beside it, over a disk that tells what it shows, with the view that its open found and the lines that its text has
+pub record Scripted (pace : Pace) (layout : Layout) (t : Told) (old new : Outside) (status : Status) : Type 0 where
   pub opening : FoundFile layout t
-  pub serves : ServesScript layout t opening old new status
+  pub serves : ServesScript pace layout t opening old new status
   pub view : View
   pub found : IsFound (shape opening.replica.file) (unit_at opening.replica.file.layout opening.replica.file.cluster t.shown) view
   pub text : List ℕ
@@ -121,9 +122,9 @@ pub record Scripted (layout : Layout) (t : Told) (old new : Outside) (status : S
   pub script : IsScript (line_bound layout) script_budget text says
 
 -- what it prints where nothing fails
-abbrev pub whole_text : {layout : Layout} {t : Told} {old new : Outside} {status : Status} → Scripted layout t old new status → List ℕ
-whole_text {t = t} s = text_by s.script.ends (length s.says) (script_text_of s.opening.replica.file s.view t.shown s.says)
+abbrev pub whole_text : {pace : Pace} {layout : Layout} {t : Told} {old new : Outside} {status : Status} → Scripted pace layout t old new status → List ℕ
+whole_text {pace = pace} {t = t} s = text_by s.script.ends (length s.says) (script_text_of pace s.opening.replica.file s.view t.shown s.says)
 
 -- however the session ends, what is written is a front of that
 abbrev pub FrontIsWritten : Type 0
-FrontIsWritten = (layout : Layout) (t : Told) (old new : Outside) (status : Status) (s : Scripted layout t old new status) → AppendsPart old.written new.written (whole_text s)
+FrontIsWritten = (pace : Pace) (layout : Layout) (t : Told) (old new : Outside) (status : Status) (s : Scripted pace layout t old new status) → AppendsPart old.written new.written (whole_text s)

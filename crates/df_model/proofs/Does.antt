@@ -183,8 +183,8 @@ command_law sh spell log w given (Reply op body) steps input keeps does =
     (λ none done. reply_on sh spell log w (supplied_sum given) op body steps keeps none done) does
 command_law sh spell log w given (WriteBlock kind body) steps input keeps does =
     let a = next_address (memory_of sh spell w) in
-    outcome_does sh spell log (first_refusal (block_refusals (memory_of sh spell w) kind body)) w (with_live w a (Some (supplied_sum given))) (a, supplied_sum given) steps (DoesBlock w.view a (block_of (supplied_sum given) kind body) steps) keeps
-    (λ none done. block_on sh spell log w a (block_of (supplied_sum given) kind body) steps (first_small (supplied_sums given) input.checksums) (kind_some sh spell w kind body none) keeps (next_free sh spell w kind body none) done) does
+    outcome_does sh spell log (first_refusal (block_refusals (memory_of sh spell w) kind body)) w (with_live w a (Some (supplied_sum given))) (a, supplied_sum given) steps (DoesBlock w.view a (block_of (memory_of sh spell w).content.boot (supplied_sum given) kind body) steps) keeps
+    (λ none done. block_on sh spell log w a (block_of (memory_of sh spell w).content.boot (supplied_sum given) kind body) steps (first_small (supplied_sums given) input.checksums) (kind_some sh spell w kind body none) keeps (next_free sh spell w kind body none) done) does
 command_law sh spell log w given (Release address) steps input keeps does =
     outcome_idle {A = Unit {0}} sh spell log (first_refusal (release_refusals (memory_of sh spell w) address)) w (with_live w address None) tt steps keeps
     (λ none. idle sh spell log w (with_live w address None) steps refl keeps (release_keeps sh spell w address keeps.sense) keeps.written (released log w address) does) does

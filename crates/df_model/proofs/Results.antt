@@ -188,7 +188,7 @@ module _ (sh : Shape) (spell : Parts → List ℕ) (log : UnitLog) (w : Work) (g
       let r = reply_of m (supplied_sum given) body in
       unless_refused log (first_refusal (reply_refusals m op body)) steps (DoesReply w.view place r steps) (put_one (ReplyPlace place) (ReplyUnit r)) under agree (λ done.
       subst (λ (ss : List Step). Shows log ss (put_one (ReplyPlace place) (ReplyUnit r)) under) (sym done.are) (agree_one done.put (now log) under (ReplyPlace place) (ReplyUnit r) done.one agree)) does
-  shows_next (WriteBlock kind body) does = unless_refused log (first_refusal (block_refusals m kind body)) steps _ _ under agree (λ done. block_writes log steps w.view (next_address m) (block_of (supplied_sum given) kind body) under agree done) does
+  shows_next (WriteBlock kind body) does = unless_refused log (first_refusal (block_refusals m kind body)) steps _ _ under agree (λ done. block_writes log steps w.view (next_address m) (block_of m.content.boot (supplied_sum given) kind body) under agree done) does
   shows_next (Release address) does = idle log steps under does agree
   shows_next (Begin root) does = idle log steps under does agree
   shows_next Advance does = advances w.running refl does

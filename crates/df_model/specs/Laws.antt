@@ -147,7 +147,7 @@ DoesAdvance sh spell w sum (Some r) steps = DoesAdvanceTo sh spell w sum r r.lef
 abbrev pub Does : Shape → (Parts → List ℕ) → Units → Work → Given → Command → List Step → Type 0
 Does sh spell image w given (Append client request body) steps = UnlessRefused (first_refusal (append_refusals (memory_of sh spell w) client request body)) steps (DoesAppend sh image w.view (prepare_of (memory_of sh spell w) (supplied_sum given) client request body) steps)
 Does sh spell image w given (Reply op body) steps = UnlessRefused (first_refusal (reply_refusals (memory_of sh spell w) op body)) steps (DoesReply w.view (place_of_reply (memory_of sh spell w)) (reply_of (memory_of sh spell w) (supplied_sum given) body) steps)
-Does sh spell image w given (WriteBlock kind body) steps = UnlessRefused (first_refusal (block_refusals (memory_of sh spell w) kind body)) steps (DoesBlock w.view (next_address (memory_of sh spell w)) (block_of (supplied_sum given) kind body) steps)
+Does sh spell image w given (WriteBlock kind body) steps = UnlessRefused (first_refusal (block_refusals (memory_of sh spell w) kind body)) steps (DoesBlock w.view (next_address (memory_of sh spell w)) (block_of (memory_of sh spell w).content.boot (supplied_sum given) kind body) steps)
 Does sh spell image w given Advance steps = DoesAdvance sh spell w (supplied_sum given) w.running steps
 Does sh spell image w given (Release address) steps = DoesNothing steps
 Does sh spell image w given (Begin root) steps = DoesNothing steps

@@ -64,8 +64,9 @@ reply_of m sum body =
       body = body;
     }
 
-abbrev pub block_of : (sum kind : ℕ) → List ℕ → Block
-block_of sum kind body = record { checksum = sum; kind = kind; sequence = 0; index = 0; before = 0; before_checksum = 0; body = body }
+-- a block, made in this boot
+abbrev pub block_of : (boot sum kind : ℕ) → List ℕ → Block
+block_of boot sum kind body = record { checksum = sum; kind = kind; sequence = 0; index = 0; before = 0; before_checksum = 0; boot = boot; body = body }
 
 -- the least address that isn't held
 abbrev pub next_address : Memory → ℕ
@@ -97,6 +98,7 @@ trailer_block m r sum = record {
   index = r.count;
   before = r.last;
   before_checksum = r.last_checksum;
+  boot = m.content.boot;
   body = piece_of (block_room m.layout) r.count r.text;
 }
 

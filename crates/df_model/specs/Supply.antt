@@ -42,7 +42,7 @@ step_sum codec m (Some r) = trailer_sum codec m r r.left
 abbrev pub checksum_given : Codec → Memory → Command → ℕ
 checksum_given codec m (Append client request body) = codec.prepare (prepare_of m 0 client request body)
 checksum_given codec m (Reply op body) = codec.reply (place_of_reply m) (reply_of m 0 body)
-checksum_given codec m (WriteBlock kind body) = codec.block (next_address m) (block_of 0 kind body)
+checksum_given codec m (WriteBlock kind body) = codec.block (next_address m) (block_of m.content.boot 0 kind body)
 checksum_given codec m Advance = step_sum codec m m.running
 checksum_given codec m command = 0
 
@@ -153,7 +153,7 @@ step_puts m (Some r) sum = trailer_puts m r sum r.left
 abbrev pub puts_of : Memory → (sum : ℕ) → Command → Units
 puts_of m sum (Append client request body) = unless (first_refusal (append_refusals m client request body)) (put_one (PreparePlace ((m.head + 1) % m.layout.slots)) (PrepareUnit (prepare_of m sum client request body)))
 puts_of m sum (Reply op body) = unless (first_refusal (reply_refusals m op body)) (put_one (ReplyPlace (place_of_reply m)) (ReplyUnit (reply_of m sum body)))
-puts_of m sum (WriteBlock kind body) = unless (first_refusal (block_refusals m kind body)) (put_one (BlockPlace (next_address m)) (BlockUnit (block_of sum kind body)))
+puts_of m sum (WriteBlock kind body) = unless (first_refusal (block_refusals m kind body)) (put_one (BlockPlace (next_address m)) (BlockUnit (block_of m.content.boot sum kind body)))
 puts_of m sum Advance = step_puts m m.running sum
 puts_of m sum command = nothing
 

@@ -11,7 +11,7 @@ use Rattle.df_units.specs.Bytes.{unit_at}
 use Rattle.df_theory.proofs.Laws.{disk_barrier_law, now_units, quiet_synced}
 use Rattle.df_opening.specs.Mending.{BarrierRests}
 use Rattle.df_opening.specs.Keeping.{Firm, Grade, StandingFor, StandsFor, Whole, format}
-use Rattle.df_recovery.specs.Below.{shape}
+use Rattle.df_damage.specs.Below.{shape}
 use Rattle.df_opening.proofs.Followed.{in_pools}
 
 -- a sync adds no unit to the pools

@@ -1,14 +1,14 @@
 -- The superblock of a new file can be used.
-use Rattle.std.proofs.Common.{◌≡◌, ℕ, ◌<◌, None, refl, arith}
+use Rattle.std.proofs.Common.{inl, ◌≡◌, ℕ, ◌<◌, None, refl, arith}
 use Rattle.df_layout.specs.declared.layout.Layout.{Layout}
 use Rattle.df_format.specs.SuperRules.{IsSuper, fault_of}
-use Rattle.df_format.proofs.Laws.{faults}
+use Rattle.df_format.proofs.Laws.{faults, no_names}
 use Rattle.df_format.specs.First.{first_super}
 
 pub first_is_super : (layout : Layout) (cluster : ℕ) → 0 < cluster → IsSuper (first_super layout cluster)
 unfolding first_super
 first_is_super layout cluster some = record {
-  version = refl;
+  version = inl (record { version = refl; boot = refl; named = record { head = refl; replies = no_names } });
   layout = record {
     slots_within = layout.slots_within;
     message_size_within = layout.message_size_within;
@@ -26,7 +26,6 @@ first_is_super layout cluster some = record {
   trailer_checksum = λ _. refl;
   no_trailer = λ _. refl;
   trailer_size = λ other. absurd (other refl);
-  boot = refl;
   zero = refl;
 }
 

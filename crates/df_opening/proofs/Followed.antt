@@ -16,7 +16,7 @@ use Rattle.df_damage.specs.Anew.{begun}
 use Rattle.df_trailer.specs.Text.{parse_of}
 use Rattle.df_units.specs.Meaning.{layout_of}
 use Rattle.df_units.proofs.Laws.{is_format, of_places}
-use Rattle.df_recovery.specs.Below.{shape}
+use Rattle.df_damage.specs.Below.{shape}
 use Rattle.df_opening.specs.Following.{BegunMayOpen, FaultedMayOpen, StoppedMayOpen, TidyMayOpen}
 use Rattle.df_opening.specs.Keeping.{format}
 

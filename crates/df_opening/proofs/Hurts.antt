@@ -5,9 +5,9 @@ use Rattle.df_damage.proofs.Laws.{answer_is_of_hurt}
 use Rattle.df_disk.specs.Told.{Told}
 use Rattle.df_layout.specs.declared.layout.Layout.{Layout}
 use Rattle.df_model.specs.declared.errors.OpenError.{OpenError}
-use Rattle.df_recovery.specs.Scanning.{TellsRead}
-use Rattle.df_recovery.specs.declared.scanned.Scanned.{Scanned}
-use Rattle.df_recovery.specs.Below.{State}
+use Rattle.df_damage.specs.Scanning.{TellsRead}
+use Rattle.df_damage.specs.Types.{Scanned}
+use Rattle.df_damage.specs.Below.{State}
 use Rattle.df_opening.specs.Surveying.{TellsSurvey}
 
 pub tells_hurt : (layout : Layout) (told : Option Told) (result : Result State OpenError) → TellsSurvey layout told result → TellsHurt layout told result

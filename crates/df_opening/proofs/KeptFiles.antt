@@ -8,7 +8,7 @@ use Rattle.df_theory.specs.Units.{Parts}
 use Rattle.df_theory.specs.View.{View}
 use Rattle.df_model.specs.Laws.{IsKeptBy}
 use Rattle.df_model.specs.Work.{Work}
-use Rattle.df_recovery.specs.Below.{DataFile, State, shape, spelling}
+use Rattle.df_damage.specs.Below.{DataFile, State, shape, spelling}
 use Rattle.df_opening.specs.Keeping.{Firm, Grade, IsGoodFor, IsKept, KeptFor, Whole, format}
 
 -- a good log is safe

@@ -16,18 +16,18 @@ use Rattle.df_journal.proofs.Laws.{class_shown, scanned_shown}
 use Rattle.df_quorum.specs.declared.slot.Slot.{Slot}
 use Rattle.df_superblock.specs.Calls.{ShowsSlots}
 use Rattle.df_units.specs.Bytes.{unit_at}
-use Rattle.df_recovery.specs.Found.{IsChoiceOf}
-use Rattle.df_recovery.specs.Plan.{class_of_slot, copy_mend, copy_mends, needs_header, shown_class, slot_mend, slot_mends}
+use Rattle.df_damage.specs.Found.{IsChoiceOf}
+use Rattle.df_damage.specs.Plan.{class_of_slot, copy_mend, copy_mends, needs_header, shown_class, slot_mend, slot_mends}
 use Rattle.df_opening.specs.Survey.{Survey}
-use Rattle.df_recovery.specs.Scanning.{IsScan, TellsRead}
-use Rattle.df_recovery.specs.Surveys.{Surveys}
-use Rattle.df_recovery.specs.declared.scanned.Scanned.{Scanned}
+use Rattle.df_damage.specs.Scanning.{IsScan, TellsRead}
+use Rattle.df_damage.specs.Surveys.{Surveys}
+use Rattle.df_damage.specs.Types.{Scanned}
 use Rattle.df_opening.specs.Mending.{ArePlannedFrom, IsSettledFrom}
-use Rattle.df_recovery.specs.Starting.{start_of}
+use Rattle.df_damage.specs.Starting.{start_of}
 use Rattle.df_opening.specs.Surveying.{IsMendable, IsReadOf, TellsMends, TellsSurvey, copy_mend_at, mends_of}
 use Rattle.df_model.specs.declared.errors.OpenError.{OpenError}
-use Rattle.df_recovery.specs.Below.{DataFile, State}
-use Rattle.df_recovery.proofs.Laws.{scanned_of_file, version_one}
+use Rattle.df_damage.specs.Below.{DataFile, State}
+use Rattle.df_damage.proofs.Laws.{scanned_of_file, version_one}
 
 -- what two functions make of the numbers that are wanted is the same where they agree
 listed_case : (b : Bool) (f g : ℕ → Mend) (a : ℕ) (xs ys : List ℕ) → f a ≡ g a → map f xs ≡ map g ys → map f (cond b (a ∷ xs) xs) ≡ map g (cond b (a ∷ ys) ys)

@@ -10,8 +10,8 @@ use Rattle.df_layout.specs.declared.layout.Layout.{Layout}
 use Rattle.df_format.specs.declared.header.Header.{Header}
 use Rattle.df_headers.specs.Ring.{sector_events, sector_writes}
 use Rattle.df_opening.specs.Mending.{header_events, needs_sector, sectors_to, some_of, wanted_writes}
-use Rattle.df_recovery.specs.Plan.{if_wanted}
-use Rattle.df_recovery.proofs.Laws.{filter_more}
+use Rattle.df_damage.specs.Plan.{if_wanted}
+use Rattle.df_damage.proofs.Laws.{filter_more}
 
 -- ---- sectors
 

@@ -36,8 +36,8 @@ use Rattle.df_headers.specs.Ring.{IsTable, in_sector, sector_writes}
 use Rattle.df_headers.proofs.Laws.{table_written}
 use Rattle.df_superblock.specs.Events.{repair_events}
 use Rattle.df_superblock.specs.Steps.{repaired}
-use Rattle.df_recovery.specs.Below.{DataFile, shape}
-use Rattle.df_recovery.specs.Plan.{header_or_none, headers_in, if_wanted}
+use Rattle.df_damage.specs.Below.{DataFile, shape}
+use Rattle.df_damage.specs.Plan.{header_or_none, headers_in, if_wanted}
 use Rattle.df_opening.specs.Mending.{IsMended, MayMendOn, header_events, mending_events, mending_steps, needs_sector, sector_puts, sectors_of, sectors_to}
 use Rattle.df_opening.specs.Keeping.{Firm, Grade, IsGoodFor, StandingFor, Whole, format}
 use Rattle.df_superblock.proofs.Laws.{repair_from}

@@ -34,13 +34,13 @@ use Rattle.df_headers.proofs.Laws.{sector_at, sector_has}
 use Rattle.df_superblock.specs.Steps.{repaired}
 use Rattle.df_journal.specs.declared.table.Start.{Start}
 use Rattle.df_journal.specs.Shows.{Tells}
-use Rattle.df_recovery.specs.Below.{DataFile, shape}
+use Rattle.df_damage.specs.Below.{DataFile, shape}
 use Rattle.df_opening.specs.Mending.{IsPlanned, PlannedMayMend, RestsOnDisk, lies_in, needs_sector, sector_put, sector_puts, sectors_of, sectors_to}
-use Rattle.df_recovery.specs.Plan.{AreDistinct, IsScanOf, copy_mends, header_or_none, headers_in, if_wanted, needs_header, shown_class, slot_mend, slot_mends}
+use Rattle.df_damage.specs.Plan.{AreDistinct, IsScanOf, copy_mends, header_or_none, headers_in, if_wanted, needs_header, shown_class, slot_mend, slot_mends}
 use Rattle.df_opening.specs.Keeping.{Grade, format}
 use Rattle.df_opening.proofs.Followed.{in_pools}
 use Rattle.df_opening.proofs.MendEvents.{sectors_more}
-use Rattle.df_recovery.proofs.Laws.{slot_mends_more, super_is_written, written_is}
+use Rattle.df_damage.proofs.Laws.{slot_mends_more, super_is_written, written_is}
 
 -- ---- copies
 
@@ -154,12 +154,16 @@ module _ (g : Grade) (file : DataFile) (v : View) (table : List Header) (mends :
   content_is : v.checkpoint.content ≡ content_of (content_with f)
   content_is = one_chosen_law (now (units_log (format file) t.log)) v.checkpoint.content (content_of (content_with f)) on.rests.holds.chosen is_chosen
 
+  -- its superblock has no boot, and names no prepare above its checkpoint's
+  first : (v.checkpoint.content.boot ≡ 0) × (v.checkpoint.content.pin ≡ v.checkpoint.content.op)
+  first = let tests = on.rests.holds.bears.sound.checkpoint.tests in let of = tests.of.one tests.version in (of.0, of.1)
+
   is_scan : IsScanOf file.layout (shape file) (now (units_log (format file) t.log)) v plan.scan
   is_scan = record {
     slots_are = refl;
     op = ap (λ (c : Units.Content). c.op) content_is ∙ sym (ap (λ (x : Start). x.op) plan.start);
-    pin = ap (λ (c : Units.Content). c.pin) content_is ∙ sym (ap (λ (x : Start). x.head) plan.start);
-    boot = ap (λ (c : Units.Content). c.boot) content_is ∙ sym (ap (λ (x : Start). x.boot) plan.start);
+    pin = first.1 ∙ ap (λ (c : Units.Content). c.op) content_is ∙ sym (ap (λ (x : Start). x.head) plan.start);
+    boot = first.0 ∙ sym (ap (λ (x : Start). x.boot) plan.start);
     tells = tells;
     found = (found_law (shape file) (now (units_log (format file) t.log)) v).0 on.rests.holds;
   }

@@ -20,7 +20,7 @@ use Rattle.df_theory.proofs.Laws.{steps_join_law}
 use Rattle.df_units.specs.Format.{format_of}
 use Rattle.df_units.specs.Meaning.{layout_of}
 use Rattle.df_trailer.specs.Text.{parse_of}
-use Rattle.df_recovery.specs.Below.{shape}
+use Rattle.df_damage.specs.Below.{shape}
 use Rattle.df_units.specs.Making.{AreReserved, IsMadeOnDisk, first_view, header_puts, header_writes}
 use Rattle.df_units.specs.Sample.{reserved_header}
 use Rattle.df_units.proofs.Laws.{all_added, copy_put, format_on_disk, part_moments, headers_are_steps}

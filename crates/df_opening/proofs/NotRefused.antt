@@ -4,7 +4,7 @@ use Rattle.df_base.specs.Image.{Image, IsImage}
 use Rattle.df_base.specs.Log.{now}
 use Rattle.df_base.proofs.Laws.{now_is_image}
 use Rattle.df_damage.proofs.Laws.{found_is_not_refused}
-use Rattle.df_recovery.specs.Below.{shape}
+use Rattle.df_damage.specs.Below.{shape}
 use Rattle.df_theory.specs.Found.{IsFound}
 use Rattle.df_units.specs.Bytes.{unit_at}
 use Rattle.df_opening.specs.Completeness.{SafeIsNotRefused}

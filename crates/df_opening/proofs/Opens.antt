@@ -12,6 +12,7 @@ use Rattle.df_disk.specs.Adds.{AddsPart, after_all}
 use Rattle.df_damage.specs.Anew.{told_after}
 use Rattle.df_damage.proofs.Laws.{added_is_told}
 use Rattle.df_layout.specs.declared.damage.Mend.{Mend}
+use Rattle.df_format.specs.Copies.{Content}
 use Rattle.df_format.specs.declared.header.Header.{Header}
 use Rattle.df_format.specs.declared.superblock.SuperFields.{SuperFields}
 use Rattle.df_theory.specs.Units
@@ -26,7 +27,7 @@ use Rattle.df_theory.specs.UnitLog.{Synced, UnitLog, add, now, wrote}
 use Rattle.df_theory.specs.View.{View, head}
 use Rattle.df_theory.proofs.Laws.{now_units, one_found_law}
 use Rattle.df_units.specs.Bytes.{unit_at}
-use Rattle.df_units.proofs.Laws.{all_added, call_ends, chosen_choice, of_places, part_moments}
+use Rattle.df_units.proofs.Laws.{all_added, by_other, call_ends, chosen_choice, of_places, part_moments}
 use Rattle.df_model.specs.Codec.{IsCodec}
 use Rattle.df_model.specs.Laws.{IsKeptBy}
 use Rattle.df_model.specs.Work.{Work, checksum_of, checksum_of_op, first_tour, opened, waiting_checksum}
@@ -35,19 +36,21 @@ use Rattle.df_model.specs.Sense.{IsBacked}
 use Rattle.df_theory.specs.WholeLaws.{IsStanding}
 use Rattle.df_trailer.specs.Text.{parse_of}
 use Rattle.df_trailer.proofs.Laws.{codec}
-use Rattle.df_units.specs.Meaning.{layout_of}
+use Rattle.df_units.specs.Meaning.{content_of, layout_of, number_of}
 use Rattle.df_opening.proofs.KeptFiles.{good_safe}
 use Rattle.df_opening.proofs.Fronts.{Front, front_of}
 use Rattle.df_opening.proofs.StepShows.{stays_firm, unit_after, unwritten}
 use Rattle.df_opening.specs.Sparing.{AreSettled}
 use Rattle.df_superblock.specs.Steps.{repaired}
-use Rattle.df_recovery.specs.Below.{DataFile, Represents, State, shape, spelling}
+use Rattle.df_damage.specs.Below.{DataFile, Represents, State, shape, spelling}
 use Rattle.df_layout.specs.declared.layout.Layout.{Layout}
-use Rattle.df_opening.specs.Surveying.{TellsSurvey}
+use Rattle.df_opening.specs.Opened.{AreMending}
+use Rattle.df_opening.specs.Survey.{Survey}
+use Rattle.df_opening.specs.Surveying.{IsMendable, TellsMends, TellsSurvey, mends_of}
 use Rattle.df_opening.specs.Following.{MayOpen}
 use Rattle.df_opening.specs.Mending.{IsMended, IsPlanned, live_state, mending_events, mending_steps, sector_puts, sectors_of}
 use Rattle.df_opening.specs.Keeping.{Firm, Grade, IsGoodFor, IsKept, Keeps, KeptFor, StandingFor, Whole, format}
-use Rattle.df_recovery.specs.Surveys.{IsOpened}
+use Rattle.df_damage.specs.Surveys.{IsOpened}
 
 -- ---- no step of a mending puts a prepare
 
@@ -105,6 +108,12 @@ kept_on : (g : Grade) (sh : Shape) (spell : Units.Parts → List ℕ) (log : Uni
 kept_on Firm sh spell log v standing by = by.0
 kept_on Whole sh spell log v standing by = (by.0, by.1 standing)
 
+-- a superblock of version 1 names no reply
+pub names_none : (c : Content) (d : Units.Content) → content_of c ≡ d → d.version ≡ 1 → d.reply_checksums ≡ []
+names_none c d same first =
+    let version : c.fields.version ≡ 1 = ap (λ (x : Units.Content). x.version) same ∙ first in
+    ap (λ (x : Units.Content). x.reply_checksums) (sym same) ∙ by_other c.fields (map number_of c.fields.reply_checksums) [] (λ second. omega (arith, second, version))
+
 -- the disk at its end is a disk's, and shows the prepares that it showed before
 pub open_keeps : (g : Grade) (s : State) (mends : List Mend) (members : List Bool) (view : View) (before after : Told) → MayOpen s.file view before
     → IsOpened s.file.layout before.shown s → AreSteps (format s.file) (mending_events s.file.layout s.headers mends s.fields members) (mending_steps s.file.layout s.headers mends s.fields members)
@@ -131,7 +140,7 @@ open_keeps g s mends members view before after may is steps all moments mended =
     let whole : IsImage (Log.now after.log) = now_is_image after.log.start after.log.events is_log.start is_log.events in
     let choice = chosen_choice s.file.layout s.file.cluster (Log.now before.log) view.checkpoint.content (now_is_image before.log.start before.log.events may.safe.is_log.start may.safe.is_log.events) may.found.chosen in
     let kept = kept_on g sh (spelling s.file) log view mended.standing
-    (opened_kept_law sh (spelling s.file) log view (codec_of s.file) (record { version = refl; names = ap (λ (c : Units.Content). c.reply_checksums) (sym choice.1) }) mended.tidy
+    (opened_kept_law sh (spelling s.file) log view (codec_of s.file) (record { version = refl; names = names_none choice.0 view.checkpoint.content choice.1 may.found.checkpoint.tests.version }) mended.tidy
     (subst (AreOfPlaces sh) image (of_places s.file.layout s.file.cluster s.file.named (parse_of (layout_of s.file.layout)) (Log.now after.log) whole))) in
     record {
       log_is = is_log;
@@ -212,7 +221,7 @@ found_keeps s image view whole is found =
     let units = unit_at s.file.layout s.file.cluster image in
     let one : is.view ≡ view = one_found_law sh units is.view view is.found found in
     let choice = chosen_choice s.file.layout s.file.cluster image view.checkpoint.content whole found.chosen in (
-      found_law sh (spelling s.file) units view (codec_of s.file) (record { version = refl; names = ap (λ (c : Units.Content). c.reply_checksums) (sym choice.1) })
+      found_law sh (spelling s.file) units view (codec_of s.file) (record { version = refl; names = names_none choice.0 view.checkpoint.content choice.1 found.checkpoint.tests.version })
           (of_places s.file.layout s.file.cluster s.file.named (parse_of (layout_of s.file.layout)) image whole) found,
       subst (λ (v : View). Represents s (opened sh units v)) one is.stands,
     )
@@ -220,6 +229,24 @@ found_keeps s image view whole is found =
 -- a state is kept as a live one
 pub live_kept : (g : Grade) (s : State) (w : Work) (log : Log.Log) → IsKept g s w log → IsKept g (live_state s) w log
 live_kept g s w log is = record { log_is = is.log_is; stands = is.stands; kept_by = is.kept_by; ring = is.ring }
+
+-- ---- which device calls a mending is
+
+-- what a survey lists is what is to be mended of the image
+pub own_mending : (layout : Layout) (told : Option Told) (t : Told) (s : Survey) → told ≡ Some t → s.state.file.layout ≡ layout → TellsMends layout told s → IsImage t.shown
+    → AreMending t s.state (mending_events s.state.file.layout s.state.headers s.mends s.state.fields s.chosen.members)
+own_mending layout told t s is of tells whole =
+    let may : IsMendable layout t.shown s = (subst (λ (o : Option Told). TellsMends layout o s) is tells) whole in
+    record {
+      chosen = s.chosen;
+      choice = may.choice;
+      are =
+          ap (λ (list : List Mend). mending_events s.state.file.layout s.state.headers list s.state.fields s.chosen.members)
+          (may.mends ∙ ap (λ (l : Layout). mends_of l t.shown s.state.fields s.chosen.members) (sym of));
+    }
+
+pub live_mending : (t : Told) (s : State) (events : List Event) → AreMending t s events → AreMending t (live_state s) events
+live_mending t s events own = record { chosen = own.chosen; choice = own.choice; are = own.are }
 
 -- ---- where the disk failed
 

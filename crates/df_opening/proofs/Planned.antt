@@ -9,7 +9,7 @@ use Rattle.df_format.specs.declared.superblock.SuperFields.{SuperFields}
 use Rattle.df_theory.specs.Device.{AreSteps}
 use Rattle.df_theory.specs.View.{View}
 use Rattle.df_headers.specs.Ring.{IsTable}
-use Rattle.df_recovery.specs.Below.{DataFile, shape}
+use Rattle.df_damage.specs.Below.{DataFile, shape}
 use Rattle.df_opening.specs.Keeping.{Grade, IsGoodFor, format}
 use Rattle.df_opening.specs.Mending.{IsMended, IsPlanned, MayMendOn, RestsOnDisk, mending_events, mending_steps}
 use Rattle.df_opening.proofs.Mendable.{planned_may_mend}

@@ -13,16 +13,16 @@ use Rattle.df_theory.specs.MendLaws.{IsSlotHeader}
 use Rattle.df_theory.specs.View.{Checkpoint}
 use Rattle.df_theory.proofs.Laws.{one_chosen_law}
 use Rattle.df_units.specs.Bytes.{unit_at}
-use Rattle.df_recovery.specs.Checkpoints.{Base, base_of}
-use Rattle.df_recovery.specs.Finding.{Answers, HasHeaders, IsKept, IsOfFile, IsRefused, StoresTo, base_with, read_of}
-use Rattle.df_recovery.specs.Plan.{header_or_none}
-use Rattle.df_recovery.specs.Scanning.{base_scanned}
-use Rattle.df_recovery.specs.Surveys.{Surveys}
-use Rattle.df_recovery.specs.Waiting.{waiting_in}
-use Rattle.df_recovery.specs.declared.finding.Traces.{Traces}
-use Rattle.df_recovery.specs.declared.scanned.Scanned.{Scanned}
-use Rattle.df_recovery.proofs.Laws.{file_is_read, kept_is_answer, refused_is_answer}
-use Rattle.df_recovery.specs.Below.{DataFile, State, shape}
+use Rattle.df_damage.specs.Checkpoints.{Base, base_of}
+use Rattle.df_damage.specs.Finding.{Answers, HasHeaders, IsKept, IsOfFile, IsRefused, StoresTo, base_with, read_of}
+use Rattle.df_damage.specs.Plan.{header_or_none}
+use Rattle.df_damage.specs.Scanning.{base_scanned}
+use Rattle.df_damage.specs.Surveys.{Surveys}
+use Rattle.df_damage.specs.Waiting.{waiting_in}
+use Rattle.df_damage.specs.Types.{Traces}
+use Rattle.df_damage.specs.Types.{Scanned}
+use Rattle.df_damage.proofs.Laws.{file_is_read, kept_is_answer, refused_is_answer}
+use Rattle.df_damage.specs.Below.{DataFile, State, shape}
 use Rattle.df_opening.specs.Mending.{IsSettledFrom}
 use Rattle.df_opening.specs.Survey.{Survey}
 use Rattle.df_opening.specs.Surveying.{IsReadOf, IsSettled}
@@ -67,11 +67,12 @@ module _ (t : Told) (x : Scanned) (is : IsReadOf t x) where
         let base : Checkpoint = base_of x.copies.found.content of.checkpoint.chain of.checkpoint.parts in
         let content : v.checkpoint.content ≡ base.content = one_chosen_law image v.checkpoint.content base.content is_found.chosen read.readable.chosen in
         let tells = subst (λ (file : DataFile). Tells file.layout image x.log.slots) (sym keeps.file) read.tells in
+        let first = read.readable.sound.tests.of.one read.first in
         let here = plan.planned.from (shape s.file) image v (record {
           slots_are = refl;
           op = ap (λ (c : Content). c.op) content ∙ sym (ap (λ (y : Start). y.op) is.start);
-          pin = ap (λ (c : Content). c.pin) content ∙ sym (ap (λ (y : Start). y.head) is.start);
-          boot = ap (λ (c : Content). c.boot) content ∙ sym (ap (λ (y : Start). y.boot) is.start);
+          pin = ap (λ (c : Content). c.pin) content ∙ first.1 ∙ sym (ap (λ (y : Start). y.head) is.start);
+          boot = ap (λ (c : Content). c.boot) content ∙ first.0 ∙ sym (ap (λ (y : Start). y.boot) is.start);
           tells = tells;
           found = is_found;
         }) slot in

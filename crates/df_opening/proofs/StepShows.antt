@@ -17,7 +17,7 @@ use Rattle.df_units.specs.Format.{format_of}
 use Rattle.df_units.specs.Meaning.{place_of}
 use Rattle.df_units.specs.Wanted.{class_at}
 use Rattle.df_units.proofs.Laws.{is_format}
-use Rattle.df_recovery.specs.Below.{DataFile}
+use Rattle.df_damage.specs.Below.{DataFile}
 use Rattle.df_opening.specs.Sparing.{IsReadPlace, SparesReads, image_after, writes_to}
 use Rattle.df_opening.specs.Keeping.{format}
 

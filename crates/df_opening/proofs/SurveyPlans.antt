@@ -6,20 +6,20 @@ use Rattle.df_base.specs.Log.{Sync}
 use Rattle.df_disk.specs.Told.{Told, after, did}
 use Rattle.df_layout.specs.declared.layout.Layout.{Layout}
 use Rattle.df_format.specs.Copies.{content_at}
-use Rattle.df_format.specs.SuperRules.{fault_of}
 use Rattle.df_quorum.specs.declared.choice.Chosen.{Chosen}
 use Rattle.df_quorum.specs.Quorum.{AreMembers}
 use Rattle.df_units.specs.Bytes.{unit_at}
 use Rattle.df_journal.specs.Shows.{IsTable as AreSlots, Tells}
 use Rattle.df_journal.specs.declared.table.Start.{Start}
-use Rattle.df_recovery.specs.Starting.{start_of}
-use Rattle.df_recovery.proofs.Laws.{version_one}
+use Rattle.df_damage.specs.Starting.{start_of}
+use Rattle.df_damage.proofs.Laws.{version_one}
 use Rattle.df_journal.proofs.Laws.{scanned_shown}
-use Rattle.df_recovery.specs.Found.{IsFound}
-use Rattle.df_recovery.specs.Scanning.{IsReadBehind, IsScan, TellsRead}
-use Rattle.df_recovery.specs.Surveys.{IsOpened}
-use Rattle.df_recovery.specs.declared.scanned.Scanned.{Scanned}
-use Rattle.df_recovery.specs.Below.{DataFile, State}
+use Rattle.df_damage.specs.Found.{IsFound}
+use Rattle.df_damage.specs.Opening.{fault_asked}
+use Rattle.df_damage.specs.Scanning.{IsReadBehind, IsScan, TellsRead}
+use Rattle.df_damage.specs.Surveys.{IsOpened}
+use Rattle.df_damage.specs.Types.{Scanned}
+use Rattle.df_damage.specs.Below.{DataFile, State}
 use Rattle.df_opening.specs.Mending.{IsPlanned, IsSettledFrom, live_state}
 use Rattle.df_opening.specs.Survey.{Survey}
 use Rattle.df_opening.specs.Surveying.{IsLawful, TellsSurvey}
@@ -34,11 +34,13 @@ if_ok_more P Q (Ok x) more is = more x is
 if_ok_more P Q (Err e) more is = tt
 
 -- what was read makes sense by itself
-pub lawful : (layout : Layout) (told : Option Told) (x : Scanned) → IsReadBehind layout told x → IsLawful x
-lawful layout told x read =
+pub lawful : (layout : Layout) (told : Option Told) (x : Scanned) → IsScan layout told x → IsLawful x
+lawful layout told x scan =
+    let read = scan.behind in
     let cluster : x.log.slots.start.cluster ≡ x.file.cluster = ap (λ (y : Start). y.cluster) read.start ∙ sym read.file.cluster_is in
     record {
       named = read.file.cluster_is;
+      version = scan.copies.version;
       start = read.start;
       slots = subst (λ (l : Layout). AreSlots l x.file.cluster x.log.slots.slots) (sym read.file.layout_is) (subst (λ (n : ℕ). AreSlots layout n x.log.slots.slots) cluster read.tables.rings.is_table);
       places = read.places ∙ ap (λ (l : Layout). l.clients) (sym read.file.layout_is);
@@ -59,7 +61,7 @@ module _ (x : Scanned) (s : Survey) (layout : Layout) (settled : IsSettledFrom x
           content = is.choice.content;
           chosen = is.choice.is;
           fields = sym is.choice.fields ∙ sym is.content ∙ sym settled.fields_are;
-          usable = ap fault_of settled.fields_are ∙ is.super.usable;
+          usable = ap fault_asked settled.fields_are ∙ is.super.usable;
         };
         members_are = subst (λ (c : Chosen). AreMembers (content_at t.shown) is.choice.content c.members) (sym settled.chosen_is) is.choice.members;
         start = read.start ∙ ap start_of (sym settled.fields_are);

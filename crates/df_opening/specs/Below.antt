@@ -12,16 +12,16 @@ pub use Rattle.df_superblock.specs.Below.{Sync}
 pub use Rattle.df_superblock.specs.Events.{update_events}
 pub use Rattle.df_headers.specs.Ring.{sector_writes}
 pub use Rattle.df_journal.specs.Below.{EachMoment}
-pub use Rattle.df_recovery.specs.Below.{AreAsked, AreFound, AreWhole, DataFile, HasCause, IsBlamed, IsCourse, IsMachineStep, IsMachines, IsRunning, IsState, IsStep, IsVerdict, ListsFailing, Represents, RunningCheckpoint, RunningState, ScrubState, State, Told, View, after_step, captured_text, course_in, course_of, failing_among, failing_in, fault_of, grid_with, is_open_fault, left_in, memory, prepare_sum, reply_sum, running_of, running_state, sessions_of, shape, spelling, state_in, stored_sum, sum_of, summary_of, verdict_in, with_check}
-pub use Rattle.df_recovery.specs.Checkpoints.{AreOfCheckpoint}
-pub use Rattle.df_recovery.specs.Finding.{IsDamage}
-pub use Rattle.df_recovery.specs.Found.{IsLayoutShown, Syncs, TellsLayout}
-pub use Rattle.df_recovery.specs.Opening.{IsUnformatted, Refuses}
-pub use Rattle.df_recovery.specs.Plan.{if_wanted, needs_header, slot_mends}
-pub use Rattle.df_recovery.specs.Scanning.{without_rooms}
-pub use Rattle.df_recovery.specs.Starting.{start_of}
-pub use Rattle.df_recovery.specs.Surveys.{IsOpened, Surveys}
-pub use Rattle.df_recovery.specs.Waiting.{waiting_in}
+pub use Rattle.df_damage.specs.Below.{AreAsked, AreFound, AreWhole, DataFile, HasCause, IsBlamed, IsCourse, IsMachineStep, IsMachines, IsRunning, IsState, IsStep, IsVerdict, ListsFailing, Represents, RunningCheckpoint, RunningState, ScrubState, State, Told, View, after_step, captured_text, course_in, course_of, failing_among, failing_in, fault_of, grid_with, is_open_fault, left_in, memory, prepare_sum, reply_sum, running_of, running_state, sessions_of, shape, spelling, state_in, stored_sum, sum_of, summary_of, verdict_in, with_check}
+pub use Rattle.df_damage.specs.Checkpoints.{AreOfCheckpoint}
+pub use Rattle.df_damage.specs.Finding.{IsDamage}
+pub use Rattle.df_damage.specs.Found.{IsLayoutShown, Syncs, TellsLayout}
+pub use Rattle.df_damage.specs.Opening.{IsUnformatted, Refuses}
+pub use Rattle.df_damage.specs.Plan.{if_wanted, needs_header, slot_mends}
+pub use Rattle.df_damage.specs.Scanning.{without_rooms}
+pub use Rattle.df_damage.specs.Starting.{start_of}
+pub use Rattle.df_damage.specs.Surveys.{IsOpened, Surveys}
+pub use Rattle.df_damage.specs.Waiting.{waiting_in}
 pub use Rattle.df_damage.specs.Anew.{begun, told_after}
 pub use Rattle.df_damage.specs.Answers.{FindsHad, IsNeedless, RefusesHurt, TellsHurt}
 pub use Rattle.df_damage.specs.Disks.{IsAtRest, MayBeHurt}

@@ -2,7 +2,7 @@
 use Rattle.df_base.specs.Image.{IsImage}
 use Rattle.df_disk.specs.Told.{Told}
 use Rattle.df_damage.specs.Unrefused.{IsNotRefused}
-use Rattle.df_recovery.specs.Below.{DataFile}
+use Rattle.df_damage.specs.Below.{DataFile}
 use Rattle.df_theory.specs.View.{View}
 use Rattle.df_opening.specs.Following.{MayOpen}
 

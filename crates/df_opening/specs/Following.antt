@@ -10,7 +10,7 @@ use Rattle.df_theory.specs.Holds.{Held}
 use Rattle.df_theory.specs.TidyLaws.{IsTidy}
 use Rattle.df_theory.specs.View.{View}
 use Rattle.df_units.specs.Bytes.{unit_at}
-use Rattle.df_recovery.specs.Below.{DataFile, shape}
+use Rattle.df_damage.specs.Below.{DataFile, shape}
 use Rattle.df_opening.specs.Keeping.{format}
 
 -- a disk that is safe to open: this view is found in what its log leaves, it shows that, and none of its units came about by chance

@@ -2,7 +2,7 @@
 use Rattle.std.specs.Prelude.{◌≡◌, ℕ}
 use Rattle.df_layout.specs.declared.layout.Layout.{Layout}
 use Rattle.df_headers.specs.Ring.{IsTable}
-use Rattle.df_recovery.specs.Below.{LogRooms}
+use Rattle.df_damage.specs.Below.{LogRooms}
 
 -- they are of this layout, and their table has headers of this cluster, each valid in its slot
 pub record AreRoomsOf (layout : Layout) (cluster : ℕ) (rooms : LogRooms) : Type 0 where

@@ -14,7 +14,7 @@ use Rattle.df_journal.specs.Append.{ShowsRing}
 use Rattle.df_model.specs.Laws.{IsKeptBy}
 use Rattle.df_model.specs.Sense.{IsBacked, IsWork}
 use Rattle.df_model.specs.Work.{Work}
-use Rattle.df_recovery.specs.Below.{DataFile, Represents, State, shape, spelling}
+use Rattle.df_damage.specs.Below.{DataFile, Represents, State, shape, spelling}
 
 -- how much holds of a file: that nothing is to be mended, or that each block that it references is shown, too
 pub data Grade : Type 0 where

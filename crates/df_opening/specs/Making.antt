@@ -20,7 +20,7 @@ use Rattle.df_units.specs.Puts.{put_copies}
 use Rattle.df_units.specs.Sample.{reserved_header}
 use Rattle.df_headers.specs.Ring.{in_sector}
 use Rattle.df_model.specs.declared.errors.FormatError.{FormatError}
-use Rattle.df_recovery.specs.Below.{DataFile, shape}
+use Rattle.df_damage.specs.Below.{DataFile, shape}
 use Rattle.df_opening.specs.Formatting.{AddsFormat, RefusesCluster, TellsBlank}
 
 -- n sectors of a table, from this one on

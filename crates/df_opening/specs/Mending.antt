@@ -28,13 +28,13 @@ use Rattle.df_journal.specs.Shows.{Tells}
 use Rattle.df_journal.specs.Append.{ShowsRing}
 use Rattle.df_superblock.specs.Events.{repair_events}
 use Rattle.df_superblock.specs.Steps.{repaired}
-use Rattle.df_recovery.specs.Below.{DataFile, State, shape}
-use Rattle.df_recovery.specs.Opening.{HasSuper}
-use Rattle.df_recovery.specs.Plan.{AreDistinct, IsScanOf, OthersAreShown, headers_in, if_wanted, mend_list}
-use Rattle.df_recovery.specs.Starting.{start_of}
+use Rattle.df_damage.specs.Below.{DataFile, State, shape}
+use Rattle.df_damage.specs.Opening.{HasSuper}
+use Rattle.df_damage.specs.Plan.{AreDistinct, IsScanOf, OthersAreShown, headers_in, if_wanted, mend_list}
+use Rattle.df_damage.specs.Starting.{start_of}
 use Rattle.df_opening.specs.Following.{MayOpen}
 use Rattle.df_opening.specs.Keeping.{Grade, StandingFor, StandsFor, format}
-use Rattle.df_recovery.specs.declared.scanned.Scanned.{Scanned}
+use Rattle.df_damage.specs.Types.{Scanned}
 use Rattle.df_opening.specs.Survey.{Survey}
 
 -- ---- sectors

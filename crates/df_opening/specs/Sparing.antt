@@ -8,7 +8,7 @@ use Rattle.df_units.specs.Bytes.{has, has_place, unit_at}
 use Rattle.df_units.specs.Wanted.{class_at}
 use Rattle.df_model.specs.Result.{AgreeReads}
 use Rattle.df_model.specs.Work.{Work, is_known, is_of}
-use Rattle.df_recovery.specs.Below.{DataFile}
+use Rattle.df_damage.specs.Below.{DataFile}
 
 -- ---- what is shown
 

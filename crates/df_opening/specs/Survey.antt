@@ -2,7 +2,7 @@
 use Rattle.std.specs.Prelude.{List, Result, Ok, Err}
 use Rattle.df_layout.specs.declared.damage.Mend.{Mend}
 use Rattle.df_quorum.specs.declared.choice.Chosen.{Chosen}
-use Rattle.df_recovery.specs.Below.{state_in, State, Parts}
+use Rattle.df_damage.specs.Below.{state_in, State, Parts}
 use Rattle.df_opening.specs.declared.surveying.SurveyedFile.{SurveyedFile}
 
 -- what a survey found: the state, which copies of the superblock say so, and what is to be mended

@@ -20,17 +20,17 @@ use Rattle.df_sessions.specs.Table.{Table}
 use Rattle.df_superblock.specs.Calls.{slot_at}
 use Rattle.df_theory.specs.Sessions.{Tracks}
 use Rattle.df_units.specs.Bytes.{unit_at}
-use Rattle.df_recovery.specs.Finding.{IsOfFile, IsStarting, read_of}
-use Rattle.df_recovery.specs.Found.{IsChoiceOf}
-use Rattle.df_recovery.specs.Plan.{class_of_slot, needs_header, slot_mends}
-use Rattle.df_recovery.specs.Scanning.{base_scanned}
-use Rattle.df_recovery.specs.Starting.{start_of}
-use Rattle.df_recovery.specs.Surveys.{Surveys}
-use Rattle.df_recovery.specs.Waiting.{waiting_in}
-use Rattle.df_recovery.specs.declared.finding.Traces.{Traces}
-use Rattle.df_recovery.specs.declared.scanned.Scanned.{Scanned}
+use Rattle.df_damage.specs.Finding.{IsOfFile, IsStarting, read_of}
+use Rattle.df_damage.specs.Found.{IsChoiceOf}
+use Rattle.df_damage.specs.Plan.{class_of_slot, needs_header, slot_mends}
+use Rattle.df_damage.specs.Scanning.{base_scanned}
+use Rattle.df_damage.specs.Starting.{start_of}
+use Rattle.df_damage.specs.Surveys.{Surveys}
+use Rattle.df_damage.specs.Waiting.{waiting_in}
+use Rattle.df_damage.specs.Types.{Traces}
+use Rattle.df_damage.specs.Types.{Scanned}
 use Rattle.df_opening.specs.Survey.{Survey}
-use Rattle.df_recovery.specs.Below.{AreAsked, State}
+use Rattle.df_damage.specs.Below.{AreAsked, State}
 
 -- what was read is of the file that a disk shows
 abbrev pub IsReadOf : Told → Scanned → Type 0
@@ -40,6 +40,8 @@ IsReadOf t scanned = IsOfFile t scanned.file (read_of scanned) (base_scanned sca
 pub record IsLawful (s : Scanned) : Type 0 where
   -- the file has the superblock's cluster
   pub named : s.file.cluster ≡ s.copies.found.content.cluster
+  -- the superblock is of version 1
+  pub version : s.copies.found.content.version ≡ 1
   -- the scan started behind the superblock
   pub start : s.log.slots.start ≡ start_of s.copies.found.content
   -- each slot has units that may stand there

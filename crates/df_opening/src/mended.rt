@@ -5,7 +5,7 @@ ghost use Rattle.df_opening.specs.Held.{AreAsBefore, AreRoomsOf};
 ghost use Rattle.df_opening.specs.Keeping.{Grade, IsGoodFor, format};
 ghost use Rattle.df_opening.specs.Mending.{IsMended, IsPlanned, RestsOnDisk, live_state, mending_events, mending_steps};
 ghost use Rattle.df_opening.specs.Survey.{opened_of};
-ghost use Rattle.df_recovery.specs.Below.{AreFound, AreWhole, state_in};
+ghost use Rattle.df_damage.specs.Below.{AreFound, AreWhole, state_in};
 
 use crate::mending::{are_four, write_mends};
 use crate::{DataFile, LogRooms, Parts, Rooms, SurveyedFile};

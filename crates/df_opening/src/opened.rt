@@ -4,7 +4,7 @@ ghost use Rattle.df_opening.specs.Below.{IsBlamed, IsImage, Sync, Told, after, i
 ghost use Rattle.df_opening.specs.Opened.{MendsAll, StopsOpening, ToldBy};
 ghost use Rattle.df_opening.specs.Survey.{opened_of};
 ghost use Rattle.df_opening.specs.Surveying.{TellsSurvey};
-ghost use Rattle.df_recovery.specs.Below.{AreWhole};
+ghost use Rattle.df_damage.specs.Below.{AreWhole};
 
 use crate::{OpenError, Parts, Rooms, mend_file, survey_file};
 use df_disk::Disk;

@@ -2,7 +2,7 @@
 ghost use Rattle.std.specs.Prelude.{◌≡◌, ◌≤◌, ◌+◌, length, Some, IfOk, IfErr};
 ghost use Rattle.df_opening.specs.Below.{IsBlamed, Told, is_open_fault, TellsHurt, AreOfCheckpoint, IsDamage, Syncs, Surveys, waiting_in};
 ghost use Rattle.df_journal.specs.Shows.{IsTable as AreSlots};
-ghost use Rattle.df_recovery.specs.Below.{AreFound, state_in};
+ghost use Rattle.df_damage.specs.Below.{AreFound, state_in};
 ghost use Rattle.df_opening.specs.Mending.{ArePlannedFrom, IsPlanned, IsSettledFrom};
 ghost use Rattle.df_opening.specs.Survey.{survey_in, survey_of};
 ghost use Rattle.df_opening.specs.Surveying.{AreAfter, EndsBehind, IsLawful, IsReadOf, IsSettled, TellsMends, TellsSurvey, state_of};
@@ -10,12 +10,12 @@ ghost use Rattle.df_opening.specs.Surveying.{AreAfter, EndsBehind, IsLawful, IsR
 use crate::{DataFile, LogRooms, OpenError, Parts, Rooms};
 use arrayvec::ArrayVec;
 use df_base::Check;
+use df_damage::{
+    Copies, Scanned, Traces, find_state, plan, rooms_of, scan_file, store_replies, waiting_of,
+};
 use df_disk::Disk;
 use df_layout::ROOT;
 use df_quorum::Chosen;
-use df_recovery::{
-    Copies, Scanned, Traces, find_state, plan, rooms_of, scan_file, store_replies, waiting_of,
-};
 
 /// A file that was surveyed: its parts, on which no call may be made yet, and the choice of the superblock. What is to be mended
 /// is listed in its rooms.

@@ -1,3 +1,4 @@
+pub mod Beats
 pub mod Computed
 pub mod Idle
 pub mod Lines
@@ -6,3 +7,4 @@ pub mod Replies
 pub mod Scrubs
 pub mod Sessions
 pub mod Told
+pub mod Laws

@@ -1,3 +1,4 @@
 pub mod Loop
+pub mod Beats
 pub mod Laws
 pub mod Worked

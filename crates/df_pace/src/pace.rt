@@ -1,4 +1,6 @@
 // How much work is done beside a script, so that no line waits for a whole checkpoint.
+ghost use Rattle.std.specs.Prelude.{◌≡◌};
+ghost use Rattle.df_pace.specs.Beats.{idle};
 
 /// How much work is done behind each line of a script.
 #[derive(Clone, Copy, Debug, PartialEq, Eq)]
@@ -9,6 +11,19 @@ pub struct Pace {
     pub every: u64,
     /// At most so many steps of the running checkpoint.
     pub steps: u64,
+}
+
+impl Pace {
+    /// No work at all.
+    pub fn idle() -> Pace
+        ensures { result ≡ idle }
+    {
+        Pace {
+            scrub: 0,
+            every: 0,
+            steps: 0,
+        }
+    }
 }
 
 /// The work that is due behind a line, in this order.

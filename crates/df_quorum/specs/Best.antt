@@ -1,5 +1,5 @@
 -- The choice as it is made, one copy after the other.
-use Rattle.std.specs.Prelude.{◌≡◌, ◌<◌, ◌≤◌, ◌⊎◌, ℕ, nat_lt, if◌then◌else◌, Option, Some, None}
+use Rattle.std.specs.Prelude.{◌≡◌, ◌<◌, ◌≤◌, ◌⊎◌, ◌==◌, ◌&&◌, ◌||◌, ℕ, Bool, nat_lt, if◌then◌else◌, Option, Some, None}
 use Rattle.df_format.specs.Copies.{Content, rank_of}
 use Rattle.df_quorum.specs.Quorum.{Copies}
 
@@ -18,6 +18,10 @@ IsCandidate copies n c = (copies n ≡ Some c) × HasOther copies n c
 abbrev pub Votes : Copies → ℕ → Option Content → Type 0
 Votes copies n None = (c : Content) → IsCandidate copies n c → ⊥
 Votes copies n (Some c) = IsCandidate copies n c
+
+-- a pair of sequence and boot is below another: by sequence, and by boot where these are equal
+abbrev pub is_below : ℕ → ℕ → ℕ → ℕ → Bool
+is_below sequence boot other_sequence other_boot = nat_lt sequence other_sequence || ((sequence == other_sequence) && nat_lt boot other_boot)
 
 -- of two contents the one of greater rank, the first where they tie
 abbrev pub better_of : Option Content → Option Content → Option Content

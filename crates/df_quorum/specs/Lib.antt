@@ -1,3 +1,4 @@
 pub mod Quorum
 pub mod Best
 pub mod Laws
+pub mod SameFields

@@ -2,17 +2,29 @@
 ghost use Rattle.std.specs.Prelude.{◌≡◌, nat_lt, option_copied};
 ghost use Rattle.df_format.specs.Copies.{content_of, rank_of};
 ghost use Rattle.df_quorum.specs.Quorum.{copies_of, content_of_copy, IfChosen};
-ghost use Rattle.df_quorum.specs.Best.{better_of};
+ghost use Rattle.df_quorum.specs.Best.{better_of, is_below};
 
 use crate::Slot;
 use crate::votes::candidate;
 use df_format::SuperCopy;
 
-// Whether a content comes after another one.
+// Whether a pair of sequence and boot is below another one.
+fn is_below(sequence: u64, boot: u64, other_sequence: u64, other_boot: u64) -> bool
+    ensures { result ≡ is_below sequence boot other_sequence other_boot }
+{
+    sequence < other_sequence || sequence == other_sequence && boot < other_boot
+}
+
+// Whether a content comes after another one, by the two numbers as they stand in the copies, whatever their version.
 fn outranks(one: &SuperCopy, other: &SuperCopy) -> bool
     ensures { result ≡ nat_lt (rank_of (content_of_copy other.now)) (rank_of (content_of_copy one.now)) }
 {
-    other.fields.sequence < one.fields.sequence
+    is_below(
+        other.fields.sequence,
+        other.fields.boot,
+        one.fields.sequence,
+        one.fields.boot,
+    )
 }
 
 // The greater of two, and the first one where they tie.

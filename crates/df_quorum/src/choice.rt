@@ -30,8 +30,8 @@ fn classes(copies: &[Slot; 4]) -> [Class; 4]
     ]
 }
 
-/// The content of greatest sequence on which at least two copies agree, each counted at its own place alone; where two
-/// contents tie, the one of the lowest-numbered copy. Copies agree where their checksums and fields are equal. Where no two
+/// The content of greatest pair (sequence, boot), sequence first, on which at least two copies agree, each counted at its own
+/// place alone; where two contents tie, the one of the lowest-numbered copy. Copies agree where their checksums and fields are equal. Where no two
 /// agree, the class of each place: a sound copy is `Stale` at its own place, and else `Elsewhere` with that place.
 pub fn choose(copies: &[Slot; 4]) -> Result<Chosen, [Class; 4]>
     ensures content { IfOk result (λ chosen. HasChosen (copies_of copies.now) chosen.content) }

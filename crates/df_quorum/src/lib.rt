@@ -4,6 +4,7 @@
 mod best;
 mod choice;
 mod choice_laws;
+mod fields;
 mod slot;
 mod votes;
 
@@ -11,4 +12,5 @@ pub use choice::{Chosen, choose};
 pub use choice_laws::{
     copies_decide, one_is_chosen, three_equal_are_chosen, two_newest_are_chosen,
 };
+pub use fields::same_fields;
 pub use slot::Slot;

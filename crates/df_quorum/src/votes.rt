@@ -5,6 +5,7 @@ ghost use Rattle.df_quorum.specs.Quorum.{copies_of, content_of_copy, AreMembers}
 ghost use Rattle.df_quorum.specs.Best.{Votes, HasOther};
 
 use crate::Slot;
+use crate::fields::same_fields;
 use crate::slot::shown;
 use df_format::SuperCopy;
 
@@ -12,7 +13,7 @@ use df_format::SuperCopy;
 fn agree(one: &SuperCopy, other: &SuperCopy) -> bool
     ensures { IsTrue result ↔ (content_of_copy one.now ≡ content_of_copy other.now) }
 {
-    one.checksum == other.checksum && one.fields == other.fields
+    one.checksum == other.checksum && same_fields(&one.fields, &other.fields)
 }
 
 fn shows(copies: &[Slot; 4], number: u8, wanted: &SuperCopy) -> bool

@@ -10,7 +10,7 @@ use Rattle.df_disk.specs.Told.{Told}
 use Rattle.df_layout.specs.declared.layout.Layout.{Layout}
 use Rattle.df_format.specs.Copies.{Content, content_at, content_with}
 use Rattle.df_format.specs.SuperRules.{IsSuper}
-use Rattle.df_format.proofs.Laws.{faults}
+use Rattle.df_recovery.proofs.Asked.{asked_super}
 use Rattle.df_quorum.specs.Quorum.{AreMembers, IsChosen}
 use Rattle.df_quorum.proofs.Laws.{one_law}
 use Rattle.df_sessions.specs.Requests.{sessions_of}
@@ -22,7 +22,7 @@ use Rattle.df_theory.specs.View.{PassesTests}
 use Rattle.df_units.specs.Bytes.{copy_unit, unit_at}
 use Rattle.df_units.specs.Meaning.{content_of, layout_of}
 use Rattle.df_units.specs.Superblocks.{AreFieldsOf, HasChecks}
-use Rattle.df_units.proofs.Laws.{choice_chosen, one_number, passing_is_usable, shown_checks, usable_passes, copy_parts}
+use Rattle.df_units.proofs.Laws.{choice_chosen, first_usable_passes, one_content, shown_checks, copy_parts, unbooted_alone}
 use Rattle.df_journal.specs.Shows.{Tells}
 use Rattle.df_journal.proofs.Laws.{scanned_shown as slots_shown}
 use Rattle.df_replies.specs.Shown.{ShowsReplies}
@@ -58,42 +58,6 @@ member_inside (member ∷ members) (suc k) is = omega (arith, member_inside memb
 position_upto : (members : List Bool) (k : ℕ) → get_or members k false ≡ true → (n : ℕ) × (n ≤ k) × (position (λ member. member) members ≡ Some n)
 position_upto members k is = position_of members k (position (λ member. member) members) is (member_inside members k is) refl
 
--- ---- contents are told apart by what the theory sees of them
-
-one_content : (layout : Layout) (cluster : ℕ) (named : 0 < cluster) (c d : Content) → HasChecks c → HasChecks d → AreFieldsOf layout cluster d.fields → IsSuper d.fields → content_of c ≡ content_of d → c ≡ d
-one_content layout cluster named c d one two of super same =
-    let parse : ℕ → List ℕ → Option Units.Parts = parse_of (layout_of layout) in
-    let passes = usable_passes layout cluster named parse d of super in
-    let tests : PassesTests (shape (record { layout = layout; cluster = cluster; named = named })) (content_of c) = subst (PassesTests (shape (record { layout = layout; cluster = cluster; named = named }))) (sym same) passes.0 in
-    let other : IsSuper c.fields = (passing_is_usable layout cluster named parse c one tests (subst (IsReference (layout_of layout)) (sym same) passes.1)).1 in
-    let checksum = one_number c.checksum d.checksum one.checksum two.checksum (ap (λ (e : Units.Content). e.checksum) same) in
-    let op_checksum = one_number c.fields.op_checksum d.fields.op_checksum one.op_checksum two.op_checksum (ap (λ (e : Units.Content). e.op_checksum) same) in
-    let trailer_checksum = one_number c.fields.trailer_checksum d.fields.trailer_checksum one.trailer_checksum two.trailer_checksum (ap (λ (e : Units.Content). e.trailer_checksum) same) in
-    let boot = other.boot ∙ sym super.boot in
-    let first_nonzero = other.zero ∙ sym super.zero in
-    λ i. record {
-      checksum = checksum i;
-      fields = record {
-        version = (same i).version;
-        slots = (same i).layout.slots;
-        message_size = (same i).layout.message_size;
-        clients = (same i).layout.clients;
-        block_size = (same i).layout.block_size;
-        blocks = (same i).layout.blocks;
-        cluster = (same i).cluster;
-        sequence = (same i).sequence;
-        op = (same i).op;
-        op_checksum = op_checksum i;
-        head = (same i).head;
-        replies = (same i).replies;
-        trailer_address = (same i).trailer;
-        trailer_checksum = trailer_checksum i;
-        trailer_size = (same i).trailer_size;
-        boot = boot i;
-        first_nonzero = first_nonzero i;
-      };
-    }
-
 -- ---- the checkpoint
 
 module _ (t : Told) (file : DataFile) (read : Read) (base : Base) (is : IsOfFile t file read base) where
@@ -108,7 +72,7 @@ module _ (t : Told) (file : DataFile) (read : Read) (base : Base) (is : IsOfFile
   }
 
   usable : IsSuper read.found.content
-  usable = (faults read.found.content).0 is.has.super.usable
+  usable = (asked_super read.found.content is.has.super.usable).1
 
   chosen : IsChosen (content_at t.shown) (content_with read.found.content)
   chosen = super_is_written t.shown read.found.content is.image is.has.super
@@ -128,14 +92,14 @@ module _ (t : Told) (file : DataFile) (read : Read) (base : Base) (is : IsOfFile
         shows = ap copy_unit ((members low.0 (omega (arith, low.1, small))).0 tests.1);
         lowest = λ k less at.
             let there = copy_parts (content_at t.shown k) (content_of c) at in
-            let one : there.0 ≡ c = one_content file.layout file.cluster file.named there.0 c (shown_checks t.shown k there.0 is.image there.1) checks fields_are usable there.2 in
+            let one : there.0 ≡ c = one_content there.0 c (shown_checks t.shown k there.0 is.image there.1) checks there.2 in
             let member : get_or read.found.chosen.members k false ≡ true = (members k (omega (arith, less, low.1, small))).1 (there.1 ∙ ap Some one) in
             let not : get_or read.found.chosen.members k false ≡ false = tests.2 k less in
             absurd (let both : true ≡ false = sym member ∙ not in cc);
       })
 
   passes : PassesTests (shape file) (content_of (content_with read.found.content)) × IsReference (layout_of file.layout) (content_of (content_with read.found.content))
-  passes = usable_passes file.layout file.cluster file.named (parse_of (layout_of file.layout)) (content_with read.found.content) fields_are usable
+  passes = first_usable_passes file.layout file.cluster file.named (parse_of (layout_of file.layout)) (content_with read.found.content) fields_are (asked_super read.found.content is.has.super.usable).0 usable
 
   readable : IsReadable (shape file) (unit_at file.layout file.cluster t.shown) (base_of read.found.content is.checkpoint.chain is.checkpoint.parts)
   readable = record {
@@ -152,6 +116,8 @@ file_is_read t file read base is = record {
   clients_are = ap (λ (l : Layout). l.clients) (sym is.layout);
   content_is = refl;
   readable = readable t file read base is;
+  first = (asked_super read.found.content is.has.super.usable).0;
+  alone = λ s p shown own. unbooted_alone file.layout file.cluster t.shown is.image s p shown (own ∙ ((passes t file read base is).0.of.one (asked_super read.found.content is.has.super.usable).0).0);
   lowest_is = lowest t file read base is;
   sessions_are = is.checkpoint.sessions_are ∙ ap sessions_of is.sessions;
 }

@@ -18,66 +18,41 @@ use Rattle.df_theory.specs.Sessions.{sessions_after}
 use Rattle.df_theory.specs.Shape.{Shape}
 use Rattle.df_theory.specs.View.{Checkpoint, View}
 use Rattle.df_units.specs.Meaning.{content_of}
-use Rattle.df_journal.specs.Counts.{CountsAll, CountsRings, RepliesAreOf, RingsWithin}
+use Rattle.df_journal.specs.Counts.{CountsAll, CountsOwn, CountsReplies, CountsRings, RepliesWithin, RingsWithin, in_boot}
 use Rattle.df_journal.specs.declared.table.Start.{Start}
 use Rattle.df_journal.specs.Tail.{FindsTail, StartsAt}
 use Rattle.df_journal.specs.declared.tail.Tail.{Tail}
 use Rattle.df_replies.specs.Answers.{AllAnswered, NamesNone, StoredAreFound, stored_by}
-use Rattle.df_replies.specs.Counts.{NoReplyIsAbove, NoReplyIsLater}
-use Rattle.df_replies.specs.Shown.{AreOfBoot, ShowsReplies}
-use Rattle.df_replies.proofs.Laws.{replies_are_of}
+use Rattle.df_replies.specs.Shown.{ShowsReplies}
 use Rattle.df_recovery.specs.Finding.{FindsView, IsReadFrom, Read, lowest_of}
 use Rattle.df_recovery.specs.Starting.{start_of}
 
 -- ---- the counters
 
-abbrev pub CountsLater : List (Result Header Class) → Counters → Counters → Type 0
-CountsLater replies rings seen = (image : Units.Units) (c : Content) → ShowsReplies image replies → AreOfBoot c.boot replies → (seen.checkpoint ≤ c.sequence) ↔ ((rings.checkpoint ≤ c.sequence) × NoReplyIsLater image c)
-
-abbrev pub CountsAbove : List (Result Header Class) → Counters → Counters → Type 0
-CountsAbove replies rings seen = (image : Units.Units) (c : Content) (head : ℕ) → ShowsReplies image replies → AreOfBoot c.boot replies → (seen.reply_top ≤ head) ↔ ((rings.reply_top ≤ head) × NoReplyIsAbove image c head)
-
--- any content of this sequence and boot
-abbrev content : (sequence boot : ℕ) → Content
-content n boot = record {
-  checksum = 0;
-  version = 1;
-  cluster = 0;
-  layout = record { slots = 0; message_size = 0; clients = 0; block_size = 0; blocks = 0 };
-  sequence = n;
-  boot = boot;
-  op = 0;
-  op_checksum = 0;
-  head = 0;
-  replies = 0;
-  pin = 0;
-  pin_checksum = 0;
-  answered = 0;
-  reply_checksums = [];
-  trailer = 0;
-  trailer_checksum = 0;
-  trailer_size = 0;
-  rest = [];
-}
-
 -- the counters of the rings with those of the replies count both
-pub counts_all : (image : Units.Units) (replies : List (Result Header Class)) (rings seen : Counters) (boot : ℕ) → CountsRings image boot rings → rings.reply_top ≡ 0 → seen.ring_op ≡ rings.ring_op
-    → CountsLater replies rings seen → CountsAbove replies rings seen → ShowsReplies image replies → AreOfBoot boot replies → CountsAll image boot seen
-counts_all image replies rings seen boot counts none ring_op later above shows own = record {
+pub counts_all : (image : Units.Units) (rings seen : Counters) → CountsRings image rings → seen.ring_op ≡ rings.ring_op
+    → ((n : ℕ) → (seen.checkpoint ≤ n) ↔ ((rings.checkpoint ≤ n) × RepliesWithin image (λ h. h.checkpoint) n))
+    → ((n : ℕ) → (seen.boot ≤ n) ↔ ((rings.boot ≤ n) × RepliesWithin image (λ h. h.boot) n))
+    → CountsAll image seen
+counts_all image rings seen counts ring_op checkpoint boot = record {
   ring_op = λ n. subst (λ (x : ℕ). (x ≤ n) ↔ RingsWithin image (λ h. h.op) n) (sym ring_op) (counts.ring_op n);
-  reply_top = λ n. (
-    λ le. let all = ((above image (content n boot) n shows own).0 le).1 in (λ k r at. (all k r at (boots k r at)).0, λ k r at. (all k r at (boots k r at)).1),
-    λ both. (above image (content n boot) n shows own).1 (omega (arith, none), λ k r at of. (both.0 k r at, both.1 k r at)),
-  );
   checkpoint = λ n. (
-    λ le. let all = (later image (content n boot) shows own).0 le in ((counts.checkpoint n).0 all.0, λ k r at. (all.1 k r at).0),
-    λ both. (later image (content n boot) shows own).1 ((counts.checkpoint n).1 both.0, λ k r at. (both.1 k r at, (let same = boots k r at in omega (arith, same)))),
+    λ le. let all = (checkpoint n).0 le in ((counts.checkpoint n).0 all.0, all.1),
+    λ both. (checkpoint n).1 ((counts.checkpoint n).1 both.0, both.1),
   );
-  boots = (counts.boots, boots);
+  boot = λ n. (
+    λ le. let all = (boot n).0 le in ((counts.boot n).0 all.0, all.1),
+    λ both. (boot n).1 ((counts.boot n).1 both.0, both.1),
+  );
 }
-  where
-    boots : RepliesAreOf image boot
-    boots = replies_are_of image replies boot shows own
+
+-- those of the rings count no reply
+pub counts_replies : (boot : ℕ) (image : Units.Units) (rings seen : Counters) → rings.reply_top ≡ 0
+    → ((n : ℕ) → (seen.reply_top ≤ n) ↔ ((rings.reply_top ≤ n) × RepliesWithin image (in_boot boot (λ h. h.op)) n × RepliesWithin image (in_boot boot (λ h. h.mark)) n)) → CountsReplies boot image seen
+counts_replies boot image rings seen none top n = (
+  λ le. let all = (top n).0 le in (all.1, all.2),
+  λ both. (top n).1 (omega (arith, none), both.0, both.1),
+)
 
 -- ---- the steps
 
@@ -86,19 +61,19 @@ module _ (sh : Shape) (image : Units.Units) (b : Checkpoint) (read : Read) (is :
   pub content_same : (fields : SuperFields) → fields ≡ read.found.content → b.content ≡ content_of (content_with fields)
   content_same fields same = is.content_is ∙ ap (λ (f : SuperFields). content_of (content_with f)) (sym same)
 
-  -- it is of the boot that the scan started from
-  pub boot_is : b.content.boot ≡ read.slots.start.boot
-  boot_is = ap (λ (c : Content). c.boot) is.content_is ∙ sym is.tells.version.boot
+  -- it has no boot, and names no prepare above its checkpoint's and no reply
+  of_one : (b.content.boot ≡ 0) × (b.content.pin ≡ b.content.op) × (b.content.pin_checksum ≡ b.content.op_checksum) × (b.content.answered ≡ 0)
+  of_one = is.readable.sound.tests.of.one is.first
 
-  pub boot_low : read.slots.start.boot ≤ b.content.boot
-  boot_low = omega (arith, boot_is)
-
-  -- so are the replies
-  pub replies_of : AreOfBoot b.content.boot read.replies
-  replies_of k h at = sym (ap (λ (c : Content). c.boot) is.content_is)
+  pub boot_is : (fields : SuperFields) → fields ≡ read.found.content → b.content.boot ≡ fields.boot
+  boot_is fields same = ap (λ (c : Content). c.boot) (content_same fields same)
 
   pub names_none : NamesNone b.content
-  names_none = record { answered = ap (λ (c : Content). c.answered) is.content_is }
+  names_none = record { answered = of_one.3 }
+
+  -- the counters of a boot are those of the content's
+  pub counts_own : (fields : SuperFields) (own : Counters) → fields ≡ read.found.content → CountsOwn fields.boot image own → CountsOwn b.content.boot image own
+  counts_own fields own same = subst (λ (boot : ℕ). CountsOwn boot image own) (sym (boot_is fields same))
 
   pub starts : (fields : SuperFields) → read.slots.start ≡ start_of read.found.content → fields ≡ read.found.content → StartsAt sh b read.layout read.slots.start fields.op_checksum read.sessions
   starts fields start same = record {
@@ -106,9 +81,9 @@ module _ (sh : Shape) (image : Units.Units) (b : Checkpoint) (read : Read) (is :
     clients_are = is.clients_are;
     op_is = ap (λ (c : Content). c.op) is.content_is ∙ sym (ap (λ (x : Start). x.op) start);
     checksum_is = ap (λ (c : Content). c.op_checksum) (content_same fields same);
-    boot = boot_is;
-    pin = ap (λ (c : Content). c.pin) is.content_is ∙ sym (ap (λ (x : Start). x.head) start);
-    pin_checksum = ap (λ (c : Content). c.pin_checksum) is.content_is ∙ sym (ap (λ (c : Content). c.op_checksum) is.content_is);
+    boot = of_one.0 ∙ sym is.tells.version.boot;
+    pin = of_one.1 ∙ ap (λ (c : Content). c.op) is.content_is ∙ sym (ap (λ (x : Start). x.head) start);
+    pin_checksum = of_one.2;
     sessions_are = is.sessions_are;
   }
 

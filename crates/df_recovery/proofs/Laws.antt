@@ -1,4 +1,5 @@
 -- What the crates above cite: that an image has one answer, and what was found is the image's in the words of the theory.
+pub use Rattle.df_recovery.proofs.Asked.{asked_none, plain_super}
 pub use Rattle.df_recovery.proofs.OneAnswer.{one_refusal, one_super, super_or_refusal}
 pub use Rattle.df_recovery.proofs.Written.{super_is_written, written_is}
 pub use Rattle.df_recovery.proofs.FilesRead.{file_is_read}

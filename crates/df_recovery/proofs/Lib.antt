@@ -1,3 +1,4 @@
+pub mod Asked
 pub mod OneAnswer
 pub mod Written
 pub mod Places

@@ -5,13 +5,12 @@ use Rattle.df_base.specs.Image.{Image, blank}
 use Rattle.df_layout.specs.declared.damage.Class.{Class}
 use Rattle.df_format.specs.Copies.{Content, content_at, is_blank_copy}
 use Rattle.df_format.proofs.Laws.{same_copy, blank_copy_none}
-use Rattle.df_format.specs.SuperRules.{fault_of}
 use Rattle.df_format.specs.declared.superblock.SuperFault.{SuperFault}
 use Rattle.df_format.specs.declared.superblock.SuperFault.TheVariants.{Version as OtherVersion, BadField as BrokenField}
 use Rattle.df_format.specs.declared.superblock.SuperFields.{SuperFields}
 use Rattle.df_quorum.specs.Quorum.{Agree, IsChosen}
 use Rattle.df_quorum.proofs.Laws.{one_law}
-use Rattle.df_recovery.specs.Opening.{IsUnformatted, HasFault, HasSuper}
+use Rattle.df_recovery.specs.Opening.{IsUnformatted, HasFault, HasSuper, fault_asked}
 use Rattle.df_recovery.specs.OpeningLaws.{SuperOrRefusal, OneSuper, OneRefusal}
 use Rattle.df_model.specs.declared.errors.OpenError.TheVariants.{NotFormatted, NoQuorum, Version, BadField, LayoutDiffers, Damaged, DiskFault}
 
@@ -22,15 +21,15 @@ one_content image c d one two = one_law (content_at image) c d one two
 one_fault : (image : Image) (x y : SuperFault) → HasFault image x → HasFault image y → x ≡ y
 one_fault image x y one two =
     let same : one.content ≡ two.content = one_content image one.content two.content one.chosen two.chosen in
-    let fault : fault_of two.content.fields ≡ Some x = subst (λ (c : Content). fault_of c.fields ≡ Some x) same one.broken in
-    let other : fault_of two.content.fields ≡ Some y = two.broken in
+    let fault : fault_asked two.content.fields ≡ Some x = subst (λ (c : Content). fault_asked c.fields ≡ Some x) same one.broken in
+    let other : fault_asked two.content.fields ≡ Some y = two.broken in
     cc
 
 no_fault : (image : Image) (f : SuperFields) (x : SuperFault) → HasSuper image f → HasFault image x → ⊥
 no_fault image f x found faulty =
     let same : faulty.content ≡ found.content = one_content image faulty.content found.content faulty.chosen found.chosen in
-    let fault : fault_of found.content.fields ≡ Some x = subst (λ (c : Content). fault_of c.fields ≡ Some x) same faulty.broken in
-    let none : fault_of found.content.fields ≡ None = ap fault_of found.fields ∙ found.usable in
+    let fault : fault_asked found.content.fields ≡ Some x = subst (λ (c : Content). fault_asked c.fields ≡ Some x) same faulty.broken in
+    let none : fault_asked found.content.fields ≡ None = ap fault_asked found.fields ∙ found.usable in
     cc
 
 pub one_super : OneSuper

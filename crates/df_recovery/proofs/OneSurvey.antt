@@ -7,7 +7,7 @@ use Rattle.df_layout.specs.declared.damage.Class.{Class}
 use Rattle.df_layout.specs.declared.fields.Field.{Field}
 use Rattle.df_layout.specs.declared.layout.Layout.{Layout}
 use Rattle.df_layout.specs.declared.places.Place.{Place}
-use Rattle.df_format.proofs.Laws.{faults}
+use Rattle.df_recovery.proofs.Asked.{asked_super}
 use Rattle.df_format.specs.SuperRules.{IsSuper}
 use Rattle.df_format.specs.declared.superblock.SuperFields.{SuperFields}
 use Rattle.df_theory.specs.Units
@@ -44,7 +44,7 @@ module _ (layout : Layout) (image : Image) where
   one_field : (field other : Field) (value number : ℕ) → FailsTrailer layout image field value → FailsTrailer layout image other number → (field ≡ other) × (value ≡ number)
   one_field field other value number one two =
       let same = one_file one.file two.file one.fields two.fields one.has two.has one.of two.of in
-      let usable : IsSuper one.fields = (faults one.fields).0 one.has.super.usable in
+      let usable : IsSuper one.fields = (asked_super one.fields one.has.super.usable).1 in
       let of_file : FailsTest (shape one.file) (shown_of layout one.file.cluster image) (content_in two.fields) other number =
       subst (λ (x : DataFile). FailsTest (shape x) (shown_of layout x.cluster image) (content_in two.fields) other number) (sym same.0) two.fails in
       one_test (shape one.file) (shown_of layout one.file.cluster image) (content_in one.fields) field other value number refl usable.op one.fails

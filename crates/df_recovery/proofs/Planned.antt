@@ -12,7 +12,7 @@ use Rattle.df_cases.specs.declared.cases.Decision.TheVariants.{Behind, Empty, Lo
 use Rattle.df_theory.specs.Units
 use Rattle.df_theory.specs.Units.{AnyUnit, HeaderPlace, HeaderUnit, Message, PreparePlace, PrepareUnit}
 use Rattle.df_theory.specs.Cases
-use Rattle.df_theory.specs.Cases.{IsNow, SaysOfSlot, decision}
+use Rattle.df_theory.specs.Cases.{SaysOfSlot, decision}
 use Rattle.df_theory.specs.MendLaws.{IsFromSlot, IsSlotHeader, IsTable}
 use Rattle.df_theory.specs.Shape.{Shape, clients, slots}
 use Rattle.df_theory.specs.Tails.{Chain, In}
@@ -40,18 +40,6 @@ seen_prepare cluster slot x (Ok g) p (q, shown, same) is =
     let one : q ≡ p = cc in
     sym same ∙ ap (λ (m : Message). m.header) one
 seen_prepare cluster slot x (Err class) p shows is = let both : None ≡ Some (PrepareUnit p) = sym shows ∙ is in absurd (cc)
-
--- a header that is shown was made by no boot
-shown_boot : (x : Option AnyUnit) (r : Result Header Class) (h : Units.Header) → ShowsHeader x r → x ≡ Some (HeaderUnit h) → h.boot ≡ 0
-shown_boot x (Ok g) h shows is = let both : Some (HeaderUnit (header_of g)) ≡ Some (HeaderUnit h) = sym shows ∙ is in let one : header_of g ≡ h = cc in ap (λ (k : Units.Header). k.boot) (sym one)
-shown_boot x (Err class) h shows is = let both : None ≡ Some (HeaderUnit h) = sym shows ∙ is in absurd (cc)
-
-prepare_boot : (x : Option AnyUnit) (r : Result Header Class) (p : Message) → ShowsPrepare x r → x ≡ Some (PrepareUnit p) → p.header.boot ≡ 0
-prepare_boot x (Ok g) p (q, shown, same) is =
-    let both : Some (PrepareUnit q) ≡ Some (PrepareUnit p) = sym shown ∙ is in
-    let one : q ≡ p = cc in
-    ap (λ (m : Message). m.header.boot) (sym one) ∙ ap (λ (k : Units.Header). k.boot) same
-prepare_boot x (Err class) p shows is = let both : None ≡ Some (PrepareUnit p) = sym shows ∙ is in absurd (cc)
 
 -- a header that is shown, or a reserved one
 shown_from : (sh : Shape) (image : Units.Units) (v : View) (cluster slot : ℕ) (r : Result Header Class) → ShowsHeader (image (HeaderPlace slot)) r → IsFromSlot sh image v slot (header_of (header_or_reserved cluster slot (header_of_seen r)))
@@ -81,16 +69,18 @@ module _ (layout : Layout) (sh : Shape) (image : Units.Units) (v : View) (scan :
         slot_is = ap (λ (n : ℕ). q.header.op % n) (sym is.slots_are) ∙ sym here;
       }) of
 
-  -- nothing of an op above the head is shown
-  module _ (slot o : ℕ) (below : slot < layout.slots) (high : head v < o) where
+  -- nothing of an op above the head is shown; what is shown was made by no boot, since none is later than the superblock's
+  module _ (slot o : ℕ) (high : head v < o) where
     no_header : (h : Units.Header) → image (HeaderPlace slot) ≡ Some (HeaderUnit h) → o ≤ h.op → ⊥
     no_header h shown le =
-        let le_head = is.found.not_lost.header slot h shown (shown_boot (image (HeaderPlace slot)) (entry scan slot).header h (shows slot below).header shown ∙ sym none) in
+        let behind = is.found.not_behind.header slot h shown in
+        let le_head = is.found.not_lost.header slot h shown (omega (arith, behind.2, none)) in
         absurd (omega (arith, le_head, le, high))
 
     no_prepare : (q : Message) → image (PreparePlace slot) ≡ Some (PrepareUnit q) → o ≤ q.header.op → ⊥
     no_prepare q shown le =
-        let no_boot = prepare_boot (image (PreparePlace slot)) (entry scan slot).prepare q (shows slot below).prepare shown in
+        let behind = is.found.not_behind.prepare slot q shown in
+        let no_boot : q.header.boot ≡ 0 = omega (arith, behind.2, none) in
         elim (is.found.not_lost.prepare slot q shown (no_boot ∙ sym none)) [
           | inl le_head ↦ omega (arith, le_head, le, high)
           | inr cut ↦ omega (arith, cut.boot, no_boot)
@@ -122,7 +112,7 @@ module _ (layout : Layout) (sh : Shape) (image : Units.Units) (v : View) (scan :
   take_header slot cluster q (Empty mend) below shown take = absurd take
 
   empty_from : (slot o cluster : ℕ) (d : Decision) → slot < layout.slots → head v < o → SaysOfSlot scan.start.boot o (image (HeaderPlace slot)) (image (PreparePlace slot)) (decision_of d) → IsFromSlot sh image v slot (header_of (header_by cluster slot (entry scan slot) d))
-  empty_from slot o cluster (Take mend) below high said = absurd (no_prepare slot o below high said.0 said.1 (omega (arith, said.2.0)))
+  empty_from slot o cluster (Take mend) below high said = absurd (no_prepare slot o high said.0 said.1 (omega (arith, said.2.0)))
   empty_from slot o cluster (Empty false) below high said = shown_from sh image v cluster slot (entry scan slot).header (shows slot below).header
   empty_from slot o cluster (Empty true) below high said = inr (inr (record { op = refl; checkpoint = refl; boot = refl }))
   empty_from slot o cluster Behind below high said = inr (inr (record { op = refl; checkpoint = refl; boot = refl }))
@@ -180,17 +170,17 @@ module _ (layout : Layout) (sh : Shape) (image : Units.Units) (v : View) (scan :
 
   other_empty : (slot o cluster : ℕ) (d : Decision) → slot < layout.slots → head v < o → is_mended (decision_of d) ≡ false → SaysOfSlot scan.start.boot o (image (HeaderPlace slot)) (image (PreparePlace slot)) (decision_of d)
       → image (HeaderPlace slot) ≡ Some (HeaderUnit (header_of (header_by cluster slot (entry scan slot) d)))
-  other_empty slot o cluster (Take mend) below high unlisted said = absurd (no_prepare slot o below high said.0 said.1 (omega (arith, said.2.0)))
+  other_empty slot o cluster (Take mend) below high unlisted said = absurd (no_prepare slot o high said.0 said.1 (omega (arith, said.2.0)))
   other_empty slot o cluster (Empty false) below high unlisted said = elim said.2 [
     | inl both ↦ both.1.1 ∙ ap (λ (k : Units.Header). Some (HeaderUnit k)) (sym (seen_header cluster slot (image (HeaderPlace slot)) (entry scan slot).header both.1.0 (shows slot below).header both.1.1))
     | inr mends ↦ absurd (let no = mends.0 in cc)
   ]
   other_empty slot o cluster (Empty true) below high unlisted said = absurd (cc)
   other_empty slot o cluster Behind below high unlisted said = elim said [
-    | inl header ↦ absurd (no_header slot o below high header.0 header.1 (omega (arith, header.2)))
-    | inr prepare ↦ absurd (no_prepare slot o below high prepare.0 prepare.1 (omega (arith, prepare.2)))
+    | inl header ↦ absurd (no_header slot o high header.0 header.1 (omega (arith, header.2)))
+    | inr prepare ↦ absurd (no_prepare slot o high prepare.0 prepare.1 (omega (arith, prepare.2)))
   ]
-  other_empty slot o cluster Lost below high unlisted said = absurd (no_header slot o below high said.0 said.1 (omega (arith, said.2.0)))
+  other_empty slot o cluster Lost below high unlisted said = absurd (no_header slot o high said.0 said.1 (omega (arith, said.2.0)))
 
   pub plan_whole : (cluster : ℕ) (table : List Header) → ArePlanned cluster scan layout.slots table → AreDistinct image → OthersAreShown layout scan.start image (headers_in table)
   plan_whole cluster table planned distinct slot below unlisted =

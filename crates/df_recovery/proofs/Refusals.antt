@@ -9,7 +9,7 @@ use Rattle.df_layout.specs.declared.layout.Layout.{Layout}
 use Rattle.df_format.specs.Copies.{content_at, content_with}
 use Rattle.df_format.specs.SuperRules.{IsSuper}
 use Rattle.df_format.specs.declared.superblock.SuperFields.{SuperFields}
-use Rattle.df_format.proofs.Laws.{faults}
+use Rattle.df_recovery.proofs.Asked.{asked_super}
 use Rattle.df_quorum.specs.Quorum.{IsChosen}
 use Rattle.df_theory.specs.Units
 use Rattle.df_theory.specs.Units.{AnyUnit, BlockPlace, BlockUnit, CopyUnit, HeaderUnit, PrepareUnit, ReplyUnit}
@@ -22,7 +22,7 @@ use Rattle.df_units.specs.Bytes.{unit_at}
 use Rattle.df_units.specs.Meaning.{layout_of}
 use Rattle.df_units.specs.Superblocks.{AreFieldsOf}
 use Rattle.df_units.specs.Wanted.{class_at}
-use Rattle.df_units.proofs.Laws.{choice_chosen, classes_told, usable_passes}
+use Rattle.df_units.proofs.Laws.{choice_chosen, classes_told, first_usable_passes}
 use Rattle.df_trailer.specs.Text.{parse_of}
 use Rattle.df_grid.specs.Reads.{shown_of, trailer_alone}
 use Rattle.df_checkpoint.specs.Chain.{asked, content_in}
@@ -72,7 +72,7 @@ class_asked layout cluster image a k class is = by_unit (unit_at layout cluster 
 
 module _ (file : DataFile) (image : Image) (f : SuperFields) (has : HasFile image file f) (whole : IsImage image) where
   usable : IsSuper f
-  usable = (faults f).0 has.super.usable
+  usable = (asked_super f has.super.usable).1
 
   fields_are : AreFieldsOf file.layout file.cluster f
   fields_are = record {
@@ -89,7 +89,7 @@ module _ (file : DataFile) (image : Image) (f : SuperFields) (has : HasFile imag
 
   is_usable : IsUsable (shape file) (unit_at file.layout file.cluster image) (content_in f)
   is_usable =
-      let passes = usable_passes file.layout file.cluster file.named (parse_of (layout_of file.layout)) (content_with f) fields_are usable in
+      let passes = first_usable_passes file.layout file.cluster file.named (parse_of (layout_of file.layout)) (content_with f) fields_are (asked_super f has.super.usable).0 usable in
       record { chosen = choice_chosen file.layout file.cluster image (content_with f) whole chosen; tests = passes.0; reference = passes.1 }
 
   abbrev Unread : Type 0

@@ -8,7 +8,8 @@ use Rattle.df_format.specs.Copies.{Content, copy_in, if_here, copy_at, content_o
 use Rattle.df_format.specs.CopyLaws.{IsWritten}
 use Rattle.df_format.specs.declared.superblock.SuperCopy.{SuperCopy}
 use Rattle.df_format.specs.declared.superblock.SuperFields.{SuperFields}
-use Rattle.df_format.proofs.Laws.{was_written, faults}
+use Rattle.df_format.proofs.Laws.{was_written}
+use Rattle.df_recovery.proofs.Asked.{asked_super}
 use Rattle.df_quorum.specs.Quorum.{IsChosen}
 use Rattle.df_recovery.specs.Opening.{HasSuper}
 use Rattle.df_recovery.specs.OpeningLaws.{SuperIsWritten}
@@ -45,7 +46,7 @@ content_is image n c sector none is =
 -- the content that is chosen is the one that its fields are written with
 pub written_is : (image : Image) (f : SuperFields) → IsImage image → (found : HasSuper image f) → found.content ≡ content_with f
 written_is image f whole found =
-    let rules : IsSuper f = (faults f).0 found.usable in
+    let rules : IsSuper f = (asked_super f found.usable).1 in
     let none : found.content.fields.first_nonzero ≡ None = ap (λ (g : SuperFields). g.first_nonzero) found.fields ∙ rules.zero in
     let same : found.content ≡ content_with found.content.fields = content_is image found.chosen.agreed.second found.content (whole.sectors found.chosen.agreed.second) none found.chosen.agreed.at_second in
     same ∙ ap content_with found.fields

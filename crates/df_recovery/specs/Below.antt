@@ -8,7 +8,7 @@ pub use Rattle.df_model.specs.Faults.{is_open_fault}
 pub use Rattle.df_replies.specs.Shown.{ShowsReplies}
 pub use Rattle.df_superblock.specs.Calls.{ShowsCopies, ShowsSlots}
 pub use Rattle.df_journal.specs.Below.{HasCause, IsCheck, Layout, Session, Shape, Told, Units, decision_of, sessions_of}
-pub use Rattle.df_journal.specs.Counts.{CountsAll}
+pub use Rattle.df_journal.specs.Counts.{CountsAll, CountsOwn, CountsReplies}
 pub use Rattle.df_journal.specs.Scan.{IsOfVersionOne, entry}
 pub use Rattle.df_journal.specs.Seen.{class_of, header_of_seen}
 pub use Rattle.df_journal.specs.Shows.{ShowsTable, Tells}

@@ -23,6 +23,7 @@ use Rattle.df_model.specs.declared.errors.OpenError.{OpenError}
 use Rattle.df_model.specs.declared.errors.OpenError.TheVariants.{Damaged}
 use Rattle.df_units.specs.Bytes.{unit_at}
 use Rattle.df_units.specs.Meaning.{content_of, header_of, layout_of, number_of, place_of}
+use Rattle.df_journal.specs.Counts.{OwnAreAlone}
 use Rattle.df_journal.specs.Scan.{Scan}
 use Rattle.df_journal.specs.Scanned as rings
 use Rattle.df_journal.specs.Shows.{Tells}
@@ -70,7 +71,7 @@ pub record Read : Type 0 where
 abbrev pub read_of : Scanned → Read
 read_of s = record { layout = s.file.layout; found = s.copies.found; slots = s.log.slots; replies = s.log.replies; sessions = s.sessions.sessions }
 
--- it was read from an image with this checkpoint: the superblock names it and can be used
+-- it was read from an image with this checkpoint: the superblock names it, is of version 1 and can be used
 pub record IsReadFrom (sh : Shape) (image : Units.Units) (b : Checkpoint) (read : Read) : Type 0 where
   pub tells : Tells read.layout image read.slots
   pub shows : ShowsReplies image read.replies
@@ -78,6 +79,8 @@ pub record IsReadFrom (sh : Shape) (image : Units.Units) (b : Checkpoint) (read 
   pub clients_are : clients sh ≡ read.layout.clients
   pub content_is : b.content ≡ content_of (content_with read.found.content)
   pub readable : IsReadable sh image b
+  pub first : b.content.version ≡ 1
+  pub alone : OwnAreAlone image b.content.boot
   pub lowest_is : IsLowest image b.content (lowest_of read.found.chosen.members)
   pub sessions_are : b.parts.sessions ≡ sessions_of read.sessions
 

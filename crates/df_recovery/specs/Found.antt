@@ -6,13 +6,12 @@ use Rattle.df_disk.specs.Told.{Told, after}
 use Rattle.df_disk.specs.Adds.{AddsPart}
 use Rattle.df_layout.specs.declared.layout.Layout.{Layout}
 use Rattle.df_format.specs.Copies.{Content, content_at}
-use Rattle.df_format.specs.SuperRules.{fault_of}
 use Rattle.df_format.specs.declared.superblock.SuperFault.{SuperFault}
 use Rattle.df_format.specs.declared.superblock.SuperFault.TheVariants.{Version as OtherVersion, BadField as BrokenField}
 use Rattle.df_format.specs.declared.superblock.SuperFields.{SuperFields}
 use Rattle.df_quorum.specs.Quorum.{IsChosen, AreMembers}
 use Rattle.df_quorum.specs.declared.choice.Chosen.{Chosen}
-use Rattle.df_recovery.specs.Opening.{HasSuper, IsLayoutOf, Refuses}
+use Rattle.df_recovery.specs.Opening.{HasSuper, IsLayoutOf, Refuses, fault_asked}
 use Rattle.df_model.specs.declared.errors.OpenError.{OpenError}
 use Rattle.df_model.specs.declared.errors.OpenError.TheVariants.{NotFormatted, NoQuorum, Version, BadField, LayoutDiffers, Damaged, DiskFault}
 use Rattle.df_recovery.specs.declared.superblock.Found.{Found}
@@ -71,7 +70,7 @@ fault_error (OtherVersion found) = Version found
 fault_error (BrokenField field value) = BadField field value
 
 abbrev pub HasFaultOf : SuperFields → OpenError → Type 0
-HasFaultOf f e = (fault : SuperFault) × (fault_of f ≡ Some fault) × (e ≡ fault_error fault)
+HasFaultOf f e = (fault : SuperFault) × (fault_asked f ≡ Some fault) × (e ≡ fault_error fault)
 
 -- a refusal by what the copies say, and nothing else
 abbrev pub IsRefusal : OpenError → Type 0

@@ -69,6 +69,8 @@ without_rooms (Err refused) = Err refused.1
 pub record AreCopies (told : Option Told) (copies : Copies) : Type 0 where
   -- the choice has these fields
   pub same_fields : copies.found.content ≡ copies.found.chosen.content
+  -- they are of version 1, whatever the disk tells
+  pub version : copies.found.content.version ≡ 1
   -- each slot is what its place shows
   pub slots : ShowsSlots told copies.slots
   -- a sound copy has the content that its place shows
@@ -97,10 +99,11 @@ pub record AreRoomsOf (file : DataFile) (grid : GridRooms) (trailer : TrailerRoo
   pub grid_is : grid.layout ≡ file.layout
   pub trailer_is : trailer.layout ≡ file.layout
 
--- so do the rooms that a checkpoint was read into, and no other one runs
+-- so do the rooms that a checkpoint was read into; no other one runs, and no boot is set
 pub record FitsFile (file : DataFile) (grid : GridState) (trailer : TrailerRooms) : Type 0 where
   pub layout_is : grid.layout ≡ file.layout
   pub cluster_is : grid.cluster ≡ file.cluster
+  pub boot_is : grid.boot ≡ 0
   pub trailer_is : trailer.layout ≡ file.layout
   pub idle : IsIdle grid.blocks
 

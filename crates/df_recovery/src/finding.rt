@@ -1,13 +1,15 @@
 // What an open finds behind a superblock, from what a scan saw of the slots and of the replies: the state, or the first
 // damage in the order of open.
 ghost use Rattle.std.specs.Prelude.{◌≡◌, ◌≤◌, ◌<◌, ◌+◌, ◌^◌, length, position, IfOk, IfErr};
-ghost use Rattle.df_recovery.specs.Below.{IsCheck, sessions_of, Tracks, CopyPlace, PreparePlace, ReplyPlace, Units, CountsAll, IsOfVersionOne, entry, class_of, AreNumbered, AreUnstored, ShowsTable, ShowsReplies, AreAsked};
+ghost use Rattle.df_recovery.specs.Below.{IsCheck, sessions_of, Tracks, CopyPlace, PreparePlace, ReplyPlace, Units, CountsAll, CountsOwn, CountsReplies, entry, class_of, AreNumbered, AreUnstored, ShowsTable, ShowsReplies, AreAsked};
 ghost use Rattle.df_journal.specs.Shows.{IsTable};
 ghost use Rattle.df_recovery.specs.Finding.{Answers, FileIsRead, IsDamage, KeptIsAnswer, RefusedIsAnswer, StateIsOpened, damage, lowest_of};
 ghost use Rattle.df_recovery.specs.Starting.{start_of};
 
 use crate::{Found, OpenError};
-use df_journal::{SlotTable, Tail, count_rings, find_tail, is_behind, is_lost, slot_behind};
+use df_journal::{
+    SlotTable, Tail, count_rings, find_tail, is_behind, is_lost, ring_top, slot_behind,
+};
 use df_layout::{Class, Layout, Place, Zone};
 use df_replies::{Lacking, ReplyTable};
 use df_sessions::SessionTable;
@@ -72,11 +74,24 @@ fn reply_damage(lacking: &Lacking) -> OpenError
     damage(Zone::ClientReplies, lacking.place, lacking.class)
 }
 
-// The counters of all units, in the rings and in the reply slots, of a file of version 1.
-fn count_all(slots: &SlotTable, replies: &ReplyTable) -> Counters
-    ensures { (image : Units) → IsOfVersionOne slots.now.start → ShowsTable image slots.now.slots → ShowsReplies image replies.now → CountsAll image slots.now.start.boot result }
+// The counters of all units, in the rings and in the reply slots; the ops and marks are those of the replies of this boot.
+fn count_all(slots: &SlotTable, replies: &ReplyTable, boot: u64) -> Counters
+    ensures all { (image : Units) → ShowsTable image slots.now.slots → ShowsReplies image replies.now → CountsAll image result }
+    ensures own { (image : Units) → ShowsTable image slots.now.slots → ShowsReplies image replies.now → CountsReplies boot image result }
 {
-    replies.count(&count_rings(slots))
+    replies.count(&count_rings(slots), boot)
+}
+
+// The same counters, but for the ops of other boots in the rings.
+fn own_of(seen: &Counters, slots: &SlotTable, boot: u64) -> Counters
+    ensures { (image : Units) → ShowsTable image slots.now.slots → CountsReplies boot image seen.now → CountsOwn boot image result }
+{
+    Counters {
+        ring_op: ring_top(slots, boot),
+        reply_top: seen.reply_top,
+        checkpoint: seen.checkpoint,
+        boot: seen.boot,
+    }
 }
 
 /// The state behind the checkpoint of a superblock, which the table of slots and the replies show; the sessions, at first
@@ -90,6 +105,7 @@ pub fn find_state(
     sessions: &mut SessionTable,
 ) -> Result<Traces, OpenError>
     requires table { IsTable layout.now slots.now.start.cluster slots.now.slots }
+    requires version { found.now.content.version ≡ 1 }
     requires start { slots.now.start ≡ start_of found.now.content }
     requires replies { length replies.now ≡ layout.now.clients }
     requires places { sessions.old.max ≡ layout.now.clients }
@@ -108,17 +124,24 @@ pub fn find_state(
     ensures numbered { AreNumbered sessions.old.sessions → AreNumbered sessions.new.sessions }
     ensures places { sessions.new.max ≡ sessions.old.max }
 {
-    let seen = count_all(slots, replies);
     let content = found.content.fields();
-    if is_behind(&seen, content.sequence, content.op, layout.slots) {
+    let seen = count_all(slots, replies, content.boot);
+    if is_behind(
+        &seen,
+        content.sequence,
+        content.op,
+        layout.slots,
+        content.boot,
+    ) {
         return Err(behind_damage(found));
     }
     let tail = find_tail(layout, slots, &content.op_checksum, sessions);
-    if is_lost(&seen, content.head, tail.op) {
+    let own = own_of(&seen, slots, content.boot);
+    if is_lost(&own, content.head, tail.op) {
         return Err(lost_damage(slots, slot_behind(layout, &tail)));
     }
-    let stored = replies.replies(content.replies, tail.mark);
-    match replies.first_lacking(sessions, stored) {
+    let stored = replies.replies(content.replies, tail.mark, content.boot);
+    match replies.first_lacking(sessions, stored, content.boot) {
         Some(lacking) => Err(reply_damage(&lacking)),
         None => Ok(Traces {
             tail,

@@ -11,7 +11,7 @@ use df_layout::Layout;
 use df_superblock::read_all;
 
 /// The superblock that a file shows, or the first reason why the file can't be opened: all four sectors of zeros, no two
-/// copies that agree, a version that isn't known, a field out of its range. It reads the four sectors, and writes nothing.
+/// copies that agree, another version than 1 (before any field), a field out of its range. It reads the four sectors, and writes nothing.
 pub fn read_superblock<D: Disk>(disk: &mut D, room: &mut ProbeRoom) -> Result<Found, OpenError>
     ensures same_fields { IfOk result (λ found. found.content ≡ found.chosen.content) }
     ensures answer { TellsFound (D.told disk.old) result }

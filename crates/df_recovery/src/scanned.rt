@@ -23,6 +23,7 @@ pub struct Scanned {
     pub ghost log_fits: { log.layout ≡ file.layout },
     pub ghost grid_fits: { grid.layout ≡ file.layout },
     pub ghost grid_named: { grid.cluster ≡ file.cluster },
+    pub ghost grid_unbooted: { grid.boot ≡ 0 },
     pub ghost trailer_fits: { trailer.layout ≡ file.layout },
     pub ghost scrub_fits: { scrub.layout ≡ file.layout },
 }

@@ -82,12 +82,16 @@ module _ (s : State) (client request : ℕ) (body : List ℕ) (given : Given) (i
   abbrev command : Command
   command = Append client request body
 
+  -- the prepare that the machine makes has the superblock's boot, which is none
+  unbooted : prepare_of (memory s) (number_of u.header.checksum) client request body ≡ message_of u
+  unbooted = ap (λ (boot : ℕ). record { header = record (message_of u).header { boot = boot }; body = body }) is.plain.boot
+
   module _ (w : Work) (rep : Represents s w) where
     pub test_is : (o : Option AppendError) → first_refusal (append_refusals (memory s) client request body) ≡ o → first_refusal (append_refusals (memory_of (shape s.file) (spelling s.file) w) client request body) ≡ o
     test_is o there = ap (λ (x : Memory). first_refusal (append_refusals x client request body)) (sym rep) ∙ there
 
     pub prepare_is : prepare_of (memory_of (shape s.file) (spelling s.file) w) (supplied_sum given) client request body ≡ message_of u
-    prepare_is i = prepare_of (sym rep i) (supplied_sum (sum i)) client request body
+    prepare_is = (λ i. prepare_of (sym rep i) (supplied_sum (sum i)) client request body) ∙ unbooted
 
   -- what is refused does nothing
   pub refused_does : (e : AppendError) → first_refusal (append_refusals (memory s) client request body) ≡ Some e → AreCalls given command s []
@@ -135,7 +139,7 @@ module _ (s : State) (client request : ℕ) (body : List ℕ) (given : Given) (i
     put_is place =
         let m = memory s in
         let p : theory.Message = prepare_of m (supplied_sum given) client request body in
-        let same : p ≡ message_of u = λ i. prepare_of m (supplied_sum (sum i)) client request body in
+        let same : p ≡ message_of u = (λ i. prepare_of m (supplied_sum (sum i)) client request body) ∙ unbooted in
         ap (λ (x : theory.Message). put_one (PreparePlace u.header.slot) (PrepareUnit x) place) (sym same)
         ∙ ap (λ (o : Option AppendError). unless o (put_one (PreparePlace ((m.head + 1) % m.layout.slots)) (PrepareUnit p)) place) (sym none)
 

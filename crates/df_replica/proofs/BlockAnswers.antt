@@ -42,7 +42,7 @@ use Rattle.df_model.specs.Supply.{puts_of, unless}
 use Rattle.df_model.specs.Work.{Work}
 use Rattle.df_model.proofs.Laws.{change_law}
 use Rattle.df_model.specs.declared.errors.BlockError.{BlockError}
-use Rattle.df_opening.specs.Below.{Represents, State, memory, shape, spelling}
+use Rattle.df_opening.specs.Below.{IsState, Represents, State, memory, shape, spelling}
 use Rattle.df_replica.specs.Answering.{Serves, answer_of, as_write_block}
 use Rattle.df_replica.specs.Blocks.{block_events, block_given, next_block, reference_of, written}
 use Rattle.df_replica.specs.Serving.{Grade, IsCall, IsKept, format, next}
@@ -52,7 +52,7 @@ use Rattle.df_replica.proofs.Leaves.{Makes, makes_nothing}
 use Rattle.df_replica.proofs.BlockStates.{blocks_memory}
 use Rattle.df_replica.proofs.Unblamed.{block_unblamed, refused_answer}
 
-module _ (s : State) (kind : ℕ) (body : List ℕ) (given : Given) (live : s.live ≡ true) (sum : given ≡ ForWriteBlock (number_of (next_block s kind body).header.checksum ∷ [])) where
+module _ (s : State) (kind : ℕ) (body : List ℕ) (given : Given) (is : IsState s) (live : s.live ≡ true) (sum : given ≡ ForWriteBlock (number_of (next_block s kind body).header.checksum ∷ [])) where
   abbrev u : Message
   u = next_block s kind body
 
@@ -81,13 +81,13 @@ module _ (s : State) (kind : ℕ) (body : List ℕ) (given : Given) (live : s.li
         record {
           steps = [];
           are = tt;
-          does = subst (λ (o : Option BlockError). UnlessRefused o [] (DoesBlock w.view (next_address m) (block_of (supplied_sum given) kind body) [])) (sym (test_is w k.stands (Some e) some)) refl;
+          does = subst (λ (o : Option BlockError). UnlessRefused o [] (DoesBlock w.view (next_address m) (block_of m.content.boot (supplied_sum given) kind body) [])) (sym (test_is w k.stands (Some e) some)) refl;
         }
 
     refused_puts : Makes given command s []
     refused_puts =
         let m = memory s in
-        makes_nothing given command s (λ place. ap (λ (o : Option BlockError). unless o (put_one (BlockPlace (next_address m)) (BlockUnit (block_of (supplied_sum given) kind body))) place) some) (λ no. no)
+        makes_nothing given command s (λ place. ap (λ (o : Option BlockError). unless o (put_one (BlockPlace (next_address m)) (BlockUnit (block_of m.content.boot (supplied_sum given) kind body))) place) some) (λ no. no)
 
     refused_as : Answered given command s s [] (ToWriteBlock (Err e))
     refused_as = record {
@@ -107,17 +107,22 @@ module _ (s : State) (kind : ℕ) (body : List ℕ) (given : Given) (live : s.li
     wrote : AreSteps (format_of s.file.layout s.file.cluster) (block_events s u) (block_steps u)
     wrote = (block_put s.file.layout s.file.cluster u.header.op u (sectors_of u) (made_brings s.file.layout s.file.cluster (place_in Grid u.header.op) u (λ same. cc) own), tt)
 
+    -- the block that the machine makes has the superblock's boot, which is none
+    block_is : block_of (memory s).content.boot (supplied_sum given) kind body ≡ meaning.block_of u
+    block_is =
+        ap (λ (boot : ℕ). block_of boot (supplied_sum given) kind body) is.plain.boot
+        ∙ ap (λ (g : Given). block_of 0 (supplied_sum g) kind body) sum
+        ∙ ap (λ (n : ℕ). record (block_of 0 (number_of u.header.checksum) kind body) { before_checksum = n }) (sym no_number)
+
     module _ (w : Work) (rep : Represents s w) where
+      block_there : block_of (memory_of (shape s.file) (spelling s.file) w).content.boot (supplied_sum given) kind body ≡ meaning.block_of u
+      block_there = ap (λ (x : Memory). block_of x.content.boot (supplied_sum given) kind body) (sym rep) ∙ block_is
+
       address_is : next_address (memory_of (shape s.file) (spelling s.file) w) ≡ u.header.op
       address_is = ap next_address (sym rep)
 
       none_there : first_refusal (block_refusals (memory_of (shape s.file) (spelling s.file) w) kind body) ≡ None
       none_there = test_is w rep None none
-
-    block_is : block_of (supplied_sum given) kind body ≡ meaning.block_of u
-    block_is =
-        ap (λ (g : Given). block_of (supplied_sum g) kind body) sum
-        ∙ ap (λ (n : ℕ). record (block_of (number_of u.header.checksum) kind body) { before_checksum = n }) (sym no_number)
 
     does_block : (g : Grade) (w : Work) (t : Told) → IsKept g s w t.log → DoesOnDisk (format s.file) (shape s.file) (spelling s.file) t.log w given command (block_events s u)
     does_block g w t k =
@@ -128,8 +133,8 @@ module _ (s : State) (kind : ℕ) (body : List ℕ) (given : Given) (live : s.li
           steps = steps;
           are = wrote;
           does =
-              subst (λ (o : Option BlockError). UnlessRefused o steps (DoesBlock w.view (next_address m) (block_of (supplied_sum given) kind body) steps)) (sym (none_there w k.stands))
-              (subst (λ (b : theory.Block). DoesBlock w.view (next_address m) b steps) (sym block_is)
+              subst (λ (o : Option BlockError). UnlessRefused o steps (DoesBlock w.view (next_address m) (block_of m.content.boot (supplied_sum given) kind body) steps)) (sym (none_there w k.stands))
+              (subst (λ (b : theory.Block). DoesBlock w.view (next_address m) b steps) (sym (block_there w k.stands))
               (subst (λ (a : ℕ). DoesBlock w.view a (meaning.block_of u) steps) (sym (address_is w k.stands)) does));
         }
 
@@ -137,7 +142,7 @@ module _ (s : State) (kind : ℕ) (body : List ℕ) (given : Given) (live : s.li
     put_is : (place : Place) → put_one (BlockPlace u.header.op) (BlockUnit (meaning.block_of u)) place ≡ puts_of (memory s) (supplied_sum given) command place
     put_is place =
         let m = memory s in
-        let b : theory.Block = block_of (supplied_sum given) kind body in
+        let b : theory.Block = block_of m.content.boot (supplied_sum given) kind body in
         ap (λ (x : theory.Block). put_one (BlockPlace u.header.op) (BlockUnit x) place) (sym block_is)
         ∙ ap (λ (o : Option BlockError). unless o (put_one (BlockPlace (next_address m)) (BlockUnit b)) place) (sym none)
 
@@ -199,11 +204,11 @@ module _ (s : State) (kind : ℕ) (body : List ℕ) (given : Given) (live : s.li
     fault_call : (old new : Option Told) (t : State) → IsSupplied s old command given → t.live ≡ false → AddsPart (block_events s u) old new → IsCall given command s t old new None
     fault_call old new t supplied dead part = stopped_call given command s (block_events s u) input does_block block_puts t old new supplied dead part
 
-module _ (s : State) (kind : ℕ) (body : List ℕ) (live : s.live ≡ true) where
+module _ (s : State) (kind : ℕ) (body : List ℕ) (is : IsState s) (live : s.live ≡ true) where
   pub refusal_serves : (e : BlockError) → first_refusal (block_refusals (memory s) kind body) ≡ Some e → (old : Option Told) → Serves (WriteBlock kind body) s s old old (answer_of is_block_fault as_write_block (Err e))
   refusal_serves e some old =
       subst (λ (o : Option Answer). Serves (WriteBlock kind body) s s old old o) (sym (refused_answer is_block_fault e (block_unblamed (memory s) kind body e some) as_write_block))
-      (λ given supplied. refused_call s kind body given live supplied e some old supplied)
+      (λ given supplied. refused_call s kind body given is live supplied e some old supplied)
 
   module _ (none : first_refusal (block_refusals (memory s) kind body) ≡ None) (own : IsUnit s.file.layout s.file.cluster (place_in Grid (next_block s kind body).header.op) (next_block s kind body)) where
     pub written_serves : (t : State) (r : Reference) (old new : Option Told) → r ≡ reference_of (next_block s kind body).header → t ≡ written s (next_block s kind body).header
@@ -211,7 +216,7 @@ module _ (s : State) (kind : ℕ) (body : List ℕ) (live : s.live ≡ true) whe
     written_serves t r old new same next_is all =
         subst (λ (x : State). Serves (WriteBlock kind body) s x old new (answer_of is_block_fault as_write_block (Ok r))) (sym next_is)
         (subst (λ (x : Reference). Serves (WriteBlock kind body) s (written s (next_block s kind body).header) old new (answer_of is_block_fault as_write_block (Ok x))) (sym same)
-        (λ given supplied. written_call s kind body given live supplied none own old new supplied all))
+        (λ given supplied. written_call s kind body given is live supplied none own old new supplied all))
 
     pub fault_serves : (t : State) (old new : Option Told) → t.live ≡ false → AddsPart (block_events s (next_block s kind body)) old new → Serves (WriteBlock kind body) s t old new None
-    fault_serves t old new dead part = λ given supplied. fault_call s kind body given live supplied none own old new t supplied dead part
+    fault_serves t old new dead part = λ given supplied. fault_call s kind body given is live supplied none own old new t supplied dead part

@@ -1,18 +1,15 @@
 -- The state whose live blocks changed: it makes sense, and what it is in the words of the machine.
-use Rattle.std.proofs.Common.{◌≡◌, ℕ, ◌==◌, true, false, Bool, cond, List, [], ◌∷◌, length, Option, Some, None, refl, sym, ap, subst, arith, ltb-false}
+use Rattle.std.proofs.Common.{◌≡◌, ℕ, false, List, Option, Some, None, refl, sym, ap, subst}
 use Rattle.std.specs.Prelude.{Result, Ok, Err, OnErr, OnOk}
-use Rattle.std.proofs.lemmas.Bool.{eqb-false}
 use Rattle.df_format.specs.declared.superblock.SuperFields.{SuperFields}
-use Rattle.df_grid.specs.Grid.{GridState, IsUnheld, with_blocks as grid_of}
-use Rattle.df_model.specs.Blocks.{Blocks, block_released, sum_at, without_entry}
-use Rattle.df_model.specs.Making.{next_address}
+use Rattle.df_grid.specs.Grid.{GridState, with_blocks as grid_of}
+use Rattle.df_model.specs.Blocks.{Blocks, block_released, sum_at}
 use Rattle.df_model.specs.Memory.{Course}
-use Rattle.df_model.specs.Refusals.{block_refusals, first_refusal}
 use Rattle.df_model.specs.Work.{is_known}
-use Rattle.df_model.proofs.Laws.{all_pass, known_none, without_none}
+use Rattle.df_model.proofs.Laws.{known_none, without_none}
 use Rattle.df_model.specs.declared.errors.BlockError.{BlockError}
-use Rattle.df_opening.specs.Below.{DataFile, RunningState, IsCourse, IsState, State, course_in, grid_with, memory}
-use Rattle.df_replica.specs.Blocks.{MayWriteNext, address_or, with_blocks}
+use Rattle.df_opening.specs.Below.{DataFile, RunningState, IsCourse, IsState, State, course_in, memory}
+use Rattle.df_replica.specs.Blocks.{address_or, with_blocks}
 use Rattle.df_replica.proofs.BeginState.{with_course}
 
 -- ---- other live blocks

@@ -1,15 +1,10 @@
 -- What the superblock says that ends a checkpoint obeys the rules.
-use Rattle.std.proofs.Common.{◌≡◌, ◌∙◌, ℕ, ◌≤◌, List, [], ◌∷◌, Some, None, refl, sym, ap, arith}
-use Rattle.std.proofs.lemmas.List.{take_all}
+use Rattle.std.proofs.Common.{inl, ◌≡◌, ℕ, ◌≤◌, List, [], ◌∷◌, Some, None, refl, sym, ap, arith}
 use Rattle.std.proofs.lemmas.Option.{same_Some}
-use Rattle.df_base.specs.Fields.{spelled}
-use Rattle.df_base.proofs.Laws.{spelled-field_at}
-use Rattle.df_format.proofs.Laws.{faults}
-use Rattle.df_format.specs.Spelling.{IsCheck}
+use Rattle.df_format.proofs.Laws.{faults, no_names}
 use Rattle.df_format.specs.SuperRules.{IsSuper, fault_of}
 use Rattle.df_grid.specs.Table.{last_of}
 use Rattle.df_grid.specs.Writes.{first_address, first_sum}
-use Rattle.df_units.specs.Meaning.{number_of}
 use Rattle.df_opening.specs.Below.{RunningState, IsRunning, IsState, State}
 use Rattle.df_replica.specs.Stepping.{next_fields}
 
@@ -24,7 +19,7 @@ first_pair (x ∷ xs) [] address sum done is =
 module _ (s : State) (r : RunningState) (is : IsState s) (runs : IsRunning s.file s.fields s.head s.blocks r) (some : 1 ≤ first_address s.blocks.written) (inside : first_address s.blocks.written ≤ s.file.layout.blocks) where
   is_super : IsSuper (next_fields s r)
   is_super = record {
-    version = refl;
+    version = inl (record { version = refl; boot = refl; named = record { head = refl; replies = no_names } });
     layout = record {
       slots_within = s.file.layout.slots_within;
       message_size_within = s.file.layout.message_size_within;
@@ -42,7 +37,6 @@ module _ (s : State) (r : RunningState) (is : IsState s) (runs : IsRunning s.fil
     trailer_checksum = λ none. absurd (omega (arith, some, none));
     no_trailer = λ none. absurd (omega (arith, some, none));
     trailer_size = λ other. runs.fits;
-    boot = refl;
     zero = refl;
   }
 

@@ -1,6 +1,6 @@
 -- The step that ends a checkpoint is the machine's: its answer, the state behind it, and what it does to the disk.
-use Rattle.std.proofs.Common.{◌≡◌, ◌∙◌, ℕ, suc, ◌+◌, true, false, List, [], ◌∷◌, Option, Some, None, refl, sym, ap, subst, arith}
-use Rattle.std.specs.Prelude.{Ok, Err, slice_index}
+use Rattle.std.proofs.Common.{◌≡◌, ◌∙◌, ℕ, ◌+◌, true, false, List, [], ◌∷◌, Option, Some, None, refl, sym, ap, subst}
+use Rattle.std.specs.Prelude.{Ok, Err}
 use Rattle.df_base.specs.Fields.{spelled}
 use Rattle.df_base.specs.Log.{Event, Sync, now}
 use Rattle.df_disk.specs.Told.{Told}
@@ -16,7 +16,7 @@ use Rattle.df_theory.specs.Runs.{Step, Syncs}
 use Rattle.df_theory.specs.Units as theory
 use Rattle.df_theory.specs.Units.{BlockPlace, CopyPlace, CopyUnit, PreparePlace, ReplyPlace, or_else}
 use Rattle.df_theory.specs.View.{PassesTests, sequence}
-use Rattle.df_units.specs.Meaning.{content_of, number_of, offset_list, rest_of}
+use Rattle.df_units.specs.Meaning.{answered_of, content_of, number_of, reply_checksums_of, rest_of}
 use Rattle.df_units.specs.Puts.{put_copies}
 use Rattle.df_grid.specs.Writes.{first_address, first_sum}
 use Rattle.df_model.specs.After.{checkpoint_of}
@@ -43,11 +43,6 @@ use Rattle.df_replica.proofs.StepAnswers.{does_step, fault_call, makes_step, nex
 use Rattle.df_replica.proofs.StepMemory.{last_memory, step_memory}
 use Rattle.df_replica.proofs.WritesOn.{StandsIn}
 
--- what is behind the fields is zeros
-zero_rest : (boot : ℕ) (o : Option ℕ) → ((i : ℕ) → slice_index (boot ∷ offset_list o) i ≡ 0) → boot ∷ offset_list o ≡ 0 ∷ []
-zero_rest boot None zeros = ap (λ (n : ℕ). n ∷ []) (zeros 0)
-zero_rest boot (Some n) zeros = absurd (let one : suc n ≡ 0 = zeros 1 in omega arith)
-
 module _ (s : State) (r : RunningState) (given : Given) (is : IsState s) (course : IsRunning s.file s.fields s.head s.blocks r) (running : s.running ≡ Some r) (left : s.blocks.left ≡ [])
     (number : number_of (spelled 16 (first_sum s.blocks.written)) ≡ first_sum s.blocks.written) (steps : AreStepsOfCopies (update_events (next_fields s r)) (update_steps (put_copies (next_fields s r))))
     (sum : given ≡ ForAdvance (made_by s s.running ∷ [])) where
@@ -67,26 +62,39 @@ module _ (s : State) (r : RunningState) (given : Given) (is : IsState s) (course
     tests : PassesTests (shape s.file) (memory s).content
     tests = subst (PassesTests (shape s.file)) (sym (ap (λ (m : Memory). m.content) rep)) work.view.checkpoint.tests
 
-    rest : 0 ∷ [] ≡ rest_of s.fields
-    rest = sym (zero_rest s.fields.boot s.fields.first_nonzero tests.rest)
+    -- what version 1 leaves empty stays as it is
+    answered : 0 ≡ answered_of s.fields
+    answered i = answered_of (record s.fields { version = sym is.plain.version i })
+
+    names : [] ≡ reply_checksums_of s.fields
+    names i = reply_checksums_of (record s.fields { version = sym is.plain.version i })
+
+    rest : rest_of f ≡ rest_of s.fields
+    rest i =
+        rest_of (record s.fields {
+          version = sym is.plain.version i;
+          head_checksum = sym is.plain.head_checksum i;
+          reply_checksums = sym is.plain.reply_checksums i;
+          first_nonzero = sym is.plain.first_nonzero i;
+        })
 
     -- the superblock is the machine's
     content_is : content_of (content_with f) ≡ making.content_of (memory s) (course_of s.file s.blocks r) made
     content_is = λ i. record {
       checksum = made;
-      version = sym tests.version i;
+      version = sym is.plain.version i;
       cluster = sym tests.cluster i;
       layout = sym tests.layout i;
       sequence = course.sequence.0 i;
-      boot = 0;
+      boot = sym is.plain.boot i;
       op = r.op;
       op_checksum = number_of r.op_checksum;
       head = s.head;
       replies = s.replies;
       pin = r.op;
       pin_checksum = number_of r.op_checksum;
-      answered = 0;
-      reply_checksums = [];
+      answered = answered i;
+      reply_checksums = names i;
       trailer = first_address s.blocks.written;
       trailer_checksum = number i;
       trailer_size = course.size i;

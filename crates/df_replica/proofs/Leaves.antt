@@ -61,8 +61,8 @@ module _ (file : DataFile) (w : Work) (work : IsWork (shape file) (spelling file
   held_unput (Reply op body) other =
       unless_none (first_refusal (reply_refusals m op body)) (put_one (ReplyPlace (place_of_reply m)) (ReplyUnit (reply_of m sum body))) (BlockPlace a) (λ none. refl)
   held_unput (WriteBlock kind body) other =
-      unless_none (first_refusal (block_refusals m kind body)) (put_one (BlockPlace (next_address m)) (BlockUnit (block_of sum kind body))) (BlockPlace a)
-      (λ none. put_aside (next_address m) a (BlockUnit (block_of sum kind body)) (λ same.
+      unless_none (first_refusal (block_refusals m kind body)) (put_one (BlockPlace (next_address m)) (BlockUnit (block_of m.content.boot sum kind body))) (BlockPlace a)
+      (λ none. put_aside (next_address m) a (BlockUnit (block_of m.content.boot sum kind body)) (λ same.
       let free : is_held w (next_address m) ≡ false = (block_may_law (shape file) (spelling file) w kind body none).free in
       let no : true ≡ false = sym held ∙ ap (is_held w) (sym same) ∙ free in
       cc))

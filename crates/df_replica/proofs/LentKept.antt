@@ -1,18 +1,16 @@
 -- What a state has was written, where a file is kept for it, and where an open found it on a disk that may be hurt.
-use Rattle.std.proofs.Common.{◌≡◌, ℕ, List, Some, None, sym, subst}
+use Rattle.std.proofs.Common.{◌≡◌, Some, None, sym, subst}
 use Rattle.df_base.specs.Log.{Sync, add}
 use Rattle.df_opening.specs.Below.{IsWritten, DataFile, shape, spelling}
 use Rattle.df_opening.proofs.Laws.{had_is_written, firm_of}
-use Rattle.df_model.specs.Laws.{IsKeptBy}
-use Rattle.df_model.specs.Work.{Work, opened}
+use Rattle.df_model.specs.Work.{opened}
 use Rattle.df_theory.specs.Device.{units_log}
-use Rattle.df_theory.specs.Shape.{Shape}
-use Rattle.df_theory.specs.UnitLog.{UnitLog, now}
-use Rattle.df_theory.specs.Units.{AnyUnit, BlockPlace, BlockUnit, Parts, Place}
+use Rattle.df_theory.specs.UnitLog.{now}
+use Rattle.df_theory.specs.Units.{AnyUnit, BlockPlace, BlockUnit, Place}
 use Rattle.df_theory.proofs.Laws.{pool_pools}
 use Rattle.df_units.specs.Bytes.{unit_at}
 use Rattle.df_replica.specs.Lending.{KeptIsWritten, OpenedIsWrittenFor}
-use Rattle.df_replica.specs.Serving.{Firm, Grade, KeptFor, Whole, format}
+use Rattle.df_replica.specs.Serving.{format}
 use Rattle.df_replica.specs.WrittenFor.{IsWrittenFor}
 
 pub kept_is_written : KeptIsWritten

@@ -1,10 +1,9 @@
 -- What a read finds in a room is what the machine finds at the place.
-use Rattle.std.proofs.Common.{◌≡◌, ◌==◌, ℕ, zero, suc, ◌+◌, ◌-◌, ◌%◌, ◌<◌, ◌≤◌, Bool, true, false, ◌&&◌, nat_lt, not, Option, Some, None, List, map, refl, sym, ap, subst, ◌∙◌, arith, eq-eqb, eqb-true}
+use Rattle.std.proofs.Common.{◌≡◌, ◌==◌, ℕ, zero, suc, ◌+◌, ◌-◌, ◌%◌, ◌<◌, ◌≤◌, Bool, true, false, ◌&&◌, nat_lt, not, Option, Some, None, List, map, refl, sym, ap, ◌∙◌, arith, eq-eqb, eqb-true}
 use Rattle.std.specs.Prelude.{Result, Ok, Err, nat_le}
 use Rattle.std.specs.List.{range_with_len, slice_get}
 use Rattle.std.proofs.lemmas.Bool.Decides.{nat_tests}
 use Rattle.df_base.specs.Image.{Image}
-use Rattle.df_base.proofs.Laws.{AreBytes-check_of, length-check_of}
 use Rattle.df_disk.specs.Told.{Told}
 use Rattle.df_layout.specs.declared.damage.Class.{Class}
 use Rattle.df_layout.specs.declared.damage.Class.TheVariants.{Stale}
@@ -16,12 +15,10 @@ use Rattle.df_format.specs.declared.kind.Kind.{Kind}
 use Rattle.df_format.specs.declared.kind.Kind.TheVariants.{Prepare}
 use Rattle.df_format.specs.Message.{Message}
 use Rattle.df_format.specs.Own.{place_in}
-use Rattle.df_format.specs.Rules.{IsSealed}
 use Rattle.df_format.specs.Shown
-use Rattle.df_format.specs.Shown.{bytes_of}
-use Rattle.df_format.specs.Spelling.{IsCheck, spelling_rest}
+use Rattle.df_format.specs.Spelling.{IsCheck}
 use Rattle.df_format.specs.Valid.{IsInSlot, IsUnit}
-use Rattle.df_format.proofs.Laws.{valid_belongs, valid_stale, shown_stale}
+use Rattle.df_format.proofs.Laws.{valid_belongs, shown_stale}
 use Rattle.df_buffers.specs.declared.identity.Identity.{Identity}
 use Rattle.df_buffers.specs.declared.identity.Wanted.TheVariants.{Checksum}
 use Rattle.df_buffers.specs.Sounds.{Holding}

@@ -119,11 +119,15 @@ module _ (s : State) (op : ℕ) (body : List ℕ) (given : Given) (is : IsState 
     waits : 0 < length s.waiting
     waits = omega (arith, (may_reply s op body is none).waits, is.waiting)
 
+    -- the reply that the machine makes has the superblock's boot, which is none, and names the prepare that waits the longest
+    made_is : reply_of (memory s) (number_of u.header.checksum) body ≡ message_of u
+    made_is =
+        ap (λ (boot : ℕ). record { header = record (message_of u).header { parent = first_of (map number_of s.waiting); boot = boot }; body = body }) is.plain.boot
+        ∙ ap (λ (parent : ℕ). record { header = record (message_of u).header { parent = parent }; body = body }) (first_number s.waiting waits)
+
     module _ (w : Work) (rep : Represents s w) where
       reply_is : reply_of (memory_of (shape s.file) (spelling s.file) w) (supplied_sum given) body ≡ message_of u
-      reply_is =
-          (λ i. reply_of (sym rep i) (supplied_sum (sum i)) body)
-          ∙ ap (λ (parent : ℕ). record { header = record (message_of u).header { parent = parent }; body = body }) (first_number s.waiting waits)
+      reply_is = (λ i. reply_of (sym rep i) (supplied_sum (sum i)) body) ∙ made_is
 
       place_is : place_of_reply (memory_of (shape s.file) (spelling s.file) w) ≡ u.header.slot
       place_is = ap place_of_reply (sym rep)
@@ -150,7 +154,7 @@ module _ (s : State) (op : ℕ) (body : List ℕ) (given : Given) (is : IsState 
     put_is place =
         let m = memory s in
         let r : theory.Message = reply_of m (supplied_sum given) body in
-        let same : r ≡ message_of u = (λ i. reply_of m (supplied_sum (sum i)) body) ∙ ap (λ (parent : ℕ). record { header = record (message_of u).header { parent = parent }; body = body }) (first_number s.waiting waits) in
+        let same : r ≡ message_of u = (λ i. reply_of m (supplied_sum (sum i)) body) ∙ made_is in
         ap (λ (x : theory.Message). put_one (ReplyPlace u.header.slot) (ReplyUnit x) place) (sym same)
         ∙ ap (λ (o : Option ReplyError). unless o (put_one (ReplyPlace (place_of_reply m)) (ReplyUnit r)) place) (sym none)
 

@@ -1,5 +1,5 @@
 -- A whole tour is the machine's, and what is kept of the file goes on behind it: the view, the blocks and the log are the same.
-use Rattle.std.proofs.Common.{◌≡◌, ◌≤◌, ◌-◌, ◌∙◌, ℕ, ◌++◌, List, length, Option, Some, None, refl, sym, ap, subst, arith, length-drop}
+use Rattle.std.proofs.Common.{◌≡◌, ◌∙◌, ℕ, ◌++◌, List, length, Option, Some, None, refl, sym, ap, subst}
 use Rattle.df_disk.specs.Told.{Told}
 use Rattle.df_layout.specs.declared.damage.Finding.{Finding}
 use Rattle.df_theory.specs.Device.{units_log}

@@ -1,7 +1,7 @@
 -- Calls one after the other: nothing is served at first, one more call goes on, and a fault stops them.
 use Rattle.std.proofs.Common.{◌≡◌, ◌⊎◌, inl, inr, List, [], ◌∷◌, ◌++◌, Option, Some, None, refl, sym, ◌∙◌, ap, subst}
 use Rattle.df_base.specs.Image.{Image}
-use Rattle.df_base.specs.Log.{Event, IsLeft, Log, add}
+use Rattle.df_base.specs.Log.{Event, IsLeft, Log}
 use Rattle.df_base.specs.Moments.{EachMoment, Extends, adds}
 use Rattle.df_base.proofs.Laws.{extends_add, extends_self, more, weaker, same_log, adds_on, extends_on, either_same}
 use Rattle.df_disk.specs.Told.{Told}

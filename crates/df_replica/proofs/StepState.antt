@@ -17,8 +17,8 @@ pub taken_runs : (file : DataFile) (f : SuperFields) (head : ℕ) (b : Blocks) (
 taken_runs file f head b o running at is = subst (λ (q : Option RunningCheckpoint). IsCourse file f head b (running_of q)) at is
 
 -- the grid of the file
-pub grid_is : (file : DataFile) (grid : GridState) → grid.layout ≡ file.layout → grid.cluster ≡ file.cluster → grid ≡ grid_with file grid.blocks
-grid_is file grid layout cluster = λ i. record { layout = layout i; cluster = cluster i; blocks = grid.blocks }
+pub grid_is : (file : DataFile) (grid : GridState) → grid.layout ≡ file.layout → grid.cluster ≡ file.cluster → grid.boot ≡ 0 → grid ≡ grid_with file grid.blocks
+grid_is file grid layout cluster boot = λ i. record { layout = layout i; cluster = cluster i; boot = boot i; blocks = grid.blocks }
 
 -- a trailer block more
 pub running_on : (file : DataFile) (f : SuperFields) (head : ℕ) (b : Blocks) (r : RunningState) (sum : ℕ) → IsRunning file f head b r → (b.left ≡ [] → ⊥) → IsRunning file f head (next_written b sum) (record r { written = r.written + 1 })

@@ -1,5 +1,6 @@
 // A replica: what it keeps in memory of the file that it works on, and what it tells of it.
-ghost use Rattle.std.specs.Prelude.{◌≡◌, false, slice_get};
+ghost use Rattle.std.specs.Prelude.{◌≡◌, ◌≤◌, false, length, slice_get};
+ghost use Rattle.df_replica.specs.Below.{is_running, memory};
 ghost use Rattle.df_replica.specs.Replica.{summary_of};
 ghost use Rattle.df_replica.specs.Stopping.{stopped};
 
@@ -54,9 +55,20 @@ impl Replica {
         self.parts.summary()
     }
 
+    /// Whether a checkpoint runs.
+    pub fn is_running(&self) -> bool
+        ensures { result ≡ is_running (memory self.now).running }
+    {
+        match &self.parts.running {
+            Some(_) => true,
+            None => false,
+        }
+    }
+
     /// The root of the durable checkpoint; it is empty while no checkpoint has one.
     pub fn root(&self) -> &[u8]
-        ensures { result.now ≡ self.now.root }
+        ensures is { result.now ≡ self.now.root }
+        ensures short { length result.now ≤ 1024 }
     {
         self.parts.root.as_slice()
     }

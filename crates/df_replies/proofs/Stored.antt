@@ -18,7 +18,7 @@ use Rattle.df_theory.specs.Found.{IsStored}
 use Rattle.df_theory.specs.View.{View, sessions}
 use Rattle.df_units.specs.Meaning.{header_of}
 use Rattle.df_replies.specs.declared.answers.Lacking.{Lacking}
-use Rattle.df_replies.specs.Shown.{AreOfBoot, ShowsReplies, ShowsReply}
+use Rattle.df_replies.specs.Shown.{ShowsReplies, ShowsReply}
 use Rattle.df_replies.proofs.Scanned.{has_class}
 use Rattle.df_replies.specs.Answers.{AnsweredTo, AnswersIn, FoundAreStored, HasClass, IsFirstLacking, Lacks, LacksHere, NamesNone, StoredAreFound, stored_by}
 
@@ -31,21 +31,23 @@ named c k h r names own is = record {
   new = λ from. ap (λ (x : Units.Header). x.boot) is ∙ own;
 }
 
-answers_shown : (image : Units.Units) (c : Content) (k : ℕ) (s : Session) (reply : Result Header Class) → NamesNone c → ((h : Header) → reply ≡ Ok h → (header_of h).boot ≡ c.boot) → ShowsReply (image (ReplyPlace k)) reply → AnswersIn s reply ↔ IsAnswered image c k (session_of s)
-answers_shown image c k s (Ok h) names own (q, is, same) = (
+answers_shown : (boot : ℕ) (image : Units.Units) (c : Content) (k : ℕ) (s : Session) (reply : Result Header Class) → c.boot ≡ boot → NamesNone c → ShowsReply (image (ReplyPlace k)) reply → AnswersIn boot s reply ↔ IsAnswered image c k (session_of s)
+answers_shown boot image c k s (Ok h) own names (q, is, same) = (
   λ of. (
     q,
     is,
-    record { client = ap (λ (x : Units.Header). x.client) same ∙ of.client; request = ap (λ (x : Units.Header). x.request) same ∙ of.request; op = ap (λ (x : Units.Header). x.op) same ∙ of.op },
-    named c k h q names (own h refl) same,
+    record { client = ap (λ (x : Units.Header). x.client) same ∙ of.0.client; request = ap (λ (x : Units.Header). x.request) same ∙ of.0.request; op = ap (λ (x : Units.Header). x.op) same ∙ of.0.op },
+    named c k h q names (of.1 ∙ sym own) same,
   ),
   λ there.
       let both : Some (ReplyUnit there.0) ≡ Some (ReplyUnit q) = sym there.1 ∙ is in
       let one : there.0 ≡ q = cc in
-      let header : there.0.header ≡ header_of h = ap (λ (m : Message). m.header) one ∙ same in
-      record { client = sym (ap (λ (x : Units.Header). x.client) header) ∙ there.2.client; request = sym (ap (λ (x : Units.Header). x.request) header) ∙ there.2.request; op = sym (ap (λ (x : Units.Header). x.op) header) ∙ there.2.op },
+      let header : there.0.header ≡ header_of h = ap (λ (m : Message). m.header) one ∙ same in (
+        record { client = sym (ap (λ (x : Units.Header). x.client) header) ∙ there.2.client; request = sym (ap (λ (x : Units.Header). x.request) header) ∙ there.2.request; op = sym (ap (λ (x : Units.Header). x.op) header) ∙ there.2.op },
+        sym (ap (λ (x : Units.Header). x.boot) header) ∙ there.3.new (omega (arith, names.answered)) ∙ own,
+      ),
 )
-answers_shown image c k s (Err class) names own none = (λ no. absurd no, λ there. let both : None ≡ Some (ReplyUnit there.0) = sym none ∙ there.1 in absurd (cc))
+answers_shown boot image c k s (Err class) own names none = (λ no. absurd no, λ there. let both : None ≡ Some (ReplyUnit there.0) = sym none ∙ there.1 in absurd (cc))
 
 session_at : (ss : List Session) (k : ℕ) (s : Session) → slice_get ss k ≡ Some s → slice_get (sessions_of ss) k ≡ Some (session_of s)
 session_at ss k s at = slice_get-map session_of ss k ∙ ap (option_map session_of) at
@@ -59,33 +61,33 @@ session_there ss k s at = elim (slice_get_cases ss k).1 [
   | inr past ↦ absurd (omega (arith, past.0, slice_get_within (sessions_of ss) k s at, length-map ss session_of))
 ]
 
-module _ (image : Units.Units) (c : Content) (replies : List (Result Header Class)) (ss : List Session) (n : ℕ) (shows : ShowsReplies image replies) (own : AreOfBoot c.boot replies) (names : NamesNone c) where
-  answered_before : (k : ℕ) → AnsweredTo ss n replies k → (j : ℕ) (s : Units.Session) → j < k → slice_get (sessions_of ss) j ≡ Some s → s.op ≤ n → IsAnswered image c j s
+module _ (boot : ℕ) (image : Units.Units) (c : Content) (replies : List (Result Header Class)) (ss : List Session) (n : ℕ) (shows : ShowsReplies image replies) (own : c.boot ≡ boot) (names : NamesNone c) where
+  answered_before : (k : ℕ) → AnsweredTo boot ss n replies k → (j : ℕ) (s : Units.Session) → j < k → slice_get (sessions_of ss) j ≡ Some s → s.op ≤ n → IsAnswered image c j s
   answered_before k before j s less at stored =
       let t = session_there ss j s at in
       let answer = before j t.0 less t.1 (subst (λ (x : Units.Session). x.op ≤ n) t.2 stored) in
-      subst (IsAnswered image c j) (sym t.2) ((answers_shown image c j t.0 answer.0 names (λ h is. own j h (answer.1 ∙ ap Some is)) (shows.each j answer.0 answer.1)).0 answer.2)
+      subst (IsAnswered image c j) (sym t.2) ((answers_shown boot image c j t.0 answer.0 own names (shows.each j answer.0 answer.1)).0 answer.2)
 
-  first_lacks : (lacking : Lacking) → IsFirstLacking ss n replies lacking → LacksReply image c (sessions_of ss) n lacking.place
+  first_lacks : (lacking : Lacking) → IsFirstLacking boot ss n replies lacking → LacksReply image c (sessions_of ss) n lacking.place
   first_lacks lacking is = record {
     session = session_of is.session;
     at = session_at ss lacking.place is.session is.at;
     stored = is.stored;
-    lacks = λ answered. is.lacks ((answers_shown image c lacking.place is.session is.reply names (λ h same. own lacking.place h (is.there ∙ ap Some same)) (shows.each lacking.place is.reply is.there)).1 answered);
+    lacks = λ answered. is.lacks ((answers_shown boot image c lacking.place is.session is.reply own names (shows.each lacking.place is.reply is.there)).1 answered);
     first = answered_before lacking.place is.first;
   }
 
-  pub lacks_shown : (o : Option Lacking) → LacksHere ss n replies o → Lacks image c ss n o
+  pub lacks_shown : (o : Option Lacking) → LacksHere boot ss n replies o → Lacks image c ss n o
   lacks_shown None all = λ k s at stored. answered_before (length ss) all k s (omega (arith, slice_get_within (sessions_of ss) k s at, length-map ss session_of)) at stored
   lacks_shown (Some lacking) is = first_lacks lacking is
 
-pub lacking_class : (ss : List Session) (n : ℕ) (replies : List (Result Header Class)) (o : Option Lacking) → LacksHere ss n replies o → IfSome o (HasClass replies)
-lacking_class ss n replies None all = tt
-lacking_class ss n replies (Some lacking) is = has_class replies lacking is.reply is.there is.class
+pub lacking_class : (boot : ℕ) (ss : List Session) (n : ℕ) (replies : List (Result Header Class)) (o : Option Lacking) → LacksHere boot ss n replies o → IfSome o (HasClass replies)
+lacking_class boot ss n replies None all = tt
+lacking_class boot ss n replies (Some lacking) is = has_class replies lacking is.reply is.there is.class
 
-pub lacking_within : (ss : List Session) (n : ℕ) (replies : List (Result Header Class)) (o : Option Lacking) → LacksHere ss n replies o → IfSome o (λ lacking. lacking.place < length replies)
-lacking_within ss n replies None all = tt
-lacking_within ss n replies (Some lacking) is = slice_get_within replies lacking.place is.reply is.there
+pub lacking_within : (boot : ℕ) (ss : List Session) (n : ℕ) (replies : List (Result Header Class)) (o : Option Lacking) → LacksHere boot ss n replies o → IfSome o (λ lacking. lacking.place < length replies)
+lacking_within boot ss n replies None all = tt
+lacking_within boot ss n replies (Some lacking) is = slice_get_within replies lacking.place is.reply is.there
 
 -- ---- the stored replies of a view
 

@@ -24,10 +24,10 @@ pub record IsOf (s : Session) (h : Header) : Type 0 where
   pub request : h.request ≡ s.request
   pub op : h.op ≡ s.op
 
--- so a slot answers the session
-abbrev pub AnswersIn : Session → Result Header Class → Type 0
-AnswersIn s (Ok h) = IsOf s h
-AnswersIn s (Err class) = ⊥
+-- so a slot answers the session, where what it shows is of this boot
+abbrev pub AnswersIn : ℕ → Session → Result Header Class → Type 0
+AnswersIn boot s (Ok h) = IsOf s h × (h.boot ≡ boot)
+AnswersIn boot s (Err class) = ⊥
 
 -- the class of a slot where another unit is wanted
 abbrev pub class_of : Result Header Class → Class
@@ -35,33 +35,33 @@ class_of (Ok h) = Stale
 class_of (Err class) = class
 
 -- a slot answers the session, or it has this class
-abbrev pub TestsReply : Session → Result Header Class → Option Class → Type 0
-TestsReply s reply None = AnswersIn s reply
-TestsReply s reply (Some class) = (AnswersIn s reply → ⊥) × (class ≡ class_of reply)
+abbrev pub TestsReply : ℕ → Session → Result Header Class → Option Class → Type 0
+TestsReply boot s reply None = AnswersIn boot s reply
+TestsReply boot s reply (Some class) = (AnswersIn boot s reply → ⊥) × (class ≡ class_of reply)
 
 -- the same of a session whose reply is stored
-abbrev pub TestsStored : Session → ℕ → Result Header Class → Option Class → Type 0
-TestsStored s n reply None = s.op ≤ n → AnswersIn s reply
-TestsStored s n reply (Some class) = (s.op ≤ n) × (AnswersIn s reply → ⊥) × (class ≡ class_of reply)
+abbrev pub TestsStored : ℕ → Session → ℕ → Result Header Class → Option Class → Type 0
+TestsStored boot s n reply None = s.op ≤ n → AnswersIn boot s reply
+TestsStored boot s n reply (Some class) = (s.op ≤ n) × (AnswersIn boot s reply → ⊥) × (class ≡ class_of reply)
 
 -- each of the first k sessions whose reply is stored is answered
-abbrev pub AnsweredTo : List Session → ℕ → List (Result Header Class) → ℕ → Type 0
-AnsweredTo ss n replies k = (j : ℕ) (s : Session) → j < k → slice_get ss j ≡ Some s → s.op ≤ n → (reply : Result Header Class) × (slice_get replies j ≡ Some reply) × AnswersIn s reply
+abbrev pub AnsweredTo : ℕ → List Session → ℕ → List (Result Header Class) → ℕ → Type 0
+AnsweredTo boot ss n replies k = (j : ℕ) (s : Session) → j < k → slice_get ss j ≡ Some s → s.op ≤ n → (reply : Result Header Class) × (slice_get replies j ≡ Some reply) × AnswersIn boot s reply
 
 -- the first session whose reply is stored and isn't in the table
-pub record IsFirstLacking (ss : List Session) (n : ℕ) (replies : List (Result Header Class)) (lacking : Lacking) : Type 0 where
+pub record IsFirstLacking (boot : ℕ) (ss : List Session) (n : ℕ) (replies : List (Result Header Class)) (lacking : Lacking) : Type 0 where
   pub session : Session
   pub at : slice_get ss lacking.place ≡ Some session
   pub stored : session.op ≤ n
   pub reply : Result Header Class
   pub there : slice_get replies lacking.place ≡ Some reply
-  pub lacks : AnswersIn session reply → ⊥
+  pub lacks : AnswersIn boot session reply → ⊥
   pub class : lacking.class ≡ class_of reply
-  pub first : AnsweredTo ss n replies lacking.place
+  pub first : AnsweredTo boot ss n replies lacking.place
 
-abbrev pub LacksHere : List Session → ℕ → List (Result Header Class) → Option Lacking → Type 0
-LacksHere ss n replies None = AnsweredTo ss n replies (length ss)
-LacksHere ss n replies (Some lacking) = IsFirstLacking ss n replies lacking
+abbrev pub LacksHere : ℕ → List Session → ℕ → List (Result Header Class) → Option Lacking → Type 0
+LacksHere boot ss n replies None = AnsweredTo boot ss n replies (length ss)
+LacksHere boot ss n replies (Some lacking) = IsFirstLacking boot ss n replies lacking
 
 -- ---- in the theory
 

@@ -1,47 +1,49 @@
--- The greatest numbers of the replies that are shown, and what they say of a state.
-use Rattle.std.specs.Prelude.{◌≡◌, ◌⊎◌, ◌↔◌, ◌≤◌, ◌<◌, ℕ, List, Some, Result, Ok, Err, max, slice_get}
+-- The greatest numbers of the replies that are shown.
+use Rattle.std.specs.Prelude.{◌≡◌, ◌==◌, ◌⊎◌, ◌↔◌, ◌≤◌, ◌<◌, ℕ, if◌then◌else◌, List, Some, Result, Ok, Err, max, slice_get}
 use Rattle.df_layout.specs.declared.damage.Class.{Class}
 use Rattle.df_format.specs.declared.header.Header.{Header}
 use Rattle.df_stamps.specs.declared.counters.Counters.{Counters}
-use Rattle.df_theory.specs.Units.{Content, Message, ReplyPlace, ReplyUnit, Units}
+pub use Rattle.df_units.specs.Greatest.{RepliesWithin, in_boot}
 
--- no reply is of a later checkpoint, or of a later boot: the replies' part of `NotBehind`
-abbrev pub NoReplyIsLater : Units → Content → Type 0
-NoReplyIsLater image c = (k : ℕ) (r : Message) → image (ReplyPlace k) ≡ Some (ReplyUnit r) → (r.header.checkpoint ≤ c.sequence) × (r.header.boot ≤ c.boot)
+-- a number of a reply that is shown, 0 where none is; the op and the mark of one of this boot alone
+abbrev pub op_in : ℕ → Result Header Class → ℕ
+op_in boot (Ok h) = if h.boot == boot then h.op else 0
+op_in boot (Err class) = 0
 
--- no reply of this boot has an op or a mark above the head: the replies' part of `NotLost`
-abbrev pub NoReplyIsAbove : Units → Content → ℕ → Type 0
-NoReplyIsAbove image c top = (k : ℕ) (r : Message) → image (ReplyPlace k) ≡ Some (ReplyUnit r) → r.header.boot ≡ c.boot → (r.header.op ≤ top) × (r.header.mark ≤ top)
-
--- a number of a reply that is shown, 0 where none is
-abbrev pub op_in : Result Header Class → ℕ
-op_in (Ok h) = h.op
-op_in (Err class) = 0
-
-abbrev pub mark_in : Result Header Class → ℕ
-mark_in (Ok h) = h.mark
-mark_in (Err class) = 0
+abbrev pub mark_in : ℕ → Result Header Class → ℕ
+mark_in boot (Ok h) = if h.boot == boot then h.mark else 0
+mark_in boot (Err class) = 0
 
 abbrev pub checkpoint_in : Result Header Class → ℕ
 checkpoint_in (Ok h) = h.checkpoint
 checkpoint_in (Err class) = 0
 
+abbrev pub boot_in : Result Header Class → ℕ
+boot_in (Ok h) = h.boot
+boot_in (Err class) = 0
+
 -- the counters with one more reply
-abbrev pub with_reply : Counters → Result Header Class → Counters
-with_reply seen reply = record { ring_op = seen.ring_op; reply_top = max seen.reply_top (max (op_in reply) (mark_in reply)); checkpoint = max seen.checkpoint (checkpoint_in reply) }
+abbrev pub with_reply : ℕ → Counters → Result Header Class → Counters
+with_reply boot seen reply = record {
+  ring_op = seen.ring_op;
+  reply_top = max seen.reply_top (max (op_in boot reply) (mark_in boot reply));
+  checkpoint = max seen.checkpoint (checkpoint_in reply);
+  boot = max seen.boot (boot_in reply);
+}
 
 -- of the first k replies none has a greater number
 abbrev pub AreWithin : (Result Header Class → ℕ) → ℕ → ℕ → List (Result Header Class) → Type 0
 AreWithin number n k replies = (j : ℕ) (reply : Result Header Class) → j < k → slice_get replies j ≡ Some reply → number reply ≤ n
 
 -- the counters with the first k replies
-pub record CountsSome (start : Counters) (replies : List (Result Header Class)) (k : ℕ) (seen : Counters) : Type 0 where
+pub record CountsSome (current : ℕ) (start : Counters) (replies : List (Result Header Class)) (k : ℕ) (seen : Counters) : Type 0 where
   pub ring_op : seen.ring_op ≡ start.ring_op
   pub checkpoint : (n : ℕ) → (seen.checkpoint ≤ n) ↔ ((start.checkpoint ≤ n) × AreWithin checkpoint_in n k replies)
-  pub reply_top : (n : ℕ) → (seen.reply_top ≤ n) ↔ ((start.reply_top ≤ n) × AreWithin op_in n k replies × AreWithin mark_in n k replies)
+  pub boot : (n : ℕ) → (seen.boot ≤ n) ↔ ((start.boot ≤ n) × AreWithin boot_in n k replies)
+  pub reply_top : (n : ℕ) → (seen.reply_top ≤ n) ↔ ((start.reply_top ≤ n) × AreWithin (op_in current) n k replies × AreWithin (mark_in current) n k replies)
 
--- the greatest of a start and of the ops of the first k replies
-pub record IsGreatest (start : ℕ) (replies : List (Result Header Class)) (k top : ℕ) : Type 0 where
+-- the greatest of a start and of the ops of those of the first k replies that are of this boot
+pub record IsGreatest (boot start : ℕ) (replies : List (Result Header Class)) (k top : ℕ) : Type 0 where
   pub from : start ≤ top
-  pub each : AreWithin op_in top k replies
-  pub reached : (start ≡ top) ⊎ ((j : ℕ) × (h : Header) × (slice_get replies j ≡ Some (Ok h)) × (h.op ≡ top))
+  pub each : AreWithin (op_in boot) top k replies
+  pub reached : (start ≡ top) ⊎ ((j : ℕ) × (h : Header) × (slice_get replies j ≡ Some (Ok h)) × (h.op ≡ top) × (h.boot ≡ boot))

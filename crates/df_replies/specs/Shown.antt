@@ -30,10 +30,6 @@ pub record ShowsReplies (image : Units.Units) (replies : List (Result Header Cla
   pub each : (k : ℕ) (reply : Result Header Class) → slice_get replies k ≡ Some reply → ShowsReply (image (ReplyPlace k)) reply
   pub no_more : (k : ℕ) → length replies ≤ k → image (ReplyPlace k) ≡ None
 
--- each reply of the table is of this boot
-abbrev pub AreOfBoot : ℕ → List (Result Header Class) → Type 0
-AreOfBoot boot replies = (k : ℕ) (h : Header) → slice_get replies k ≡ Some (Ok h) → (header_of h).boot ≡ boot
-
 -- what was scanned is what the theory sees
 abbrev pub ScannedIsShown : Type 0
 ScannedIsShown =

@@ -8,7 +8,7 @@ use df_format::Header;
 use df_layout::Class;
 use df_sessions::{Session, SessionTable};
 
-/// A session whose reply is stored and not shown.
+/// A session whose reply is stored and not shown; of version 1, whose superblock names no reply.
 #[derive(Clone, Copy, Debug, PartialEq, Eq)]
 pub struct Lacking {
     /// The session's place.
@@ -17,13 +17,13 @@ pub struct Lacking {
     pub class: Class,
 }
 
-// The greatest of a start and of the ops of the replies.
-pub(crate) fn greatest_op(start: u64, replies: &[Result<Header, Class>]) -> u64
-    ensures { IsGreatest start replies.now (length replies.now) result }
+// The greatest of a start and of the ops of the replies of this boot.
+pub(crate) fn greatest_op(start: u64, replies: &[Result<Header, Class>], boot: u64) -> u64
+    ensures { IsGreatest boot start replies.now (length replies.now) result }
 {
     let mut top = start;
     for reply in replies {
-        top = top.max(op_in(reply));
+        top = top.max(op_in(reply, boot));
     }
     top
 }
@@ -35,13 +35,13 @@ fn is_of(session: &Session, header: &Header) -> bool
     header.client == session.client && header.request == session.request && header.op == session.op
 }
 
-// The class of a slot that doesn't show the reply to the session's last request.
-fn lacks(session: &Session, reply: &Result<Header, Class>) -> Option<Class>
-    ensures { TestsReply session.now reply.now result }
+// The class of a slot that doesn't show the reply of this boot to the session's last request.
+fn lacks(session: &Session, reply: &Result<Header, Class>, boot: u64) -> Option<Class>
+    ensures { TestsReply boot session.now reply.now result }
 {
     match reply {
         Ok(header) => {
-            if is_of(session, header) {
+            if is_of(session, header) && header.boot == boot {
                 None
             } else {
                 Some(Class::Stale)
@@ -52,11 +52,16 @@ fn lacks(session: &Session, reply: &Result<Header, Class>) -> Option<Class>
 }
 
 // The class of a slot that doesn't show the reply to a session's last request, where that reply is stored.
-fn lacks_stored(session: &Session, stored: u64, reply: &Result<Header, Class>) -> Option<Class>
-    ensures { TestsStored session.now stored reply.now result }
+fn lacks_stored(
+    session: &Session,
+    stored: u64,
+    reply: &Result<Header, Class>,
+    boot: u64,
+) -> Option<Class>
+    ensures { TestsStored boot session.now stored reply.now result }
 {
     if session.op <= stored {
-        lacks(session, reply)
+        lacks(session, reply, boot)
     } else {
         None
     }
@@ -67,14 +72,15 @@ pub(crate) fn first_lacking(
     sessions: &SessionTable,
     stored: u64,
     replies: &[Result<Header, Class>],
+    boot: u64,
 ) -> Option<Lacking>
     requires { sessions.now.max ≡ length replies.now }
-    ensures { LacksHere sessions.now.sessions stored replies.now result }
+    ensures { LacksHere boot sessions.now.sessions stored replies.now result }
 {
     let mut place = 0;
     while place < sessions.len() {
         let session = sessions.get(place)?;
-        if let Some(class) = lacks_stored(&session, stored, &replies[place as usize]) {
+        if let Some(class) = lacks_stored(&session, stored, &replies[place as usize], boot) {
             return Some(Lacking { place, class });
         }
         place += 1;

@@ -1,25 +1,25 @@
 // The greatest numbers of the replies that are shown.
 ghost use Rattle.std.specs.Prelude.{◌≡◌, length};
-ghost use Rattle.df_replies.specs.Counts.{CountsSome, checkpoint_in, mark_in, op_in, with_reply};
+ghost use Rattle.df_replies.specs.Counts.{CountsSome, boot_in, checkpoint_in, mark_in, op_in, with_reply};
 
 use df_format::Header;
 use df_layout::Class;
 use df_stamps::Counters;
 
-pub(crate) fn op_in(seen: &Result<Header, Class>) -> u64
-    ensures { result ≡ op_in seen.now }
+pub(crate) fn op_in(seen: &Result<Header, Class>, boot: u64) -> u64
+    ensures { result ≡ op_in boot seen.now }
 {
     match seen {
-        Ok(header) => header.op,
+        Ok(header) => { if header.boot == boot { header.op } else { 0 } }
         Err(_) => 0,
     }
 }
 
-fn mark_in(seen: &Result<Header, Class>) -> u64
-    ensures { result ≡ mark_in seen.now }
+fn mark_in(seen: &Result<Header, Class>, boot: u64) -> u64
+    ensures { result ≡ mark_in boot seen.now }
 {
     match seen {
-        Ok(header) => header.mark,
+        Ok(header) => { if header.boot == boot { header.mark } else { 0 } }
         Err(_) => 0,
     }
 }
@@ -33,24 +33,40 @@ fn checkpoint_in(seen: &Result<Header, Class>) -> u64
     }
 }
 
-// The counters with one more reply.
-fn with_reply(seen: &Counters, reply: &Result<Header, Class>) -> Counters
-    ensures { result ≡ with_reply seen.now reply.now }
+fn boot_in(seen: &Result<Header, Class>) -> u64
+    ensures { result ≡ boot_in seen.now }
+{
+    match seen {
+        Ok(header) => header.boot,
+        Err(_) => 0,
+    }
+}
+
+// The counters with one more reply: its op and its mark count in this boot alone.
+fn with_reply(seen: &Counters, reply: &Result<Header, Class>, boot: u64) -> Counters
+    ensures { result ≡ with_reply boot seen.now reply.now }
 {
     Counters {
         ring_op: seen.ring_op,
-        reply_top: seen.reply_top.max(op_in(reply).max(mark_in(reply))),
+        reply_top: seen
+            .reply_top
+            .max(op_in(reply, boot).max(mark_in(reply, boot))),
         checkpoint: seen.checkpoint.max(checkpoint_in(reply)),
+        boot: seen.boot.max(boot_in(reply)),
     }
 }
 
 // The counters with all of them.
-pub(crate) fn count_replies(start: &Counters, replies: &[Result<Header, Class>]) -> Counters
-    ensures { CountsSome start.now replies.now (length replies.now) result }
+pub(crate) fn count_replies(
+    start: &Counters,
+    replies: &[Result<Header, Class>],
+    boot: u64,
+) -> Counters
+    ensures { CountsSome boot start.now replies.now (length replies.now) result }
 {
     let mut seen = *start;
     for reply in replies {
-        seen = with_reply(&seen, reply);
+        seen = with_reply(&seen, reply, boot);
     }
     seen
 }

@@ -2,8 +2,8 @@
 ghost use Rattle.std.specs.Prelude.{◌≡◌, ◌↔◌, ◌<◌, ◌≤◌, List, ℕ, Some, Err, length, replicate, slice_get, IfOk, IfSome, OnOk};
 ghost use Rattle.df_replies.specs.Below.{HasCause, Blank, IsReplies, last_mark, Content, Message, Units};
 ghost use Rattle.df_replies.specs.Answers.{HasClass, Lacks, NamesNone};
-ghost use Rattle.df_replies.specs.Counts.{NoReplyIsAbove, NoReplyIsLater};
-ghost use Rattle.df_replies.specs.Shown.{AreOfBoot, IsScanned, ShowsReplies};
+ghost use Rattle.df_replies.specs.Counts.{RepliesWithin, in_boot};
+ghost use Rattle.df_replies.specs.Shown.{IsScanned, ShowsReplies};
 
 use crate::Lacking;
 use crate::answers::{first_lacking, greatest_op};
@@ -74,32 +74,37 @@ impl ReplyTable {
         scan_replies(disk, layout, cluster, &mut self.replies, room)
     }
 
-    /// The counters of the rings with those of the replies: none is above a number exactly where no reply is.
-    pub fn count(&self, rings: &Counters) -> Counters
+    /// The counters of the rings with those of the replies: none is above a number exactly where no reply is; the op and the mark
+    /// of a reply count in this boot alone.
+    pub fn count(&self, rings: &Counters, boot: u64) -> Counters
         ensures rings { result.ring_op ≡ rings.now.ring_op }
-        ensures behind { (image : Units) (c : Content) → ShowsReplies image self.now → AreOfBoot c.boot self.now
-            → (result.checkpoint ≤ c.sequence) ↔ ((rings.now.checkpoint ≤ c.sequence) × NoReplyIsLater image c) }
-        ensures lost { (image : Units) (c : Content) (head : ℕ) → ShowsReplies image self.now → AreOfBoot c.boot self.now
-            → (result.reply_top ≤ head) ↔ ((rings.now.reply_top ≤ head) × NoReplyIsAbove image c head) }
+        ensures checkpoint { (image : Units) (n : ℕ) → ShowsReplies image self.now
+            → (result.checkpoint ≤ n) ↔ ((rings.now.checkpoint ≤ n) × RepliesWithin image (λ h. h.checkpoint) n) }
+        ensures boot { (image : Units) (n : ℕ) → ShowsReplies image self.now
+            → (result.boot ≤ n) ↔ ((rings.now.boot ≤ n) × RepliesWithin image (λ h. h.boot) n) }
+        ensures top { (image : Units) (n : ℕ) → ShowsReplies image self.now
+            → (result.reply_top ≤ n) ↔ ((rings.now.reply_top ≤ n) × RepliesWithin image (in_boot boot (λ h. h.op)) n × RepliesWithin image (in_boot boot (λ h. h.mark)) n) }
     {
-        count_replies(rings, &self.replies)
+        count_replies(rings, &self.replies, boot)
     }
 
-    /// The number of replies: the greatest of the superblock's, the mark of the tail's last prepare, and the ops of the replies.
-    pub fn replies(&self, superblock: u64, mark: u64) -> u64
-        ensures { (image : Units) (c : Content) (tail : List Message) → ShowsReplies image self.now → AreOfBoot c.boot self.now → c.replies ≡ superblock → last_mark 0 tail ≡ mark
+    /// The number of replies: the greatest of the superblock's, the mark of the tail's last prepare, and the ops of the replies of
+    /// this boot.
+    pub fn replies(&self, superblock: u64, mark: u64, boot: u64) -> u64
+        ensures { (image : Units) (c : Content) (tail : List Message) → ShowsReplies image self.now → c.boot ≡ boot → c.replies ≡ superblock → last_mark 0 tail ≡ mark
             → IsReplies image c tail result }
     {
-        greatest_op(superblock.max(mark), &self.replies)
+        greatest_op(superblock.max(mark), &self.replies, boot)
     }
 
-    /// The first session, by place, whose op is at most `stored` and whose slot doesn't show the reply to its last request.
-    pub fn first_lacking(&self, sessions: &SessionTable, stored: u64) -> Option<Lacking>
+    /// The first session, by place, whose op is at most `stored` and whose slot doesn't show the reply of this boot to its last
+    /// request.
+    pub fn first_lacking(&self, sessions: &SessionTable, stored: u64, boot: u64) -> Option<Lacking>
         requires { sessions.now.max ≡ length self.now }
-        ensures lacks { (image : Units) (c : Content) → ShowsReplies image self.now → AreOfBoot c.boot self.now → NamesNone c → Lacks image c sessions.now.sessions stored result }
+        ensures lacks { (image : Units) (c : Content) → ShowsReplies image self.now → c.boot ≡ boot → NamesNone c → Lacks image c sessions.now.sessions stored result }
         ensures class { IfSome result (HasClass self.now) }
         ensures within { IfSome result (λ lacking. lacking.place < length self.now) }
     {
-        first_lacking(sessions, stored, &self.replies)
+        first_lacking(sessions, stored, &self.replies, boot)
     }
 }

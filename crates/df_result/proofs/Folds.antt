@@ -38,7 +38,7 @@ module _ (file : DataFile) (m : Memory) where
   given_small : (c : Command) → IsChecksum (checksum_given (codec file) m c)
   given_small (Append client request body) = small (prepare_header file (prepare_of m 0 client request body).header) body
   given_small (Reply op body) = small (reply_header file (place_of_reply m) (reply_of m 0 body).header) body
-  given_small (WriteBlock kind body) = small (block_header file (next_address m) (block_of 0 kind body)) body
+  given_small (WriteBlock kind body) = small (block_header file (next_address m) (block_of m.content.boot 0 kind body)) body
   given_small (Release address) = omega arith
   given_small (Begin root) = omega arith
   given_small Advance = step_small m.running

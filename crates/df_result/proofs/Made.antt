@@ -55,7 +55,7 @@ module _ (file : DataFile) (m : Memory) (sum : ℕ) (before after : Image) where
   block_sum : (kind : ℕ) (body : List ℕ) → LeavesShown file m sum (WriteBlock kind body) before after → IsSum (codec file) m sum (WriteBlock kind body)
   block_sum kind body leaves none =
       let a = next_address m in
-      let b : Block = block_of sum kind body in
+      let b : Block = block_of m.content.boot sum kind body in
       units_have_sums file after (BlockPlace a) (BlockUnit b) leaves.whole
       (put_there (puts_of m sum (WriteBlock kind body)) (BlockPlace a) (BlockUnit b) (leaves.units.block a) (unless_put (first_refusal (block_refusals m kind body)) (BlockPlace a) (BlockUnit b) none))
 

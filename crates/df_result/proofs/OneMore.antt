@@ -1,5 +1,5 @@
 -- A call answers and leaves what the machine does over what is shown.
-use Rattle.std.proofs.Common.{◌≡◌, ℕ, Option, Some, None, refl, sym, ◌∙◌, ap, subst}
+use Rattle.std.proofs.Common.{◌≡◌, inl, ℕ, Option, Some, None, refl, sym, ◌∙◌, ap, subst}
 use Rattle.df_base.specs.Image.{Image, IsImage}
 use Rattle.df_disk.specs.Told.{Told}
 use Rattle.df_theory.specs.Units.{AnyUnit, BlockPlace, CopyPlace, HeaderPlace, Place, PreparePlace, ReplyPlace, Units, or_else, overlay}
@@ -10,8 +10,7 @@ use Rattle.df_model.specs.Commands.{Advance, Answer, Append, Begin, Command, Giv
 use Rattle.df_model.specs.Memory.{Memory, memory_of}
 use Rattle.df_model.specs.Supply.{Shown, checksum_given, next as over, puts_of, shown_after}
 use Rattle.df_model.specs.Work.{Work}
-use Rattle.df_rooms.specs.State.{course_in}
-use Rattle.df_replica.specs.Below.{RunningState, DataFile, State, memory, shape, spelling, told_after}
+use Rattle.df_replica.specs.Below.{RunningState, DataFile, State, course_in, memory, shape, spelling, told_after}
 use Rattle.df_replica.specs.Leaving.{IsReadPlace, LeavesShown, image_after}
 use Rattle.df_replica.specs.Reading.{shown_of}
 use Rattle.df_replica.specs.Serving.{Firm, IsCall, Keeps, next}
@@ -103,7 +102,7 @@ supplied_is_result s w t command given rep supplied sum =
 of_file : (s : State) (w : Work) → Keeps Firm s w None → IsOfFile s.file (memory s).content
 of_file s w k =
     let tests : PassesTests (shape s.file) (memory s).content = subst (PassesTests (shape s.file)) (sym (ap (λ (m : Memory). m.content) k.1)) k.0.view.checkpoint.tests in
-    record { version = tests.version; layout = tests.layout; cluster = tests.cluster; rest = tests.rest }
+    record { version = inl (tests.version, (tests.of.one tests.version).0); layout = tests.layout; cluster = tests.cluster; rest = tests.rest }
 
 module _ (given : Given) (command : Command) (s u : State) (t : Told) (new : Option Told) (answer : Answer) (w : Work) (shown : Shown) (call : IsCall given command s u (Some t) new (Some answer)) (k : Keeps Firm s w None)
     (whole : IsImage t.shown) (agree : AgreeShown s.file.layout (shown_of s.file t.shown) shown) where

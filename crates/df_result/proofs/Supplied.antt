@@ -31,7 +31,7 @@ module _ (codec : Codec) (m : Memory) (sum : ℕ) where
   puts_are (Reply op body) is =
       by_refusal (λ (o : Option ReplyError) (n : ℕ). unless o (put_one (ReplyPlace (place_of_reply m)) (ReplyUnit (reply_of m n body)))) (first_refusal (reply_refusals m op body)) sum (checksum_given codec m (Reply op body)) (λ e. refl) is
   puts_are (WriteBlock kind body) is =
-      by_refusal (λ (o : Option BlockError) (n : ℕ). unless o (put_one (BlockPlace (next_address m)) (BlockUnit (block_of n kind body)))) (first_refusal (block_refusals m kind body)) sum (checksum_given codec m (WriteBlock kind body)) (λ e. refl) is
+      by_refusal (λ (o : Option BlockError) (n : ℕ). unless o (put_one (BlockPlace (next_address m)) (BlockUnit (block_of m.content.boot n kind body)))) (first_refusal (block_refusals m kind body)) sum (checksum_given codec m (WriteBlock kind body)) (λ e. refl) is
   puts_are (Release address) is = refl
   puts_are (Begin root) is = refl
   puts_are Advance is = ap (step_puts m m.running) is

@@ -7,8 +7,7 @@ use Rattle.df_model.specs.Memory.{memory_of}
 use Rattle.df_model.specs.Sense.{IsWork}
 use Rattle.df_model.specs.Supply.{Shown, next as over, result, shown_after}
 use Rattle.df_model.specs.Work.{Work}
-use Rattle.df_rooms.specs.State.{Represents}
-use Rattle.df_replica.specs.Below.{DataFile, State, memory, shape, spelling, told_after}
+use Rattle.df_replica.specs.Below.{DataFile, Represents, State, memory, shape, spelling, told_after}
 use Rattle.df_replica.specs.Reading.{shown_of}
 use Rattle.df_replica.specs.Serving.{Firm, IsCall, Keeps, next}
 use Rattle.df_replica.specs.Supply.{IsSupplied}

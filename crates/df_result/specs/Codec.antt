@@ -1,6 +1,6 @@
 -- The checksum that each unit of a file gets, as a function of what it says in the words of the theory and of its place: the header, or the superblock, that has these
 -- words is built and sealed as the maker of a unit does. It is the dictionary of units and bytes, read the other way.
-use Rattle.std.specs.Prelude.{◌≡◌, ◌%◌, ◌==◌, ℕ, if◌then◌else◌, List, Some, None, slice_index}
+use Rattle.std.specs.Prelude.{◌≡◌, ◌⊎◌, ◌%◌, ◌==◌, ℕ, if◌then◌else◌, List, map, Some, slice_index}
 use Rattle.df_base.specs.Fields.{spelled}
 use Rattle.df_base.specs.Image.{Image, IsImage}
 use Rattle.df_format.specs.declared.header.Header.{Header}
@@ -9,17 +9,22 @@ use Rattle.df_format.specs.declared.superblock.SuperFields.{SuperFields}
 use Rattle.df_format.specs.Copies.{content_with}
 use Rattle.df_format.specs.First.{blank_super}
 use Rattle.df_format.specs.Making.{blank_header, for_body}
-use Rattle.df_format.specs.Spelling.{sealed}
+use Rattle.df_format.specs.Spelling.{no_checksum, sealed}
+use Rattle.df_format.specs.Super.{no_checksums}
 use Rattle.df_theory.specs.Units
 use Rattle.df_theory.specs.Units.{AnyUnit, BlockPlace, BlockUnit, CopyPlace, CopyUnit, Place, PreparePlace, PrepareUnit, ReplyPlace, ReplyUnit}
 use Rattle.df_units.specs.Bytes.{unit_at}
 use Rattle.df_units.specs.Meaning.{layout_of, number_of}
 use Rattle.df_model.specs.Supply.{Codec}
-use Rattle.df_replica.specs.Below.{DataFile, spelling}
+use Rattle.df_replica.specs.Below.{DataFile, spelling, version_in}
 
 -- ---- what is made of the words of the theory
 
--- the header of a prepare, in the slot of its op; what follows from the body, and the checksum, come as it is sealed
+-- version 1 names no group
+abbrev pub group_in : (boot op : ℕ) → ℕ
+group_in boot op = if boot == 0 then 0 else op
+
+-- the header of a prepare, in the slot of its op, of version 1 where no boot made it and else of version 2; what follows from the body, and the checksum, come as it is sealed
 abbrev pub prepare_header : DataFile → Units.Header → Header
 prepare_header file h = record (blank_header Prepare file.cluster) {
   parent = spelled 16 h.parent;
@@ -29,6 +34,10 @@ prepare_header file h = record (blank_header Prepare file.cluster) {
   mark = h.mark;
   checkpoint = h.checkpoint;
   slot = h.op % file.layout.slots;
+  version = version_in h.boot;
+  boot = h.boot;
+  group = group_in h.boot h.group;
+  group_last = group_in h.boot h.group_last;
 }
 
 -- of a reply, at a session's place
@@ -41,6 +50,8 @@ reply_header file place h = record (blank_header Reply file.cluster) {
   mark = h.mark;
   checkpoint = h.checkpoint;
   slot = place;
+  version = version_in h.boot;
+  boot = h.boot;
 }
 
 -- of a trailer's block, at an address
@@ -51,15 +62,18 @@ trailer_header file address b = record (blank_header Trailer file.cluster) {
   request = b.before;
   mark = b.index;
   checkpoint = b.sequence;
+  version = version_in b.boot;
+  boot = b.boot;
 }
 
 -- of any block, at an address: one of kind 0 is a trailer's
 abbrev pub block_header : DataFile → (address : ℕ) → Units.Block → Header
-block_header file address b = if b.kind == 0 then trailer_header file address b else record (blank_header Block file.cluster) { op = address; block_kind = b.kind }
+block_header file address b = if b.kind == 0 then trailer_header file address b else record (blank_header Block file.cluster) { op = address; block_kind = b.kind; version = version_in b.boot; boot = b.boot }
 
--- the fields of a superblock of the file
+-- the fields of a superblock of the file: version 1 names nothing, and version 2 the prepare of the head, which is its pin, and replies
 abbrev pub fields_of : DataFile → Units.Content → SuperFields
 fields_of file c = record (blank_super file.layout file.cluster) {
+  version = c.version;
   sequence = c.sequence;
   op = c.op;
   op_checksum = spelled 16 c.op_checksum;
@@ -68,6 +82,9 @@ fields_of file c = record (blank_super file.layout file.cluster) {
   trailer_address = c.trailer;
   trailer_checksum = spelled 16 c.trailer_checksum;
   trailer_size = c.trailer_size;
+  boot = c.boot;
+  head_checksum = if c.version == 2 then spelled 16 c.pin_checksum else no_checksum;
+  reply_checksums = if c.version == 2 then map (spelled 16) c.reply_checksums else no_checksums;
 }
 
 -- the checksum of the unit that is made of a header and a body
@@ -86,9 +103,9 @@ codec file = record {
 
 -- ---- and so it is with what is shown
 
--- a superblock of the file: of version 1, with its layout and cluster, and zeros behind its fields
+-- a superblock of the file: of version 1, which has no boot, or of version 2, with its layout and cluster, and zeros where the version has no fields
 pub record IsOfFile (file : DataFile) (c : Units.Content) : Type 0 where
-  pub version : c.version ≡ 1
+  pub version : ((c.version ≡ 1) × (c.boot ≡ 0)) ⊎ (c.version ≡ 2)
   pub layout : c.layout ≡ layout_of file.layout
   pub cluster : c.cluster ≡ file.cluster
   pub rest : (i : ℕ) → slice_index c.rest i ≡ 0

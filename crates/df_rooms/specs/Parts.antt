@@ -25,12 +25,13 @@ state_in p = record {
   live = p.live;
 }
 
--- it makes sense, the grid is of the file's cluster, and all rooms are of the file's layout
+-- it makes sense, the grid is of the file's cluster and no boot is set, and all rooms are of the file's layout
 pub record AreWhole (p : Parts) : Type 0 where
   pub state : IsState (state_in p)
   pub rooms_fit : p.rooms.layout ≡ p.file.layout
   pub grid_fits : p.grid.layout ≡ p.file.layout
   pub grid_named : p.grid.cluster ≡ p.file.cluster
+  pub grid_unbooted : p.grid.boot ≡ 0
   pub trailer_fits : p.trailer.layout ≡ p.file.layout
   pub scrub_fits : p.scrub.layout ≡ p.file.layout
 

@@ -3,6 +3,7 @@ use Rattle.std.specs.Prelude.{◌≡◌, ◌<◌, ◌≤◌, ◌+◌, ◌-◌, �
 use Rattle.std.specs.List.{range_with_len}
 use Rattle.df_format.specs.Copies.{content_with}
 use Rattle.df_format.specs.Spelling.{IsCheck, no_checksum}
+use Rattle.df_format.specs.Super.{no_checksums}
 use Rattle.df_format.specs.declared.header.Header.{Header}
 use Rattle.df_format.specs.declared.superblock.SuperFields.{SuperFields}
 use Rattle.df_layout.specs.declared.damage.Finding.{Finding}
@@ -121,9 +122,9 @@ shape file = shape_of file.layout file.cluster file.named (parse_of (layout_of f
 abbrev pub Represents : State → Work → Type 0
 Represents s w = memory s ≡ memory_of (shape s.file) (spelling s.file) w
 
--- the grid of the file with these blocks
+-- the grid of the file with these blocks; no boot is set, so its trailer blocks are of version 1
 abbrev pub grid_with : DataFile → Blocks → GridState
-grid_with file b = record { layout = file.layout; cluster = file.cluster; blocks = b }
+grid_with file b = record { layout = file.layout; cluster = file.cluster; boot = 0; blocks = b }
 
 -- ---- by itself
 
@@ -152,10 +153,19 @@ abbrev pub IsCourse : DataFile → SuperFields → (head : ℕ) → Blocks → O
 IsCourse file f head b None = IsIdle b
 IsCourse file f head b (Some r) = IsRunning file f head b r
 
+-- a superblock of version 1: it has no boot, and names neither the head's prepare nor a reply
+pub record IsPlain (f : SuperFields) : Type 0 where
+  pub version : f.version ≡ 1
+  pub boot : f.boot ≡ 0
+  pub head_checksum : f.head_checksum ≡ no_checksum
+  pub reply_checksums : f.reply_checksums ≡ no_checksums
+  pub first_nonzero : f.first_nonzero ≡ None
+
 -- the state makes sense by itself: its numbers are in their ranges, and the header ring is one of the file
 pub record IsState (s : State) : Type 0 where
   pub cluster : s.file.cluster < 2 ^ 128
   pub parent : IsCheck s.head_checksum
+  pub plain : IsPlain s.fields
   pub sequence : (0 < s.fields.sequence) × (s.fields.sequence ≤ 2 ^ 62)
   pub root : length s.root ≤ 1024
   pub order : s.fields.op ≤ s.head

@@ -105,7 +105,7 @@ impl GridRooms {
     /// The grid of a file of this cluster in which no address is held, whatever the rooms served before.
     pub fn into_grid(self, cluster: u128) -> Grid
         requires { 0 < cluster }
-        ensures { result ≡ record { layout = self.layout; cluster = cluster; blocks = no_blocks } }
+        ensures { result ≡ record { layout = self.layout; cluster = cluster; boot = 0; blocks = no_blocks } }
     {
         let GridRooms {
             layout,

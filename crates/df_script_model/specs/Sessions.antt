@@ -151,7 +151,7 @@ with_blocks sh n = record (first_work sh) { live = λ a. if is_among n a then So
 
 -- and what is shown there
 abbrev pub with_units : ℕ → Units
-with_units n (BlockPlace a) = if is_among n a then Some (BlockUnit (block_of 3000 1 [])) else None
+with_units n (BlockPlace a) = if is_among n a then Some (BlockUnit (block_of 0 3000 1 [])) else None
 with_units n place = None
 
 -- n lines that write a block, on a file that was just made: each is answered with the least address that isn't held, which is the next number, and they lead to the state with n live blocks

@@ -1,11 +1,14 @@
 -- What follows from a call that is exact: what the disk then tells, whether a checkpoint runs behind it, and what its answer is in the machine's words.
-use Rattle.std.proofs.Common.{◌≡◌, ℕ, Bool, List, [], ◌∷◌, Option, Some, None, refl, sym, ap, subst, Result, Ok, Err}
+use Rattle.std.proofs.Common.{◌≡◌, ◌≢◌, ℕ, Bool, List, [], ◌∷◌, Option, Some, None, refl, sym, ap, subst, Result, Ok, Err}
 use Rattle.df_base.specs.Log.{Event}
 use Rattle.df_base.specs.Causes.{Blamed, IsBlamed}
 use Rattle.df_disk.specs.Adds.{AddsPart, after_all}
 use Rattle.df_disk.specs.Told.{Told}
+use Rattle.df_disk.proofs.Laws.{all_is_part}
 use Rattle.df_format.specs.declared.reference.Reference.{Reference}
 use Rattle.df_model.specs.Called.{command_of}
+use Rattle.df_model.specs.Changing.{unless_refused}
+use Rattle.df_model.specs.Refusals.{append_refusals, block_refusals, first_refusal, reply_refusals}
 use Rattle.df_layout.specs.declared.damage.Class.{Class}
 use Rattle.df_layout.specs.declared.places.Place.{Place}
 use Rattle.df_model.specs.Commands.{Advance, Append, Begin, Command, ForAdvance, ForAppend, ForBegin, ForRelease, ForReply, ForWriteBlock, ReadBlock, ReadPrepare, ReadReply, Recent, Release, Reply, Scrub, WriteBlock}
@@ -28,32 +31,23 @@ use Rattle.df_model.specs.declared.errors.StepError.TheVariants as step
 use Rattle.df_result.specs.Answering.{Serves, begin_answer, release_answer}
 use Rattle.df_result.specs.Appending.{IsAppend, append_events, next_unit}
 use Rattle.df_result.specs.Beginning.{IsBegin}
-use Rattle.df_result.specs.Below.{RunningState, State as Replica}
+use Rattle.df_result.specs.Below.{RunningState, State as Replica, memory}
 use Rattle.df_result.specs.Blocks.{IsRelease, IsWriteBlock, block_events, next_block}
-use Rattle.df_result.specs.Opened.{ToldBy}
 use Rattle.df_result.specs.Replying.{IsReply, next_reply, reply_events}
-use Rattle.df_result.specs.Stepping.{IsStep, OfRunning, Tells, block_events as piece_events, last_events, made_by, step_events}
+use Rattle.df_result.specs.Stepping.{IsStep, OfRunning, Tells, block_events as piece_events, events_for, last_events, made_by, step_events}
 use Rattle.df_units.specs.Meaning.{number_of}
 use Rattle.df_model.specs.Faults.{is_append_fault, is_block_fault, is_reply_fault, is_step_fault}
 use Rattle.df_session.specs.Calls.{IsExact, LendsNothing, blames, is_fault, machine_answer}
 use Rattle.df_session.specs.Endings.{IsDamaged}
 use Rattle.df_session.specs.Links.{Makes}
-use Rattle.df_session.proofs.Joins.{made, part_told}
+use Rattle.df_session.specs.Own.{AddsOwn, running_events}
+use Rattle.df_session.proofs.Joins.{adds_none, made}
 
 -- ---- a running checkpoint
 
 untold : (told : Option Told) → (Tells told → ⊥) → told ≡ None
 untold None hides = refl
 untold (Some t) hides = absurd (hides tt)
-
--- the events of a running checkpoint, all of them or a part
-told_all : (old new : Option Told) (running : Option RunningState) (events : RunningState → List Event) → OfRunning running (λ r. new ≡ after_all (events r) old) → ToldBy old new
-told_all old new None events is = absurd is
-told_all old new (Some r) events is = (events r, is)
-
-told_part : (old new : Option Told) (running : Option RunningState) (events : RunningState → List Event) → OfRunning running (λ r. AddsPart (events r) old new) → ToldBy old new
-told_part old new None events is = absurd is
-told_part old new (Some r) events is = part_told (events r) old new is
 
 pub on_running : {P Q : RunningState → Type 0} (running : Option RunningState) → ((r : RunningState) → P r → Q r) → OfRunning running P → OfRunning running Q
 on_running None f is = absurd is
@@ -63,48 +57,107 @@ never : {A : Type 0} (running : Option RunningState) → OfRunning running (λ r
 never None is = absurd is
 never (Some r) is = is
 
--- ---- what the disk tells behind a call, and that a running checkpoint stays
+-- ---- what a call asks of the disk, and that a running checkpoint stays
 
-abbrev pub Moves : (s t : Replica) → (old new : Option Told) → Type 0
-Moves s t old new = ToldBy old new × (t.running ≡ s.running)
+-- a command that may be refused: it wasn't, and all was asked for, or the first of it; or it was, and nothing was
+module _ {E : Type 0} (es : List Event) (old new : Option Told) (o : Option E) where
+  all_own : o ≡ None → new ≡ after_all es old → new ≡ after_all (unless_refused o [] es) old
+  all_own may is = subst (λ (x : Option E). new ≡ after_all (unless_refused x [] es) old) (sym may) is
+
+  part_own : o ≡ None → AddsPart es old new → AddsPart (unless_refused o [] es) old new
+  part_own may is = subst (λ (x : Option E). AddsPart (unless_refused x [] es) old new) (sym may) is
+
+  none_own : (e : E) → o ≡ Some e → new ≡ old → new ≡ after_all (unless_refused o [] es) old
+  none_own e refused same = subst (λ (x : Option E). new ≡ after_all (unless_refused x [] es) old) (sym refused) same
+
+-- a step: a trailer's block is next, or the superblock
+module _ (s : Replica) (old new : Option Told) where
+  block_step : (r : RunningState) (left : List ℕ) → left ≢ [] → new ≡ after_all (piece_events s r) old → new ≡ after_all (events_for s r left) old
+  block_step r [] some is = absurd (some refl)
+  block_step r (a ∷ more) some is = is
+
+  last_step : (r : RunningState) (left : List ℕ) → left ≡ [] → new ≡ after_all (last_events s r) old → new ≡ after_all (events_for s r left) old
+  last_step r left none is = subst (λ (l : List ℕ). new ≡ after_all (events_for s r l) old) (sym none) is
+
+  all_steps : (running : Option RunningState) → OfRunning running (λ r. new ≡ after_all (step_events s r) old) → new ≡ after_all (running_events s running) old
+  all_steps None is = absurd is
+  all_steps (Some r) is = is
+
+  part_steps : (running : Option RunningState) → OfRunning running (λ r. AddsPart (step_events s r) old new) → AddsPart (running_events s running) old new
+  part_steps None is = absurd is
+  part_steps (Some r) is = is
+
+abbrev pub Moves : Command → (s t : Replica) → (old new : Option Told) → Answer → Type 0
+Moves command s t old new answer = AddsOwn command s old new (machine_answer answer) × (t.running ≡ s.running)
 
 module _ (s t : Replica) (old new : Option Told) where
-  stands : t ≡ s → new ≡ old → Moves s t old new
-  stands same still = (([], still), ap (λ (r : Replica). r.running) same)
+  stays : t ≡ s → t.running ≡ s.running
+  stays same = ap (λ (r : Replica). r.running) same
 
-  pub append_moves : (client request : ℕ) (body : List ℕ) (r : Result Receipt AppendError) → IsAppend client request body s t old new r → Moves s t old new
-  append_moves client request body (Ok x) is = ((append_events s (next_unit s client request body), is.3), ap (λ (r : Replica). r.running) is.2)
-  append_moves client request body (Err append.DiskFault) is = (part_told (append_events s (next_unit s client request body)) old new is.2, ap (λ (r : Replica). r.running) is.1)
-  append_moves client request body (Err append.ClientZero) is = stands is.1 is.2
-  append_moves client request body (Err (append.BodyTooLong a)) is = stands is.1 is.2
-  append_moves client request body (Err (append.ClientsFull a)) is = stands is.1 is.2
-  append_moves client request body (Err (append.Repeated a)) is = stands is.1 is.2
-  append_moves client request body (Err (append.ReplyPending a)) is = stands is.1 is.2
-  append_moves client request body (Err (append.RequestOrder a)) is = stands is.1 is.2
-  append_moves client request body (Err (append.PipelineFull a)) is = stands is.1 is.2
-  append_moves client request body (Err (append.WalFull a b)) is = stands is.1 is.2
-  append_moves client request body (Err append.OpsSpent) is = stands is.1 is.2
+  module _ (client request : ℕ) (body : List ℕ) where
+    abbrev appends : List Event
+    appends = append_events s (next_unit s client request body)
 
-  pub reply_moves : (op : ℕ) (body : List ℕ) (r : Result (List ℕ) ReplyError) → IsReply op body s t old new r → Moves s t old new
-  reply_moves op body (Ok x) is = ((reply_events s (next_reply s body), is.3), ap (λ (r : Replica). r.running) is.2)
-  reply_moves op body (Err reply.DiskFault) is = (part_told (reply_events s (next_reply s body)) old new is.2, ap (λ (r : Replica). r.running) is.1)
-  reply_moves op body (Err (reply.NothingPending a)) is = stands is.1 is.2
-  reply_moves op body (Err (reply.ReplyOrder a)) is = stands is.1 is.2
-  reply_moves op body (Err (reply.BodyTooLong a)) is = stands is.1 is.2
+    abbrev no_append : Option AppendError
+    no_append = first_refusal (append_refusals (memory s) client request body)
 
-  pub write_moves : (kind : ℕ) (body : List ℕ) (r : Result Reference BlockError) → IsWriteBlock kind body s t old new r → Moves s t old new
-  write_moves kind body (Ok x) is = ((block_events s (next_block s kind body), is.3), ap (λ (r : Replica). r.running) is.2)
-  write_moves kind body (Err block.DiskFault) is = (part_told (block_events s (next_block s kind body)) old new is.2, ap (λ (r : Replica). r.running) is.1)
-  write_moves kind body (Err block.KindZero) is = stands is.1 is.2
-  write_moves kind body (Err (block.BodyTooLong a)) is = stands is.1 is.2
-  write_moves kind body (Err (block.GridFull a)) is = stands is.1 is.2
+    append_refused : (e : AppendError) → (no_append ≡ Some e) × (t ≡ s) × (new ≡ old) → (new ≡ after_all (unless_refused no_append [] appends) old) × (t.running ≡ s.running)
+    append_refused e is = (none_own appends old new no_append e is.0 is.2, stays is.1)
 
-  step_told : (r : Result Progress StepError) → IsStep s t old new r → ToldBy old new
-  step_told (Ok (Working left)) is = told_all old new s.running (piece_events s) (on_running s.running (λ r i. i.3) is)
-  step_told (Ok (Done sequence)) is = told_all old new s.running (last_events s) (on_running s.running (λ r i. i.3) is)
-  step_told (Err step.NotRunning) is = ([], is.2)
-  step_told (Err (step.Damaged place class)) is = told_all old new s.running (last_events s) (on_running s.running (λ r i. i.2) is)
-  step_told (Err step.DiskFault) is = told_part old new s.running (step_events s) (on_running s.running (λ r i. i.1) is)
+    pub append_moves : (r : Result Receipt AppendError) → IsAppend client request body s t old new r → Moves (Append client request body) s t old new (answers.Append r)
+    append_moves (Ok x) is = (all_own appends old new no_append is.0 is.3, ap (λ (r : Replica). r.running) is.2)
+    append_moves (Err append.DiskFault) is = (part_own appends old new no_append is.0 is.2, ap (λ (r : Replica). r.running) is.1)
+    append_moves (Err append.ClientZero) is = append_refused append.ClientZero is
+    append_moves (Err (append.BodyTooLong a)) is = append_refused (append.BodyTooLong a) is
+    append_moves (Err (append.ClientsFull a)) is = append_refused (append.ClientsFull a) is
+    append_moves (Err (append.Repeated a)) is = append_refused (append.Repeated a) is
+    append_moves (Err (append.ReplyPending a)) is = append_refused (append.ReplyPending a) is
+    append_moves (Err (append.RequestOrder a)) is = append_refused (append.RequestOrder a) is
+    append_moves (Err (append.PipelineFull a)) is = append_refused (append.PipelineFull a) is
+    append_moves (Err (append.WalFull a b)) is = append_refused (append.WalFull a b) is
+    append_moves (Err append.OpsSpent) is = append_refused append.OpsSpent is
+
+  module _ (op : ℕ) (body : List ℕ) where
+    abbrev replies : List Event
+    replies = reply_events s (next_reply s body)
+
+    abbrev no_reply : Option ReplyError
+    no_reply = first_refusal (reply_refusals (memory s) op body)
+
+    reply_refused : (e : ReplyError) → (no_reply ≡ Some e) × (t ≡ s) × (new ≡ old) → (new ≡ after_all (unless_refused no_reply [] replies) old) × (t.running ≡ s.running)
+    reply_refused e is = (none_own replies old new no_reply e is.0 is.2, stays is.1)
+
+    pub reply_moves : (r : Result (List ℕ) ReplyError) → IsReply op body s t old new r → Moves (Reply op body) s t old new (answers.Reply r)
+    reply_moves (Ok x) is = (all_own replies old new no_reply is.0 is.3, ap (λ (r : Replica). r.running) is.2)
+    reply_moves (Err reply.DiskFault) is = (part_own replies old new no_reply is.0 is.2, ap (λ (r : Replica). r.running) is.1)
+    reply_moves (Err (reply.NothingPending a)) is = reply_refused (reply.NothingPending a) is
+    reply_moves (Err (reply.ReplyOrder a)) is = reply_refused (reply.ReplyOrder a) is
+    reply_moves (Err (reply.BodyTooLong a)) is = reply_refused (reply.BodyTooLong a) is
+
+  module _ (kind : ℕ) (body : List ℕ) where
+    abbrev writes : List Event
+    writes = block_events s (next_block s kind body)
+
+    abbrev no_write : Option BlockError
+    no_write = first_refusal (block_refusals (memory s) kind body)
+
+    write_refused : (e : BlockError) → (no_write ≡ Some e) × (t ≡ s) × (new ≡ old) → (new ≡ after_all (unless_refused no_write [] writes) old) × (t.running ≡ s.running)
+    write_refused e is = (none_own writes old new no_write e is.0 is.2, stays is.1)
+
+    pub write_moves : (r : Result Reference BlockError) → IsWriteBlock kind body s t old new r → Moves (WriteBlock kind body) s t old new (answers.WriteBlock r)
+    write_moves (Ok x) is = (all_own writes old new no_write is.0 is.3, ap (λ (r : Replica). r.running) is.2)
+    write_moves (Err block.DiskFault) is = (part_own writes old new no_write is.0 is.2, ap (λ (r : Replica). r.running) is.1)
+    write_moves (Err block.KindZero) is = write_refused block.KindZero is
+    write_moves (Err (block.BodyTooLong a)) is = write_refused (block.BodyTooLong a) is
+    write_moves (Err (block.GridFull a)) is = write_refused (block.GridFull a) is
+
+  step_own : (r : Result Progress StepError) → IsStep s t old new r → AddsOwn Advance s old new (machine_answer (answers.Advance r))
+  step_own (Ok (Working left)) is = all_steps s old new s.running (on_running s.running (λ r i. block_step s old new r s.blocks.left i.0 i.3) is)
+  step_own (Ok (Done sequence)) is = all_steps s old new s.running (on_running s.running (λ r i. last_step s old new r s.blocks.left i.0 i.3) is)
+  step_own (Err step.NotRunning) is = subst (λ (o : Option RunningState). new ≡ after_all (running_events s o) old) (sym is.0) is.2
+  step_own (Err (step.Damaged place class)) is =
+      part_steps s old new s.running (on_running s.running (λ r i. all_is_part (step_events s r) old new (last_step s old new r s.blocks.left i.0 i.2)) is)
+  step_own (Err step.DiskFault) is = part_steps s old new s.running (on_running s.running (λ r i. i.1) is)
 
 -- ---- what a call comes to
 
@@ -157,7 +210,7 @@ module _ (s t : Replica) (old new : Option Told) (before now : ℕ) where
     exact = (r, refl, is);
     makes =
         made Advance (ForAdvance (made_by s s.running ∷ [])) s t old new (machine_answer (answers.Advance r)) refl serves
-        (step_told s t old new r is);
+        (step_own s t old new r is);
     cause = cause_of is_step_fault before now r blamed;
   }
 
@@ -166,14 +219,14 @@ module _ (s t : Replica) (told : Option Told) (faults : ℕ) where
   pub release_called : (address : ℕ) (r : Result (Unit {0}) NotLive) → IsRelease address s t r → Serves (Release address) s t told told (release_answer r) → Called (Release address) s t told told faults faults (answers.Release r)
   release_called address r is serves = record {
     exact = (r, refl, is, refl);
-    makes = made (Release address) ForRelease s t told told (machine_answer (answers.Release r)) refl serves ([], refl);
+    makes = made (Release address) ForRelease s t told told (machine_answer (answers.Release r)) refl serves (adds_none (Release address) s told told (release_answer r) refl refl);
     cause = refl;
   }
 
   pub begin_called : (root : List ℕ) (r : Result ℕ BeginError) → IsBegin root s t r → Serves (Begin root) s t told told (begin_answer r) → Called (Begin root) s t told told faults faults (answers.Begin r)
   begin_called root r is serves = record {
     exact = (r, refl, is, refl);
-    makes = made (Begin root) ForBegin s t told told (machine_answer (answers.Begin r)) refl serves ([], refl);
+    makes = made (Begin root) ForBegin s t told told (machine_answer (answers.Begin r)) refl serves refl;
     cause = refl;
   }
 

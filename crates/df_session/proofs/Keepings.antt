@@ -19,6 +19,7 @@ calls_keep t s mended found to new acts answers failed calls whole live is_opene
       answers_alone Firm (opened (shape s.file) (unit_at s.file.layout s.file.cluster t.shown) view) s to mended new acts answers failed live (found_keeps s t.shown view whole is_opened is) calls;
   result = λ view shown is agree.
       opened_answers s t mended found whole (opened (shape s.file) (unit_at s.file.layout s.file.cluster t.shown) view) (found_keeps s t.shown view whole is_opened is) to new failed shown agree acts answers calls;
+  mends = found.own whole;
   adds = ends_add s to mended new acts answers failed calls;
   kept = λ g view base same may stands. (opened_over t s mended found g view base same may stands).kept_for;
   keeps = λ g view base same may stands.

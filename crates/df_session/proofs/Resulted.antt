@@ -65,19 +65,28 @@ calls_answered : (s t : Replica) (old new : Option Told) (acts : List Act) (answ
 calls_answered s t old new acts answers None calls = (t, new, calls)
 calls_answered s t old new acts answers (Some a) calls = (calls.0, calls.1, calls.2)
 
-module _ (s : Replica) (t : Told) (mended : Option Told) (over : MendsAll t s mended) (whole : IsImage t.shown) (w : Work) (k : Keeps Firm s w None) (last : Replica) (new : Option Told) (failed : Option Act) (shown : Shown)
-    (agree : AgreeShown s.file.layout (shown_of s.file t.shown) shown) where
-  abbrev first : Told
-  first = told_after over.mending.events (did Sync t)
+-- what is told behind the mending of an open shows an image, which agrees with what was shown before it in all that calls read
+pub record OpenedAgrees (s : Replica) (mended : Option Told) (shown : Shown) : Type 0 where
+  pub first : Told
+  pub told : mended ≡ Some first
+  pub whole : IsImage first.shown
+  pub agrees : AgreeShown s.file.layout (shown_of s.file first.shown) shown
 
-  told_first : mended ≡ Some first
-  told_first = over.mending.told ∙ added_is_told over.mending.events (did Sync t)
+pub opened_agrees : (s : Replica) (t : Told) (mended : Option Told) (over : MendsAll t s mended) (shown : Shown) → IsImage t.shown → AgreeShown s.file.layout (shown_of s.file t.shown) shown → OpenedAgrees s mended shown
+opened_agrees s t mended over shown whole agree =
+    let first : Told = told_after over.mending.events (did Sync t) in
+    let spared : SparesReads s.file t.shown first.shown = subst (SparesReads s.file t.shown) (sym (shown_then over.mending.events (did Sync t))) (over.mending.spares t.shown whole) in
+    record {
+      first = first;
+      told = over.mending.told ∙ added_is_told over.mending.events (did Sync t);
+      whole = spared.whole;
+      agrees = agree_spared s.file t.shown first.shown shown spared agree;
+    }
 
-  spared : SparesReads s.file t.shown first.shown
-  spared = subst (SparesReads s.file t.shown) (sym (shown_then over.mending.events (did Sync t))) (over.mending.spares t.shown whole)
-
-  -- its calls answer the result over what the disk showed before the mending
-  pub opened_answers : (acts : List Act) (answers : List Answer) → EndsCalls s last mended new acts answers failed → AnswersResult s.file shown w acts answers
-  opened_answers acts answers ends =
-      let calls = calls_answered s last mended new acts answers failed ends in
-      calls_result s.file s calls.0 mended calls.1 acts answers first w shown refl told_first calls.2 k spared.whole (agree_spared s.file t.shown first.shown shown spared agree)
+-- its calls answer the result over what the disk showed before the mending
+pub opened_answers : (s : Replica) (t : Told) (mended : Option Told) (over : MendsAll t s mended) (whole : IsImage t.shown) (w : Work) (k : Keeps Firm s w None) (last : Replica) (new : Option Told) (failed : Option Act) (shown : Shown)
+    → AgreeShown s.file.layout (shown_of s.file t.shown) shown → (acts : List Act) (answers : List Answer) → EndsCalls s last mended new acts answers failed → AnswersResult s.file shown w acts answers
+opened_answers s t mended over whole w k last new failed shown agree acts answers ends =
+    let calls = calls_answered s last mended new acts answers failed ends in
+    let here = opened_agrees s t mended over shown whole agree in
+    calls_result s.file s calls.0 mended calls.1 acts answers here.first w shown refl here.told calls.2 k here.whole here.agrees

@@ -11,7 +11,7 @@ use Rattle.df_model.specs.Commands.{Answer}
 use Rattle.df_model.specs.Supply.{Shown}
 use Rattle.df_result.specs.Below.{IsOpened, State as Replica, shape, told_after}
 use Rattle.df_result.specs.Following.{MayOpen}
-use Rattle.df_result.specs.Opened.{Mends, MendsAll, first_state}
+use Rattle.df_result.specs.Opened.{AreMending, Mends, MendsAll, first_state}
 use Rattle.df_result.specs.Reading.{shown_of}
 use Rattle.df_result.specs.Serving.{Grade, IsKept, StandsFor}
 use Rattle.df_result.specs.Session.{Act, answers_of}
@@ -22,14 +22,15 @@ use Rattle.df_session.specs.Links.{CallsMade, EndsCalls, events_made}
 use Rattle.df_session.specs.Resulting.{AnswersResult}
 use Rattle.df_session.specs.Sparing.{SparesBlocks}
 
--- The calls were made on a file that was found in what the disk showed, and mended. On whatever image: the answers are the machine's, and a function of what was shown; what is
--- told is what the calls added; no call writes a sector of a block that is held, but a step those of the running trailer's next. By each log that shows what was shown, and by which
+-- The calls were made on a file that was found in what the disk showed, and mended. On whatever image: the mending is its own device calls alone, as each of the calls is; the answers
+-- are the machine's, and a function of what was shown; what is told is what the calls added; no call writes a sector of a block that is held, but a step those of the running trailer's next. By each log that shows what was shown, and by which
 -- the file may be opened, the told one or one that is begun anew there: the file is kept at the open, at the end all that was answered is there, and so it is at each moment from its
 -- answer on.
 pub record CallsKeep (t : Told) (s : Replica) (mended : Option Told) (mending : Mends s.file (Some (did Sync t)) mended) (c : CallsMade) : Type 0 where
   pub answered : (view : View) → IsFound (shape s.file) (unit_at s.file.layout s.file.cluster t.shown) view → c.answers ≡ answers_of s.file (first_state s.file t view) c.acts
   pub result : (view : View) (shown : Shown) → IsFound (shape s.file) (unit_at s.file.layout s.file.cluster t.shown) view → AgreeShown s.file.layout (shown_of s.file t.shown) shown
       → AnswersResult s.file shown (first_state s.file t view) c.acts c.answers
+  pub mends : AreMending t s mending.events
   pub adds : c.new ≡ after_all (events_made c) mended
   pub kept : (g : Grade) (view : View) (base : Told) → base.shown ≡ t.shown → MayOpen s.file view base → StandsFor g (unit_at s.file.layout s.file.cluster t.shown) view
       → IsKept g s (first_state s.file t view) (told_after mending.events (did Sync base)).log

@@ -1,3 +1,4 @@
+pub mod Own
 pub mod Links
 pub mod Found
 pub mod Calls

@@ -4,17 +4,17 @@ use Rattle.df_base.specs.Log.{Event}
 use Rattle.df_disk.specs.Told.{Told}
 use Rattle.df_model.specs.Commands.{Answer, Command}
 use Rattle.df_result.specs.Below.{State as Replica}
-use Rattle.df_result.specs.Opened.{ToldBy}
 use Rattle.df_result.specs.Serving.{IsCall}
 use Rattle.df_result.specs.Session.{Act}
+use Rattle.df_session.specs.Own.{AddsOwn}
 
 abbrev pub command_in : Act → Command
 command_in a = a.command
 
--- one call: what it was supplied with is right, and what the disk tells changed by its events alone
+-- one call: what it was supplied with is right, and what the disk tells changed by its own device calls alone
 pub record Calls (a : Act) (s t : Replica) (old new : Option Told) (answer : Option Answer) : Type 0 where
   pub call : IsCall a.given a.command s t old new answer
-  pub told : ToldBy old new
+  pub own : AddsOwn a.command s old new answer
 
 -- from one state to another these calls were made, one after the other, and each was answered
 abbrev pub AreCalls : Replica → Option Told → List Act → List Answer → Replica → Option Told → Type 0

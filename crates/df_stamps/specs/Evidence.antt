@@ -17,14 +17,15 @@
 use Rattle.std.specs.Prelude.{ℕ, ◌+◌, ◌<◌, ◌≤◌, ◌⊎◌}
 use Rattle.df_stamps.specs.declared.counters.Counters.{Counters}
 
--- something was written after a later checkpoint than that of this sequence and op
-abbrev pub IsBehind : Counters → ℕ → ℕ → ℕ → Type 0
-IsBehind seen sequence op slots = (sequence < seen.checkpoint) ⊎ (op + slots < seen.ring_op)
+-- something was written after a later checkpoint than that of this sequence and op, or in a later boot than this
+abbrev pub IsBehind : Counters → ℕ → ℕ → ℕ → ℕ → Type 0
+IsBehind seen sequence op slots boot = (sequence < seen.checkpoint) ⊎ (op + slots < seen.ring_op) ⊎ (boot < seen.boot)
 
 -- nothing was
-pub record IsUpToDate (seen : Counters) (sequence op slots : ℕ) : Type 0 where
+pub record IsUpToDate (seen : Counters) (sequence op slots current : ℕ) : Type 0 where
   pub checkpoint : seen.checkpoint ≤ sequence
   pub ring_op : seen.ring_op ≤ op + slots
+  pub boot : seen.boot ≤ current
 
 -- something shows an op beyond the head that was found
 abbrev pub IsLost : Counters → ℕ → ℕ → Type 0

@@ -12,19 +12,24 @@ pub struct Counters {
     pub reply_top: u64,
     /// The greatest checkpoint sequence that a header, prepare or reply carries.
     pub checkpoint: u64,
+    /// The greatest boot that a header, prepare or reply carries; 0 of those of version 1.
+    pub boot: u64,
 }
 
-/// Whether something was written after a later checkpoint than the one found, which has this sequence and op: a unit
-/// carries a later sequence, or a ring of so many slots holds an op that this checkpoint leaves no room for.
-pub fn behind(seen: &Counters, sequence: u64, op: u64, slots: u32) -> bool
-    ensures found { IsTrue result ↔ IsBehind seen.now sequence op slots }
-    ensures none { OnFalse result (IsUpToDate seen.now sequence op slots) }
+/// Whether something was written after a later checkpoint than the one found, which has this sequence and op, or in a later
+/// boot than this one: a unit carries a later sequence, a ring of so many slots holds an op that this checkpoint leaves no
+/// room for, or a unit carries a later boot.
+pub fn behind(seen: &Counters, sequence: u64, op: u64, slots: u32, boot: u64) -> bool
+    ensures found { IsTrue result ↔ IsBehind seen.now sequence op slots boot }
+    ensures none { OnFalse result (IsUpToDate seen.now sequence op slots boot) }
 {
-    seen.checkpoint > sequence || seen.ring_op.saturating_sub(op) > u64::from(slots)
+    seen.checkpoint > sequence
+        || seen.ring_op.saturating_sub(op) > u64::from(slots)
+        || seen.boot > boot
 }
 
 /// Whether something shows an op beyond `head`, the last that was found: a unit of the rings, a reply that was stored
-/// later, or the superblock's own head.
+/// later, or the superblock's own head. The counters are those of the units of the superblock's boot alone.
 pub fn lost(seen: &Counters, superblock_head: u64, head: u64) -> bool
     ensures found { IsTrue result ↔ IsLost seen.now superblock_head head }
     ensures none { OnFalse result (IsComplete seen.now superblock_head head) }

@@ -1,5 +1,5 @@
 -- How a content is shown to be chosen, and that contents can be told apart.
-use Rattle.std.proofs.Common.{◌≡◌, ◌⊎◌, inl, inr, ℕ, ◌<◌, Bool, true, false, List, Option, Some, None, refl, ap, arith}
+use Rattle.std.proofs.Common.{◌≡◌, ◌⊎◌, inl, inr, ℕ, ◌<◌, Bool, true, false, List, [], ◌∷◌, Option, Some, None, refl, ap, arith}
 use Rattle.std.proofs.lemmas.Bool.{cases_eq}
 use Rattle.std.proofs.lemmas.Slice.Eq.{bytes_eq-Decides}
 use Rattle.std.specs.Str.{bytes_eq}
@@ -31,6 +31,18 @@ same_list xs ys = go (bytes_eq xs ys) refl
     go true is = inl ((bytes_eq-Decides xs ys).0 is)
     go false is = inr (λ e. let same : bytes_eq xs ys ≡ true = (bytes_eq-Decides xs ys).1 e in cc)
 
+parts_of : (x y : List ℕ) (xs ys : List (List ℕ)) → x ∷ xs ≡ y ∷ ys → (x ≡ y) × (xs ≡ ys)
+parts_of x y xs ys same = (cc, cc)
+
+same_lists : (xs ys : List (List ℕ)) → Decided (xs ≡ ys)
+same_lists [] [] = inl refl
+same_lists [] (y ∷ ys) = inr (λ e. cc)
+same_lists (x ∷ xs) [] = inr (λ e. cc)
+same_lists (x ∷ xs) (y ∷ ys) = elim (both _ _ (same_list x y) (same_lists xs ys)) [
+  | inl is ↦ inl (λ i. is.0 i ∷ is.1 i)
+  | inr differ ↦ inr (λ e. differ (parts_of x y xs ys e))
+]
+
 same_option : (x y : Option ℕ) → Decided (x ≡ y)
 same_option None None = inl refl
 same_option None (Some b) = inr (λ e. cc)
@@ -48,7 +60,7 @@ abbrev Second : SuperFields → SuperFields → Type 0
 Second f g = (f.cluster ≡ g.cluster) × ((f.sequence ≡ g.sequence) × ((f.op ≡ g.op) × ((f.op_checksum ≡ g.op_checksum) × ((f.head ≡ g.head) × (f.replies ≡ g.replies)))))
 
 abbrev Third : SuperFields → SuperFields → Type 0
-Third f g = (f.trailer_address ≡ g.trailer_address) × ((f.trailer_checksum ≡ g.trailer_checksum) × ((f.trailer_size ≡ g.trailer_size) × ((f.boot ≡ g.boot) × (f.first_nonzero ≡ g.first_nonzero))))
+Third f g = (f.trailer_address ≡ g.trailer_address) × ((f.trailer_checksum ≡ g.trailer_checksum) × ((f.trailer_size ≡ g.trailer_size) × ((f.boot ≡ g.boot) × ((f.head_checksum ≡ g.head_checksum) × ((f.reply_checksums ≡ g.reply_checksums) × (f.first_nonzero ≡ g.first_nonzero))))))
 
 same_first : (f g : SuperFields) → Decided (First f g)
 same_first f g = both _ _ (cases_eq f.version g.version) (both _ _ (cases_eq f.slots g.slots) (both _ _ (cases_eq f.message_size g.message_size) (both _ _ (cases_eq f.clients g.clients) (both _ _ (cases_eq f.block_size g.block_size) (cases_eq f.blocks g.blocks)))))
@@ -57,7 +69,7 @@ same_second : (f g : SuperFields) → Decided (Second f g)
 same_second f g = both _ _ (cases_eq f.cluster g.cluster) (both _ _ (cases_eq f.sequence g.sequence) (both _ _ (cases_eq f.op g.op) (both _ _ (same_list f.op_checksum g.op_checksum) (both _ _ (cases_eq f.head g.head) (cases_eq f.replies g.replies)))))
 
 same_third : (f g : SuperFields) → Decided (Third f g)
-same_third f g = both _ _ (cases_eq f.trailer_address g.trailer_address) (both _ _ (same_list f.trailer_checksum g.trailer_checksum) (both _ _ (cases_eq f.trailer_size g.trailer_size) (both _ _ (cases_eq f.boot g.boot) (same_option f.first_nonzero g.first_nonzero))))
+same_third f g = both _ _ (cases_eq f.trailer_address g.trailer_address) (both _ _ (same_list f.trailer_checksum g.trailer_checksum) (both _ _ (cases_eq f.trailer_size g.trailer_size) (both _ _ (cases_eq f.boot g.boot) (both _ _ (same_list f.head_checksum g.head_checksum) (both _ _ (same_lists f.reply_checksums g.reply_checksums) (same_option f.first_nonzero g.first_nonzero))))))
 
 fields_from : (f g : SuperFields) → First f g × (Second f g × Third f g) → f ≡ g
 fields_from f g is i = record {
@@ -77,11 +89,13 @@ fields_from f g is i = record {
   trailer_checksum = is.1.1.1.0 i;
   trailer_size = is.1.1.1.1.0 i;
   boot = is.1.1.1.1.1.0 i;
-  first_nonzero = is.1.1.1.1.1.1 i;
+  head_checksum = is.1.1.1.1.1.1.0 i;
+  reply_checksums = is.1.1.1.1.1.1.1.0 i;
+  first_nonzero = is.1.1.1.1.1.1.1.1 i;
 }
 
 fields_to : (f g : SuperFields) → f ≡ g → First f g × (Second f g × Third f g)
-fields_to f g e = ((ap (λ (x : SuperFields). x.version) e, (ap (λ (x : SuperFields). x.slots) e, (ap (λ (x : SuperFields). x.message_size) e, (ap (λ (x : SuperFields). x.clients) e, (ap (λ (x : SuperFields). x.block_size) e, ap (λ (x : SuperFields). x.blocks) e))))), ((ap (λ (x : SuperFields). x.cluster) e, (ap (λ (x : SuperFields). x.sequence) e, (ap (λ (x : SuperFields). x.op) e, (ap (λ (x : SuperFields). x.op_checksum) e, (ap (λ (x : SuperFields). x.head) e, ap (λ (x : SuperFields). x.replies) e))))), (ap (λ (x : SuperFields). x.trailer_address) e, (ap (λ (x : SuperFields). x.trailer_checksum) e, (ap (λ (x : SuperFields). x.trailer_size) e, (ap (λ (x : SuperFields). x.boot) e, ap (λ (x : SuperFields). x.first_nonzero) e))))))
+fields_to f g e = ((ap (λ (x : SuperFields). x.version) e, (ap (λ (x : SuperFields). x.slots) e, (ap (λ (x : SuperFields). x.message_size) e, (ap (λ (x : SuperFields). x.clients) e, (ap (λ (x : SuperFields). x.block_size) e, ap (λ (x : SuperFields). x.blocks) e))))), ((ap (λ (x : SuperFields). x.cluster) e, (ap (λ (x : SuperFields). x.sequence) e, (ap (λ (x : SuperFields). x.op) e, (ap (λ (x : SuperFields). x.op_checksum) e, (ap (λ (x : SuperFields). x.head) e, ap (λ (x : SuperFields). x.replies) e))))), (ap (λ (x : SuperFields). x.trailer_address) e, (ap (λ (x : SuperFields). x.trailer_checksum) e, (ap (λ (x : SuperFields). x.trailer_size) e, (ap (λ (x : SuperFields). x.boot) e, (ap (λ (x : SuperFields). x.head_checksum) e, (ap (λ (x : SuperFields). x.reply_checksums) e, ap (λ (x : SuperFields). x.first_nonzero) e))))))))
 
 same_fields : (f g : SuperFields) → Decided (f ≡ g)
 same_fields f g = elim (both _ _ (same_first f g) (both _ _ (same_second f g) (same_third f g))) [

@@ -11,7 +11,7 @@ use df_buffers::ProbeRoom;
 use df_disk::Disk;
 use df_format::{Super, SuperCopy};
 use df_layout::{Class, Place, Zone};
-use df_quorum::Slot;
+use df_quorum::{Slot, same_fields};
 
 /// Why an update isn't known to be done.
 #[derive(Clone, Copy, Debug, PartialEq, Eq)]
@@ -70,7 +70,7 @@ fn class_of(slot: &Slot) -> Class
 fn has_fields(copy: &SuperCopy, content: &Super) -> bool
     ensures { IsTrue result ↔ (copy.now.fields ≡ content.now) }
 {
-    copy.fields == *content.fields()
+    same_fields(&copy.fields, content.fields())
 }
 
 // Whether the slot of this number holds the copy that was written.

@@ -5,102 +5,224 @@ use df_disk::Disk;
 use df_layout::{Class, Field, Layout, Place, Zone};
 use df_memdisk::{MemoryDisk, Strike};
 use df_replica::{OpenError, probe};
-use df_runs::{blank, copy, small_file};
+use df_runs::{copy, small_file};
 use std::alloc::Global;
+use std::process::Abort;
 use std::test::Fail;
 
 // What a look for the superblock finds; a caller's proof is told nothing.
-fn probed(alloc: Global, disk: &mut MemoryDisk) -> Result<Result<Layout, OpenError>, Fail> {
-    let mut room = ProbeRoom::reserve(alloc)?;
-    Ok(probe(disk, &mut room))
+fn probed(rt: &impl Abort, alloc: Global, disk: &mut MemoryDisk) -> Result<Layout, OpenError> {
+    let mut room = ProbeRoom::reserve(alloc).expect(rt, "memory of a room");
+    probe(disk, &mut room)
+}
+
+// What a sector shows; a copy has this number, and these bytes changed before its checksum is taken: 32 is the version, 36 the slots, 48
+// the cluster, 72 the sequence, 152 the boot.
+#[derive(Clone, Copy)]
+enum Made {
+    Zeros,
+    Noise,
+    Copy(u8, &'static [(usize, u8)]),
+}
+
+fn sector_of(made: &Made) -> [u8; SECTOR] {
+    match made {
+        Made::Zeros => [0; SECTOR],
+        Made::Noise => [0xa5; SECTOR],
+        Made::Copy(number, changes) => copy(*number, changes),
+    }
 }
 
 // What is found on a disk with these sectors from sector 0 on.
-fn found(alloc: Global, sectors: &[[u8; SECTOR]; 4]) -> Result<Result<Layout, OpenError>, Fail> {
-    let mut disk = blank(alloc, &[])?;
-    for (number, sector) in sectors.iter().enumerate() {
-        disk.write(number as u64, sector)?;
+fn found(rt: &impl Abort, alloc: Global, sectors: &[Made; 4]) -> Result<Layout, OpenError> {
+    let mut disk = MemoryDisk::new(alloc, Vec::new(alloc));
+    for (number, made) in sectors.iter().enumerate() {
+        let written = disk.write(number as u64, &sector_of(made));
+        assert!(rt; written == Ok(()));
     }
-    probed(alloc, &mut disk)
+    probed(rt, alloc, &mut disk)
 }
 
-fn elsewhere(index: u64) -> Class {
-    Class::Elsewhere(Place {
-        zone: Zone::Superblock,
-        index,
-    })
-}
+const ELSEWHERE_1: Class = Class::Elsewhere(Place {
+    zone: Zone::Superblock,
+    index: 1,
+});
 
-fn no_quorum(classes: [Class; 4]) -> Result<Layout, OpenError> {
-    Err(OpenError::NoQuorum { classes })
-}
+const SECOND: &[(usize, u8)] = &[(32, 2)];
 
-fn bad_field(field: Field, value: u128) -> Result<Layout, OpenError> {
-    Err(OpenError::BadField { field, value })
-}
+const NO_SLOTS: &[(usize, u8)] = &[(36, 0)];
 
-// A copy whose byte at this offset is changed, before its checksum is taken: 32 is the version, 36 the slots, 48 the cluster.
-fn changed(number: u8, at: usize, byte: u8) -> [u8; SECTOR] {
-    copy(number, &[(at, byte)])
-}
+const NO_CLUSTER: &[(usize, u8)] = &[(48, 0)];
+
+// Of version 2, and with no slots.
+const BROKEN: &[(usize, u8)] = &[(32, 2), (36, 0)];
+
+const NINTH: &[(usize, u8)] = &[(32, 9)];
+
+// Of version 9, and of boot 7.
+const STRANGE: &[(usize, u8)] = &[(32, 9), (152, 7)];
+
+const LATER_BOOT: &[(usize, u8)] = &[(152, 7)];
+
+const LAST_BYTE: &[(usize, u8)] = &[(4095, 1)];
+
+const REFUSALS: [([Made; 4], OpenError); 12] = [
+    ([Made::Zeros; 4], OpenError::NotFormatted),
+    (
+        [Made::Noise; 4],
+        OpenError::NoQuorum {
+            classes: [Class::Garbled; 4],
+        },
+    ),
+    (
+        [Made::Zeros, Made::Zeros, Made::Copy(2, &[]), Made::Zeros],
+        OpenError::NoQuorum {
+            classes: [Class::Blank, Class::Blank, Class::Stale, Class::Blank],
+        },
+    ),
+    (
+        [
+            Made::Copy(1, &[]),
+            Made::Copy(1, &[]),
+            Made::Copy(1, &[]),
+            Made::Noise,
+        ],
+        OpenError::NoQuorum {
+            classes: [ELSEWHERE_1, Class::Stale, ELSEWHERE_1, Class::Garbled],
+        },
+    ),
+    (
+        [
+            Made::Copy(0, NINTH),
+            Made::Noise,
+            Made::Zeros,
+            Made::Copy(3, NINTH),
+        ],
+        OpenError::Version { found: 9 },
+    ),
+    (
+        [
+            Made::Noise,
+            Made::Copy(1, NO_SLOTS),
+            Made::Copy(2, NO_SLOTS),
+            Made::Zeros,
+        ],
+        OpenError::BadField {
+            field: Field::Slots,
+            value: 0,
+        },
+    ),
+    (
+        [
+            Made::Copy(0, NO_CLUSTER),
+            Made::Copy(1, NO_CLUSTER),
+            Made::Noise,
+            Made::Noise,
+        ],
+        OpenError::BadField {
+            field: Field::Cluster,
+            value: 0,
+        },
+    ),
+    (
+        [
+            Made::Copy(0, LAST_BYTE),
+            Made::Noise,
+            Made::Noise,
+            Made::Copy(3, LAST_BYTE),
+        ],
+        OpenError::BadField {
+            field: Field::Zero,
+            value: 4095,
+        },
+    ),
+    // One of version 2 is refused by its version, sound or not.
+    (
+        [
+            Made::Copy(0, SECOND),
+            Made::Noise,
+            Made::Zeros,
+            Made::Copy(3, SECOND),
+        ],
+        OpenError::Version { found: 2 },
+    ),
+    (
+        [
+            Made::Copy(0, BROKEN),
+            Made::Copy(1, BROKEN),
+            Made::Noise,
+            Made::Noise,
+        ],
+        OpenError::Version { found: 2 },
+    ),
+    // Of two contents of one sequence that of the later boot is chosen, whatever its version.
+    (
+        [
+            Made::Copy(0, &[]),
+            Made::Copy(1, &[]),
+            Made::Copy(2, LATER_BOOT),
+            Made::Copy(3, LATER_BOOT),
+        ],
+        OpenError::BadField {
+            field: Field::Boot,
+            value: 7,
+        },
+    ),
+    (
+        [
+            Made::Copy(0, &[]),
+            Made::Copy(1, &[]),
+            Made::Copy(2, STRANGE),
+            Made::Copy(3, STRANGE),
+        ],
+        OpenError::Version { found: 9 },
+    ),
+];
 
 #[test]
-fn each_superblock_that_cannot_be_used_is_refused(rt: HostRuntime) -> Result<(), Fail> {
-    let zeros = [0u8; SECTOR];
-    let noise = [0xa5u8; SECTOR];
-    let rows = [
-        ([zeros; 4], Err(OpenError::NotFormatted)),
-        ([noise; 4], no_quorum([Class::Garbled; 4])),
-        (
-            [zeros, zeros, copy(2, &[]), zeros],
-            no_quorum([Class::Blank, Class::Blank, Class::Stale, Class::Blank]),
-        ),
-        (
-            [copy(1, &[]), copy(1, &[]), copy(1, &[]), noise],
-            no_quorum([elsewhere(1), Class::Stale, elsewhere(1), Class::Garbled]),
-        ),
-        (
-            [changed(0, 32, 9), noise, zeros, changed(3, 32, 9)],
-            Err(OpenError::Version { found: 9 }),
-        ),
-        (
-            [noise, changed(1, 36, 0), changed(2, 36, 0), zeros],
-            bad_field(Field::Slots, 0),
-        ),
-        (
-            [changed(0, 48, 0), changed(1, 48, 0), noise, noise],
-            bad_field(Field::Cluster, 0),
-        ),
-        (
-            [changed(0, 4095, 1), noise, noise, changed(3, 4095, 1)],
-            bad_field(Field::Zero, 4095),
-        ),
-    ];
-    for (sectors, answer) in rows {
-        assert_eq!(rt; found(rt.alloc(), &sectors)?, answer);
+fn each_superblock_that_cannot_be_used_is_refused(rt: HostRuntime) {
+    for (sectors, refusal) in &REFUSALS {
+        assert_eq!(rt; found(&rt, rt.alloc(), sectors), Err(*refusal));
     }
-    Ok(())
+}
+
+const LATER: &[(usize, u8)] = &[(72, 2)];
+
+// Two copies of a later sequence beside two that can't be used.
+const TWO_LATER: [Made; 4] = [
+    Made::Copy(0, LATER),
+    Made::Copy(1, LATER),
+    Made::Copy(2, NO_SLOTS),
+    Made::Copy(3, NO_SLOTS),
+];
+
+// A look for the superblock ends so.
+fn expect_probed(
+    rt: &impl Abort,
+    alloc: Global,
+    disk: &mut MemoryDisk,
+    wanted: Result<Layout, OpenError>,
+) {
+    assert_eq!(rt; probed(rt, alloc, disk), wanted);
+}
+
+fn strike(rt: &impl Abort, disk: &mut MemoryDisk, sector: u64, strike: Strike) {
+    disk.strike(sector, strike).expect(rt, "memory of a strike");
 }
 
 #[test]
 fn two_copies_that_are_left_are_enough(rt: HostRuntime) -> Result<(), Fail> {
-    let later = [
-        changed(0, 72, 2),
-        changed(1, 72, 2),
-        changed(2, 36, 0),
-        changed(3, 36, 0),
-    ];
-    assert_eq!(rt; found(rt.alloc(), &later)?, Ok(Layout::small()));
+    assert_eq!(rt; found(&rt, rt.alloc(), &TWO_LATER), Ok(Layout::small()));
     let mut disk = small_file(rt.alloc(), &[])?;
     for sector in [0u64, 2] {
-        disk.strike(sector, Strike::Fill { byte: 0xa5 })?;
-        assert_eq!(rt; probed(rt.alloc(), &mut disk)?, Ok(Layout::small()));
+        strike(&rt, &mut disk, sector, Strike::Fill { byte: 0xa5 });
+        expect_probed(&rt, rt.alloc(), &mut disk, Ok(Layout::small()));
     }
-    disk.strike(3, Strike::Like { sector: 1 })?;
-    assert_eq!(rt;
-        probed(rt.alloc(), &mut disk)?,
-        no_quorum([Class::Garbled, Class::Stale, Class::Garbled, elsewhere(1)])
-    );
+    strike(&rt, &mut disk, 3, Strike::Like { sector: 1 });
+    let refusal = OpenError::NoQuorum {
+        classes: [Class::Garbled, Class::Stale, Class::Garbled, ELSEWHERE_1],
+    };
+    expect_probed(&rt, rt.alloc(), &mut disk, Err(refusal));
     Ok(())
 }
 
@@ -108,8 +230,8 @@ fn two_copies_that_are_left_are_enough(rt: HostRuntime) -> Result<(), Fail> {
 fn a_failing_read_of_a_copy_is_a_disk_fault(rt: HostRuntime) -> Result<(), Fail> {
     for call in 1..5u64 {
         let mut disk = small_file(rt.alloc(), &[call])?;
-        assert_eq!(rt; probed(rt.alloc(), &mut disk)?, Err(OpenError::DiskFault));
-        assert_eq!(rt; probed(rt.alloc(), &mut disk)?, Ok(Layout::small()));
+        expect_probed(&rt, rt.alloc(), &mut disk, Err(OpenError::DiskFault));
+        expect_probed(&rt, rt.alloc(), &mut disk, Ok(Layout::small()));
     }
     Ok(())
 }

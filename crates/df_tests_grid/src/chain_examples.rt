@@ -140,7 +140,7 @@ pub(crate) fn write_one(
     Ok(grid.trailer())
 }
 
-// The same, of two blocks.
+// The same, of two blocks: the first of version 1, the second of version 2 and boot 3.
 pub(crate) fn write_two(
     alloc: Global,
     disk: &mut MemoryDisk,
@@ -155,6 +155,7 @@ pub(crate) fn write_two(
     let mut grid = grid_of(alloc, layout)?;
     begin(&mut grid, 2)?;
     write_any(disk, &mut grid, 0, 2, first)?;
+    grid.set_boot(3);
     write_any(disk, &mut grid, 1, 1, second)?;
     Ok(grid.trailer())
 }

@@ -3,12 +3,13 @@
 ghost use Rattle.std.specs.Prelude.{length, ◌≡◌, ◌≤◌, ◌-◌, ◌%◌, Some, None, nat_le, if◌then◌else◌, replicate};
 ghost use Rattle.df_base.specs.Fields.{field_at};
 
-use crate::chain_examples::{Held, begin, grid_of, read, write_one, write_two};
+use crate::chain_examples::{Held, begin, grid_of, read, write_any, write_one, write_two};
 use crate::trailers::layout_of;
 use arrayvec::ArrayVec;
 use df_base::{Check, Failed};
 use df_checkpoint::{Capture, TrailerFault, pending, write_piece};
-use df_format::Reference;
+use df_disk::Disk;
+use df_format::{Reference, decode_header};
 use df_layout::{Class, Field, Layout};
 use df_memdisk::{MemoryDisk, Strike};
 use df_sessions::Session;
@@ -123,6 +124,40 @@ fn a_chain_of_two_blocks_is_read(rt: HostRuntime) {
         class: Class::Garbled,
     };
     assert!(rt; read(rt.alloc(), &mut disk, layout, last, 3848, 0) == Some(Err(damaged)));
+}
+
+// The front of a sector, where its header stands.
+fn front_of(bytes: &[u8; 4096]) -> [u8; 256] {
+    let mut front = [0; 256];
+    front.copy_from_slice(&bytes[..256]);
+    front
+}
+
+// The version and the boot of the header in a sector.
+fn made_in(disk: &mut MemoryDisk, sector: u8) -> Option<(u16, u64)> {
+    let mut bytes = [0; 4096];
+    disk.read(u64::from(sector), &mut bytes).ok()?;
+    decode_header(&front_of(&bytes)).map(|header| (header.version, header.boot))
+}
+
+// Three blocks of layout small, whose grid is at sector 80 and has blocks of four sectors.
+fn write_three(alloc: Global, disk: &mut MemoryDisk) -> Result<(), Failed> {
+    let mut grid = grid_of(alloc, Layout::small())?;
+    begin(&mut grid, 3)?;
+    write_any(disk, &mut grid, 0, 3, &[1])?;
+    grid.set_boot(3);
+    write_any(disk, &mut grid, 1, 2, &[2])?;
+    grid.set_boot(1 << 62);
+    write_any(disk, &mut grid, 2, 1, &[3])
+}
+
+#[test]
+fn a_block_is_sealed_in_the_boot_that_was_set_last(rt: HostRuntime) {
+    let mut disk = MemoryDisk::new(rt.alloc(), Vec::new(rt.alloc()));
+    assert!(rt; write_three(rt.alloc(), &mut disk) == Ok(()));
+    assert!(rt; made_in(&mut disk, 80) == Some((1, 0)));
+    assert!(rt; made_in(&mut disk, 84) == Some((2, 3)));
+    assert!(rt; made_in(&mut disk, 88) == Some((2, 1 << 62)));
 }
 
 #[test]

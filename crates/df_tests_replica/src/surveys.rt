@@ -1,9 +1,9 @@
 // Surveys of small files on a disk in memory: the calls, what is to be mended, each refusal, and each failing call.
 use df_disk::Disk;
 use df_images::{OpenError, lists, rooms_of, small_file, strike, survey_in, survey_small};
-use df_layout::{Class, Layout, Mend, Place, Zone};
+use df_layout::{Class, Field, Layout, Mend, Place, Zone};
 use df_memdisk::MemoryDisk;
-use df_runs::disk_behind;
+use df_runs::{copy, disk_behind};
 use std::alloc::Global;
 use std::test::Fail;
 
@@ -136,6 +136,40 @@ fn a_superblock_that_cant_be_used_is_refused(rt: HostRuntime) -> Result<(), Fail
         refusal_of(rt.alloc(), &mut disk)?,
         Some(OpenError::NoQuorum { classes })
     );
+    Ok(())
+}
+
+// Bytes of copies 2 and 3 of a new file that are changed, beside copies 0 and 1 as they were made, and how a survey refuses it. A
+// superblock of version 2 is refused by its version, sound or not.
+fn forged() -> [(&'static [(usize, u8)], OpenError); 5] {
+    [
+        (&[(32, 2), (152, 1)], OpenError::Version { found: 2 }),
+        (
+            &[(32, 2), (36, 0), (152, 1)],
+            OpenError::Version { found: 2 },
+        ),
+        (&[(32, 2), (72, 2)], OpenError::Version { found: 2 }),
+        (
+            &[(152, 7)],
+            OpenError::BadField {
+                field: Field::Boot,
+                value: 7,
+            },
+        ),
+        (&[(32, 9), (152, 7)], OpenError::Version { found: 9 }),
+    ]
+}
+
+#[test]
+fn a_later_superblock_is_tested_for_version_1(rt: HostRuntime) -> Result<(), Fail> {
+    for (changes, refusal) in &forged() {
+        let mut disk = small_file(rt.alloc(), 0)?;
+        for number in 2..4u8 {
+            disk.write(u64::from(number), &copy(number, changes))?;
+        }
+        let answer = refusal_of(rt.alloc(), &mut disk)?;
+        assert_eq!(rt; answer, Some(*refusal), "{changes:?}");
+    }
     Ok(())
 }
 

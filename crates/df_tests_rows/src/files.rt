@@ -70,7 +70,9 @@ fn two_damaged_copies_are_mended(rt: HostRuntime) -> Result<(), Fail> {
 }
 
 // Bytes of four equal copies that are changed, with their offsets, and how a run refuses the file.
-const REFUSALS: [(&[(usize, u8)], &str); 4] = [
+const REFUSALS: [(&[(usize, u8)], &str); 7] = [
+    (&[(32, 2)], "refused Version found 2\n"),
+    (&[(32, 2), (36, 0), (152, 7)], "refused Version found 2\n"),
     (&[(32, 9)], "refused Version found 9\n"),
     (&[(36, 0)], "refused BadField Slots 0\n"),
     (&[(48, 0)], "refused BadField Cluster 0\n"),
@@ -79,6 +81,7 @@ const REFUSALS: [(&[(usize, u8)], &str); 4] = [
         &[(80, 1), (87, 0x40)],
         "refused BadField Op 4611686018427387905\n",
     ),
+    (&[(152, 7)], "refused BadField Boot 7\n"),
 ];
 
 #[test]

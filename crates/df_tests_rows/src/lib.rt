@@ -6,6 +6,8 @@ mod bounds;
 #[cfg(test)]
 mod files;
 #[cfg(test)]
+mod paced;
+#[cfg(test)]
 mod reports;
 #[cfg(test)]
 mod rows;

@@ -33,7 +33,6 @@ pub(crate) fn header(
     Header {
         checksum: [1; 16],
         checksum_body: [2; 16],
-        cluster: 7,
         parent: [3; 16],
         client,
         op,
@@ -42,8 +41,7 @@ pub(crate) fn header(
         checkpoint,
         size: 256,
         slot: 9,
-        kind,
-        block_kind: 0,
+        ..Header::of(kind, 7)
     }
 }
 

@@ -131,26 +131,27 @@ fn the_ring_and_a_tour_are_shown(rt: HostRuntime) {
     expect(&rt, done, &sink, RING_AND_TOUR);
 }
 
+const COUNTED: Workload = Workload {
+    appended: 3,
+    replied: 3,
+    wrote: 0,
+    released: 0,
+    checkpoints: 0,
+    refused: 0,
+    bytes: 2231,
+    head: 3,
+    replies: 3,
+    sequence: 1,
+};
+
 const GENERATED_RUN: &str =
     "appended 3\nreplied 3\nwrote 0\nreleased 0\ncheckpoints 0\nrefused 0\nbytes 2231\nhead 3\n\
     replies 3\nsequence 1\n";
 
 #[test]
 fn a_generated_run_is_counted(rt: HostRuntime) {
-    let workload = Workload {
-        appended: 3,
-        replied: 3,
-        wrote: 0,
-        released: 0,
-        checkpoints: 0,
-        refused: 0,
-        bytes: 2231,
-        head: 3,
-        replies: 3,
-        sequence: 1,
-    };
     let mut sink = new_sink(rt.alloc());
-    let done = print_workload(&mut sink, &workload);
+    let done = print_workload(&mut sink, &COUNTED);
     expect(&rt, done, &sink, GENERATED_RUN);
 }
 

@@ -20,12 +20,24 @@ const TWIN: SuperFields = SuperFields {
     ..EARLY
 };
 
+// Of the sequence of the early one and of a later boot.
+const BOOTED: SuperFields = SuperFields { boot: 7, ..EARLY };
+
+// The same of a version that isn't known.
+const STRANGE: SuperFields = SuperFields {
+    version: 9,
+    boot: 8,
+    ..EARLY
+};
+
 // A content.
 #[derive(Clone, Copy)]
 enum Content {
     Early,
     Later,
     Twin,
+    Booted,
+    Strange,
 }
 
 // What stands at the place of a copy.
@@ -35,6 +47,8 @@ enum Shown {
     Early(u8),
     Later(u8),
     Twin(u8),
+    Booted(u8),
+    Strange(u8),
     // Of the early content too, but for its checksum, which is this byte sixteen times.
     Summed(u8, u8),
     Bad(Class),
@@ -57,6 +71,8 @@ fn slot_of(shown: Shown) -> Slot {
         Shown::Early(number) => sound(number, 5, EARLY),
         Shown::Later(number) => sound(number, 6, LATER),
         Shown::Twin(number) => sound(number, 7, TWIN),
+        Shown::Booted(number) => sound(number, 8, BOOTED),
+        Shown::Strange(number) => sound(number, 9, STRANGE),
         Shown::Summed(number, checksum) => sound(number, checksum, EARLY),
         Shown::Bad(class) => Slot::Bad(class),
     }
@@ -77,7 +93,7 @@ const YES: bool = true;
 const NO: bool = false;
 
 // What stands at the four places, the content that is chosen, and which of the copies are its own.
-const CHOSEN: [(&'static str, [Shown; 4], Content, [bool; 4]); 9] = [
+const CHOSEN: [(&'static str, [Shown; 4], Content, [bool; 4]); 14] = [
     (
         "four equal copies",
         [
@@ -140,6 +156,56 @@ const CHOSEN: [(&'static str, [Shown; 4], Content, [bool; 4]); 9] = [
         [YES, NO, NO, YES],
     ),
     (
+        "the last two of a later boot",
+        [
+            Shown::Early(0),
+            Shown::Early(1),
+            Shown::Booted(2),
+            Shown::Booted(3),
+        ],
+        Content::Booted,
+        [NO, NO, YES, YES],
+    ),
+    (
+        "the first two of a later boot",
+        [
+            Shown::Booted(0),
+            Shown::Booted(1),
+            Shown::Early(2),
+            Shown::Early(3),
+        ],
+        Content::Booted,
+        [YES, YES, NO, NO],
+    ),
+    (
+        "a single one of a later boot",
+        [Shown::Booted(0), Shown::Early(1), Shown::Early(2), BLANK],
+        Content::Early,
+        [NO, YES, YES, NO],
+    ),
+    (
+        "a later sequence and a later boot",
+        [
+            Shown::Booted(0),
+            Shown::Later(1),
+            Shown::Booted(2),
+            Shown::Later(3),
+        ],
+        Content::Later,
+        [NO, YES, NO, YES],
+    ),
+    (
+        "a later boot of another version",
+        [
+            Shown::Booted(0),
+            Shown::Booted(1),
+            Shown::Strange(2),
+            Shown::Strange(3),
+        ],
+        Content::Strange,
+        [NO, NO, YES, YES],
+    ),
+    (
         "two damaged copies",
         [GARBLED, Shown::Early(1), BLANK, Shown::Early(3)],
         Content::Early,
@@ -170,6 +236,8 @@ fn choice_of(content: Content, members: [bool; 4]) -> Chosen {
         Content::Early => EARLY,
         Content::Later => LATER,
         Content::Twin => TWIN,
+        Content::Booted => BOOTED,
+        Content::Strange => STRANGE,
     };
     Chosen { content, members }
 }
@@ -191,7 +259,7 @@ const OTHER: Class = Class::Elsewhere(Place {
 
 const STALE: Class = Class::Stale;
 
-const SPLIT: [(&'static str, [Shown; 4], [Class; 4]); 5] = [
+const SPLIT: [(&'static str, [Shown; 4], [Class; 4]); 6] = [
     (
         "three contents, and one that is early too, but for its checksum",
         [
@@ -199,6 +267,16 @@ const SPLIT: [(&'static str, [Shown; 4], [Class; 4]); 5] = [
             Shown::Later(1),
             Shown::Twin(2),
             Shown::Summed(3, 8),
+        ],
+        [STALE; 4],
+    ),
+    (
+        "four contents, two of them of a later boot",
+        [
+            Shown::Booted(0),
+            Shown::Strange(1),
+            Shown::Early(2),
+            Shown::Twin(3),
         ],
         [STALE; 4],
     ),

@@ -26,7 +26,12 @@ fn place(zone: Zone, index: u64) -> Place
 
 // What a place of layout small shows whose bytes begin with these.
 #[tactic(auto, unfolding(df_layout::specs::Spans::place_sectors))]
-fn shown(cluster: u128, zone: Zone, index: u64, front: &[u8; 256]) -> Result<Header, Class> {
+pub(crate) fn shown(
+    cluster: u128,
+    zone: Zone,
+    index: u64,
+    front: &[u8; 256],
+) -> Result<Header, Class> {
     let small = Layout::small();
     match zone {
         Zone::Superblock => Err(Class::Garbled),

@@ -75,8 +75,11 @@ const OF_ALL: &'static [Rule] = &[
     (120, 0, false),
     (120, 6, false),
     (122, 0, false),
-    (122, 2, false),
+    (122, 3, false),
+    (123, 1, false),
     (124, 1, false),
+    (140, 1, false),
+    (148, 1, false),
     (132, 1, false),
     (255, 1, false),
     (255, 0, true),
@@ -93,6 +96,7 @@ const OF_RESERVED: &'static [Rule] = &[
     (112, 1, false),
     (121, 1, false),
     (116, 9, true),
+    (122, 2, true),
 ];
 
 const OF_PREPARES: &'static [Rule] = &[
@@ -111,6 +115,7 @@ const OF_PREPARES: &'static [Rule] = &[
     (95, 0x40, false),
     (111, 0x40, false),
     (120, 1, false),
+    (122, 2, false),
 ];
 
 const OF_REPLIES: &'static [Rule] = &[
@@ -129,6 +134,7 @@ const OF_REPLIES: &'static [Rule] = &[
     (95, 0x40, false),
     (103, 0x40, false),
     (111, 0x40, false),
+    (122, 2, false),
 ];
 
 const OF_BLOCKS: &'static [Rule] = &[
@@ -143,6 +149,7 @@ const OF_BLOCKS: &'static [Rule] = &[
     (87, 0xff, true),
     (112, 1, true),
     (121, 255, true),
+    (122, 2, false),
 ];
 
 const OF_FIRST_TRAILERS: &'static [Rule] = &[(48, 1, false), (88, 1, false), (96, 1, false)];
@@ -157,6 +164,7 @@ const OF_TRAILERS: &'static [Rule] = &[
     (48, 9, true),
     (104, 1, false),
     (111, 0x40, false),
+    (122, 2, false),
 ];
 
 // The first offset at which a byte is judged otherwise.

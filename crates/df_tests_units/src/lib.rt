@@ -23,6 +23,12 @@ mod room_examples;
 #[cfg(test)]
 mod rooms;
 #[cfg(test)]
+mod second_classes;
+#[cfg(test)]
+mod second_headers;
+#[cfg(test)]
+mod second_superblocks;
+#[cfg(test)]
 mod super_examples;
 #[cfg(test)]
 mod superblocks;

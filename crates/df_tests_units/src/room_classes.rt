@@ -10,7 +10,7 @@ use df_layout::{Class, Layout, Place, Zone};
 use std::alloc::Global;
 
 // The header of the unit that is there, or the class of what is; None where memory was refused.
-type Shown = Option<Result<Header, Class>>;
+pub(crate) type Shown = Option<Result<Header, Class>>;
 
 // Puts bytes at the front and nines behind them.
 fn begin_with(bytes: &mut [u8], front: &[u8; 256]) {
@@ -33,9 +33,14 @@ fn room_with<K: RoomKind>(
 }
 
 // What a room of the kind answers at a place of its zone.
-fn proved<K: UnitKind>(alloc: Global, index: u64, wanted: Wanted, front: &[u8; 124]) -> Shown {
+pub(crate) fn proved<K: UnitKind>(
+    alloc: Global,
+    index: u64,
+    wanted: Wanted,
+    front: &[u8; 256],
+) -> Shown {
     let layout = Layout::small();
-    let room = room_with::<K>(alloc, &layout, &spelled(front)).ok()?;
+    let room = room_with::<K>(alloc, &layout, front).ok()?;
     let identity = identity_at(layout, K::ZONE, index, wanted);
     match room.prove(&identity) {
         Ok(unit) => Some(Ok(*unit.header())),
@@ -47,13 +52,13 @@ fn read(front: &[u8; 124]) -> Shown {
     decode_header(&spelled(front)).map(|header| Ok(header))
 }
 
-const STALE: Shown = Some(Err(Class::Stale));
+pub(crate) const STALE: Shown = Some(Err(Class::Stale));
 
 #[test]
 fn wants_a_unit_of_its_kind(rt: HostRuntime) {
-    let block = proved::<Trailer>(rt.alloc(), 9, Wanted::Any, &BLOCK);
+    let block = proved::<Trailer>(rt.alloc(), 9, Wanted::Any, &spelled(&BLOCK));
     assert!(rt; block == STALE);
-    let trailer = proved::<Block>(rt.alloc(), 9, Wanted::Any, &TRAILER);
+    let trailer = proved::<Block>(rt.alloc(), 9, Wanted::Any, &spelled(&TRAILER));
     assert!(rt; trailer == STALE);
 }
 
@@ -78,7 +83,7 @@ fn wants_what_it_was_asked_for(rt: HostRuntime) {
         (answer(5, 1, 1), STALE),
     ];
     for (wanted, what) in &of_prepares {
-        assert!(rt; proved::<Prepare>(rt.alloc(), 1, *wanted, &PREPARE) == *what);
+        assert!(rt; proved::<Prepare>(rt.alloc(), 1, *wanted, &spelled(&PREPARE)) == *what);
     }
     let of_replies = [
         (answer(5, 1, 1), read(&REPLY)),
@@ -88,7 +93,7 @@ fn wants_what_it_was_asked_for(rt: HostRuntime) {
         (Wanted::Op(1), STALE),
     ];
     for (wanted, what) in &of_replies {
-        assert!(rt; proved::<Reply>(rt.alloc(), 2, *wanted, &REPLY) == *what);
+        assert!(rt; proved::<Reply>(rt.alloc(), 2, *wanted, &spelled(&REPLY)) == *what);
     }
 }
 

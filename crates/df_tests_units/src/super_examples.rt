@@ -1,6 +1,6 @@
 // Two superblocks of layout small and cluster 7, and their sectors.
 use df_base::check;
-use df_format::{SuperFields, encode_copy, test_fields};
+use df_format::{NO_CHECKSUM, NO_CHECKSUMS, SuperFields, encode_copy, test_fields};
 
 // What the first superblock of layout small and cluster 7 says.
 pub(crate) const FIRST: SuperFields = SuperFields {
@@ -20,6 +20,8 @@ pub(crate) const FIRST: SuperFields = SuperFields {
     trailer_checksum: [0; 16],
     trailer_size: 0,
     boot: 0,
+    head_checksum: NO_CHECKSUM,
+    reply_checksums: NO_CHECKSUMS,
     first_nonzero: None,
 };
 

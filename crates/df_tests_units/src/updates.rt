@@ -1,5 +1,5 @@
 // The copies of the superblock over disks in memory: updates, reads and repairs, and a disk that loses writes.
-ghost use Rattle.std.specs.Prelude.{◌≡◌};
+ghost use Rattle.std.specs.Prelude.{◌≡◌, ◌<◌};
 
 use crate::super_examples::FIRST;
 use df_base::SECTOR;
@@ -7,7 +7,7 @@ use df_buffers::ProbeRoom;
 use df_disk::Disk;
 use df_format::{Super, SuperFields, encode_copy, test_fields};
 use df_layout::{Class, Place, Zone};
-use df_memdisk::{DroppingDisk, MemoryDisk};
+use df_memdisk::{Change, DroppingDisk, MemoryDisk};
 use df_quorum::{Chosen, Slot, choose};
 use df_superblock::{UpdateError, a_start_can_mislead, read_all, repair, update, write_copy};
 use std::alloc::Global;
@@ -17,6 +17,15 @@ const SECOND: SuperFields = SuperFields {
     sequence: 2,
     ..FIRST
 };
+
+// Of version 2, in the first boot and in the one behind it.
+const BOOTED: SuperFields = SuperFields {
+    version: 2,
+    boot: 1,
+    ..FIRST
+};
+
+const REBOOTED: SuperFields = SuperFields { boot: 2, ..BOOTED };
 
 // A blank disk whose listed calls fail.
 fn blank(rt: &impl Abort, alloc: Global, failing: &[u64]) -> MemoryDisk {
@@ -166,5 +175,76 @@ fn each_failing_call_of_an_update_is_a_disk_fault(rt: HostRuntime) {
             Ok(())
         };
         assert!(rt; answer == wanted, "call {call}");
+    }
+}
+
+// What a stop leaves in the sector of a copy that was being written.
+#[derive(Clone, Copy, Debug)]
+enum Left {
+    Before,
+    Written,
+    Torn,
+}
+
+fn sector_of(content: &Super, number: u8) -> [u8; SECTOR]
+    requires { number < 4 }
+{
+    let mut sector = [0u8; SECTOR];
+    encode_copy(content, number, &mut sector);
+    sector
+}
+
+// What is chosen where an update by its boot alone is stopped within the write of a copy.
+fn stopped(rt: &impl Abort, alloc: Global, room: &mut ProbeRoom, number: u8, left: Left) -> Chosen
+    requires { number < 4 }
+{
+    let old = usable(rt, &BOOTED);
+    let new = usable(rt, &REBOOTED);
+    // Behind the twelve calls of an update each copy has a write and a sync, which fails.
+    let mut disk = blank(rt, alloc, &[14 + 2 * u64::from(number)]);
+    assert!(rt; update(&mut disk, room, &old) == Ok(()));
+    assert!(rt; update(&mut disk, room, &new) == Err(UpdateError::DiskFault));
+    let bytes = match left {
+        Left::Before => sector_of(&old, number),
+        Left::Written => sector_of(&new, number),
+        Left::Torn => [0xa5; SECTOR],
+    };
+    let mut choice = Vec::new(alloc);
+    let sector = u64::from(number);
+    choice
+        .push(Change { sector, bytes })
+        .expect(rt, "memory of a list");
+    let Ok(mut disk) = disk.stop(choice) else {
+        panic!(rt; "copy {number} isn't loose");
+    };
+    chosen(rt, &mut disk, room)
+}
+
+// The copy within whose write an update is stopped, what is left of it, whether the new content is chosen, and its members.
+const STOPPED: [(u8, Left, bool, [bool; 4]); 12] = [
+    (0, Left::Before, false, [true, true, true, true]),
+    (0, Left::Torn, false, [false, true, true, true]),
+    (0, Left::Written, false, [false, true, true, true]),
+    (1, Left::Before, false, [false, true, true, true]),
+    (1, Left::Torn, false, [false, false, true, true]),
+    (1, Left::Written, true, [true, true, false, false]),
+    (2, Left::Before, true, [true, true, false, false]),
+    (2, Left::Torn, true, [true, true, false, false]),
+    (2, Left::Written, true, [true, true, true, false]),
+    (3, Left::Before, true, [true, true, true, false]),
+    (3, Left::Torn, true, [true, true, true, false]),
+    (3, Left::Written, true, [true, true, true, true]),
+];
+
+#[test]
+fn an_update_by_its_boot_alone_leaves_the_old_content_or_the_new_one(rt: HostRuntime) {
+    let mut room = new_room(&rt, rt.alloc());
+    for (number, left, is_new, members) in &STOPPED {
+        let chosen = stopped(&rt, rt.alloc(), &mut room, *number % 4, *left);
+        let content = if *is_new { REBOOTED } else { BOOTED };
+        assert!(rt;
+            chosen.content == content && chosen.members == *members,
+            "copy {number}, {left:?}"
+        );
     }
 }

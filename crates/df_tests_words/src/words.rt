@@ -1,6 +1,6 @@
 // Which words have a meaning, as the table of words gives them.
 use df_layout::Layout;
-use df_top::{Mode, an_image_has_one_report, mode_of, words_have_one_meaning};
+use df_top::{Mode, Pace, an_image_has_one_report, mode_of, words_have_one_meaning};
 use std::alloc::{AllocError, Global};
 
 fn words_of(alloc: Global, texts: &[&str]) -> Result<Vec<String>, AllocError> {
@@ -71,6 +71,45 @@ fn words_of_a_file_stand_alone(rt: HostRuntime) -> Result<(), AllocError> {
         &["Format", "small", "7"],
         &["formats", "small", "7"],
         &["", "small", "7"],
+    ] {
+        let words = words_of(rt.alloc(), texts)?;
+        assert_eq!(rt; mode_of(&words), None);
+    }
+    Ok(())
+}
+
+#[test]
+fn paced_takes_three_numbers(rt: HostRuntime) -> Result<(), AllocError> {
+    for (texts, (scrub, every, steps)) in [
+        (["0", "0", "0"], (0, 0, 0)),
+        (["3", "20", "1"], (3, 20, 1)),
+        (["64", "64", "64"], (64, 64, 64)),
+    ] {
+        let [one, two, three] = texts;
+        let pace = Pace {
+            scrub,
+            every,
+            steps,
+        };
+        let words = words_of(rt.alloc(), &["paced", one, two, three])?;
+        assert_eq!(rt;
+            mode_of(&words),
+            Some(Mode::Paced { pace }),
+            "{one} {two} {three}"
+        );
+    }
+    for texts in [
+        ["paced"].as_slice(),
+        &["paced", "0", "0"],
+        &["paced", "0", "0", "0", "0"],
+        &["paced", "65", "0", "0"],
+        &["paced", "0", "65", "0"],
+        &["paced", "0", "0", "65"],
+        &["paced", "00", "0", "0"],
+        &["paced", "0", "", "0"],
+        &["paced", "0", "0", "-1"],
+        &["Paced", "0", "0", "0"],
+        &["run", "0", "0", "0"],
     ] {
         let words = words_of(rt.alloc(), texts)?;
         assert_eq!(rt; mode_of(&words), None);

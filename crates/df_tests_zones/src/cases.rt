@@ -10,7 +10,7 @@ use std::process::Abort;
 fn scan_ends(rt: &impl Abort, alloc: Global, failing: u64) -> (Result<(), Failed>, u64) {
     let failing = Vec::from_slice(alloc, &[failing]).expect(rt, "memory of a list");
     let mut disk = MemoryDisk::new(alloc, failing);
-    let (_, done) = tried(rt, alloc, &mut disk, &Layout::small(), 1 << 62);
+    let (_, done) = tried(rt, alloc, &mut disk, &Layout::small(), 1 << 62, 0);
     (done, disk.calls())
 }
 

@@ -15,11 +15,12 @@ use df_memdisk::MemoryDisk;
 use std::alloc::Global;
 use std::process::Abort;
 
-// The header of a prepare of client 5, as its maker gives it.
+// The header of a prepare of client 5, as its maker gives it: in boot 0 it is of version 1, and else by itself of version 2.
 #[tactic(auto, unfolding(df_format::specs::Own::own_place, df_format::specs::Spelling::no_checksum))]
-pub(crate) fn prepare_header(op: u64, request: u64, parent: Check) -> Header
+pub(crate) fn prepare_header(op: u64, request: u64, boot: u64, parent: Check) -> Header
     requires op { (1 ≤ op) × (op ≤ 1000) }
     requires request { (1 ≤ request) × (request ≤ 1000) }
+    requires boot { boot ≤ 1000 }
     ensures sealed { ObeysRules result }
     ensures rules { ObeysRules (for_body result []) }
     ensures kind { result.kind ≡ Kind.Prepare }
@@ -27,7 +28,7 @@ pub(crate) fn prepare_header(op: u64, request: u64, parent: Check) -> Header
     ensures slot { result.slot ≤ 31 }
     ensures own { (layout : AnyLayout) → layout.slots ≡ 32 → IsSome (own_place layout Zone.WalPrepares result) }
 {
-    Header {
+    let first = Header {
         checksum_body: check(&[]),
         parent: if op == 1 { [0; 16] } else { parent },
         client: 5,
@@ -38,6 +39,17 @@ pub(crate) fn prepare_header(op: u64, request: u64, parent: Check) -> Header
         size: 256,
         slot: (op % 32) as u32,
         ..Header::of(Kind::Prepare, 7)
+    };
+    if boot == 0 {
+        first
+    } else {
+        Header {
+            version: 2,
+            boot,
+            group: op,
+            group_last: op,
+            ..first
+        }
     }
 }
 
@@ -46,13 +58,14 @@ pub(crate) fn blank(alloc: Global) -> MemoryDisk {
     MemoryDisk::new(alloc, Vec::new(alloc))
 }
 
-// A scan behind a checkpoint with this op: the table, and how it ended.
+// A scan behind a checkpoint with this op, in this boot: the table, and how it ended.
 pub(crate) fn tried(
     rt: &impl Abort,
     alloc: Global,
     disk: &mut MemoryDisk,
     layout: &Layout,
     op: u64,
+    boot: u64,
 ) -> (SlotTable, Result<(), Failed>)
     requires { op ≤ 2 ^ 62 }
     ensures count { length result.0.slots ≡ layout.now.slots }
@@ -73,25 +86,24 @@ pub(crate) fn tried(
         cluster: 7,
         op,
         head: op,
-        boot: 0,
+        boot,
     };
     let (_, done) = scan(disk, layout, &start, &mut found, &mut sector, room);
     (found, done)
 }
 
-// What a scan behind a checkpoint with this op sees.
+// What a scan behind an empty checkpoint sees, in this boot.
 pub(crate) fn scanned(
     rt: &impl Abort,
     alloc: Global,
     disk: &mut MemoryDisk,
     layout: &Layout,
-    op: u64,
+    boot: u64,
 ) -> SlotTable
-    requires { op ≤ 2 ^ 62 }
     ensures count { length result.slots ≡ layout.now.slots }
     ensures table { IsTable layout.now result.start.cluster result.slots }
 {
-    let (found, done) = tried(rt, alloc, disk, layout, op);
+    let (found, done) = tried(rt, alloc, disk, layout, 0, boot);
     done.expect(rt, "a disk whose calls all succeed");
     found
 }

@@ -28,6 +28,7 @@ fn four_sessions() -> SessionTable
 // The replies to two requests of each of four clients, in turn.
 fn turn_of(turn: u8) -> Stored {
     Stored {
+        boot: 0,
         client: turn % 4 + 1,
         request: turn / 4 + 1,
         op: turn.saturating_add(1),
@@ -53,19 +54,20 @@ fn the_second_reply_of_the_third_of_four_clients_is_torn(rt: HostRuntime) {
     let sessions = four_sessions();
     let mut table = new_table(&rt, rt.alloc());
     assert!(rt; scan(&rt, rt.alloc(), &mut board, &mut table) == Ok(()));
-    assert!(rt; table.replies(4, 3) == 8 && table.first_lacking(&sessions, 8) == None);
+    assert!(rt; table.replies(4, 3, 0) == 8 && table.first_lacking(&sessions, 8, 0) == None);
     assert!(rt; board.write(75, &before) == Ok(()));
     assert!(rt; scan(&rt, rt.alloc(), &mut board, &mut table) == Ok(()));
-    assert!(rt; table.get(2).err() == Some(Class::Garbled) && table.replies(4, 3) == 8);
+    assert!(rt; table.get(2).err() == Some(Class::Garbled) && table.replies(4, 3, 0) == 8);
     let lacking = Lacking {
         place: 2,
         class: Class::Garbled,
     };
-    assert!(rt; table.first_lacking(&sessions, 8) == Some(lacking));
-    assert!(rt; table.first_lacking(&sessions, 6) == None);
+    assert!(rt; table.first_lacking(&sessions, 8, 0) == Some(lacking));
+    assert!(rt; table.first_lacking(&sessions, 6, 0) == None);
 }
 
 const FIRST: Stored = Stored {
+    boot: 0,
     client: 1,
     request: 2,
     op: 5,
@@ -75,6 +77,7 @@ const FIRST: Stored = Stored {
 };
 
 const SECOND: Stored = Stored {
+    boot: 0,
     client: 2,
     request: 1,
     op: 6,
@@ -89,20 +92,23 @@ const FIRST_LACKS: Option<Lacking> = Some(Lacking {
     class: Class::Stale,
 });
 
-// What is found where one more reply is written: the greatest op or mark, the greatest checkpoint, the number of replies, and
-// whose reply is missing.
+// What is found in a boot where one more reply is written: the greatest op or mark of that boot's, the greatest checkpoint and the
+// greatest boot of all, the number of replies, and whose reply is missing.
 #[derive(Clone, Copy, Debug, PartialEq)]
 struct Finding {
     top: u64,
     checkpoint: u64,
+    boot: u64,
     replies: u64,
     lacking: Option<Lacking>,
 }
 
+// Of replies that are all of boot 0.
 fn found(top: u64, checkpoint: u64, replies: u64, lacking: Option<Lacking>) -> Finding {
     Finding {
         top,
         checkpoint,
+        boot: 0,
         replies,
         lacking,
     }
@@ -110,6 +116,7 @@ fn found(top: u64, checkpoint: u64, replies: u64, lacking: Option<Lacking>) -> F
 
 // A reply in a place that the table of sessions lacks.
 const PAST: Stored = Stored {
+    boot: 0,
     client: 9,
     request: 1,
     op: 9,
@@ -157,8 +164,8 @@ fn cases() -> [(&'static str, Stored, Finding); 7] {
     ]
 }
 
-// What is found of two sessions where these replies were written in turn.
-fn found_behind(rt: &impl Abort, alloc: Global, replies: &[Stored; 3]) -> Finding {
+// What is found of two sessions in this boot, where these replies were written in turn.
+fn found_behind(rt: &impl Abort, alloc: Global, replies: &[Stored; 3], boot: u64) -> Finding {
     let mut board = Board::failing(rt, alloc, 0, 0);
     for reply in replies {
         assert!(rt; put(rt, alloc, &mut board, reply, &[]) == Ok(()));
@@ -168,20 +175,90 @@ fn found_behind(rt: &impl Abort, alloc: Global, replies: &[Stored; 3]) -> Findin
     ask(&mut sessions, &SECOND);
     let mut table = new_table(rt, alloc);
     assert!(rt; scan(rt, alloc, &mut board, &mut table) == Ok(()));
-    let seen = table.count(&Counters::default());
+    let seen = table.count(&Counters::default(), boot);
     assert!(rt; seen.ring_op == 0);
     Finding {
         top: seen.reply_top,
         checkpoint: seen.checkpoint,
-        replies: table.replies(0, 0),
-        lacking: table.first_lacking(&sessions, 6),
+        boot: seen.boot,
+        replies: table.replies(0, 0, boot),
+        lacking: table.first_lacking(&sessions, 6, boot),
     }
 }
 
 #[test]
 fn other_replies_in_a_slot_are_told_apart(rt: HostRuntime) {
     for (name, stored, finding) in &cases() {
-        let found = found_behind(&rt, rt.alloc(), &[FIRST, SECOND, *stored]);
+        let found = found_behind(&rt, rt.alloc(), &[FIRST, SECOND, *stored], 0);
+        assert!(rt; found == *finding, "{name}");
+    }
+}
+
+// The replies to the two sessions and one more, the boot that is asked for, and what is found of it.
+fn booted_cases() -> [(&'static str, [Stored; 3], u64, Finding); 5] {
+    let first = Stored { boot: 3, ..FIRST };
+    let second = Stored { boot: 3, ..SECOND };
+    let later = Finding {
+        boot: 3,
+        ..found(6, 1, 6, FIRST_LACKS)
+    };
+    let own = Finding {
+        boot: 3,
+        ..found(6, 1, 6, None)
+    };
+    let second_lacks = Some(Lacking {
+        place: 1,
+        class: Class::Stale,
+    });
+    [
+        (
+            "a reply of boot 3 where none is asked for",
+            [FIRST, SECOND, first],
+            0,
+            later,
+        ),
+        (
+            "with the greatest op and mark",
+            [
+                FIRST,
+                SECOND,
+                Stored {
+                    op: 9,
+                    ahead: 20,
+                    ..first
+                },
+            ],
+            0,
+            later,
+        ),
+        ("all are of boot 3", [first, second, first], 3, own),
+        (
+            "one is of an earlier boot",
+            [first, SECOND, first],
+            3,
+            Finding {
+                replies: 5,
+                lacking: second_lacks,
+                ..own
+            },
+        ),
+        (
+            "one of a later boot",
+            [first, second, Stored { boot: 4, ..first }],
+            3,
+            Finding {
+                boot: 4,
+                lacking: FIRST_LACKS,
+                ..own
+            },
+        ),
+    ]
+}
+
+#[test]
+fn a_boot_has_its_own_replies(rt: HostRuntime) {
+    for (name, replies, boot, finding) in &booted_cases() {
+        let found = found_behind(&rt, rt.alloc(), replies, *boot);
         assert!(rt; found == *finding, "{name}");
     }
 }

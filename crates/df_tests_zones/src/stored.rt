@@ -78,9 +78,10 @@ impl Disk for Board {
     }
 }
 
-// A reply by its numbers, each 1 at the least; its mark is so many ops ahead of its own.
+// A reply by its numbers, each but the boot 1 at the least; its mark is so many ops ahead of its own. In boot 0 it is of version 1.
 #[derive(Clone, Copy)]
 pub(crate) struct Stored {
+    pub(crate) boot: u8,
     pub(crate) client: u8,
     pub(crate) request: u8,
     pub(crate) op: u8,
@@ -98,7 +99,7 @@ fn header_of(stored: &Stored, body: &[u8]) -> Header
     ensures own { (layout : AnyLayout) → layout.clients ≡ 4 → IsSome (own_place layout Zone.ClientReplies result) }
 {
     let op = u64::from(stored.op.max(1));
-    Header {
+    let first = Header {
         checksum_body: check(body),
         client: u128::from(stored.client.max(1)),
         op,
@@ -107,6 +108,15 @@ fn header_of(stored: &Stored, body: &[u8]) -> Header
         checkpoint: u64::from(stored.checkpoint.max(1)),
         slot: u32::from(stored.slot % 4),
         ..Header::of(Kind::Reply, 7)
+    };
+    if stored.boot == 0 {
+        first
+    } else {
+        Header {
+            version: 2,
+            boot: u64::from(stored.boot),
+            ..first
+        }
     }
 }
 

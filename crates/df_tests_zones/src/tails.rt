@@ -9,14 +9,15 @@ use df_buffers::{HeaderSector, Prepare, Raw};
 use df_cases::Decision;
 use df_disk::Disk;
 use df_headers::HeaderTable;
-use df_journal::{Tail, append, count_rings, find_tail, is_behind, is_lost};
+use df_journal::{Tail, append, count_rings, find_tail, is_behind, is_lost, ring_top};
 use df_layout::{Class, Layout};
 use df_memdisk::{MemoryDisk, Strike};
 use df_sessions::SessionTable;
+use df_stamps::Counters;
 use std::alloc::Global;
 use std::process::Abort;
 
-// Appends the prepare of the next op, and hands back its checksum.
+// Appends the prepare of the next op in a boot, and hands back its checksum.
 fn append_next(
     disk: &mut MemoryDisk,
     layout: &Layout,
@@ -24,17 +25,19 @@ fn append_next(
     rt: &impl Abort,
     alloc: Global,
     op: u64,
+    boot: u64,
     parent: Check,
 ) -> Check
     requires slots { layout.now.slots ≡ 32 }
     requires size { layout.now.message_size ≡ 8192 }
     requires op { (1 ≤ op) × (op ≤ 1000) }
+    requires boot { boot ≤ 1000 }
     requires table { IsTable layout.now 7 table.old }
     ensures { IsTable layout.now 7 table.new }
 {
     let room: Raw<Prepare> = Raw::reserve(alloc, layout).expect(rt, "memory of a room");
     let mut sector = Raw::reserve(alloc, layout).expect(rt, "memory of a sector");
-    let unit = room.make(prepare_header(op, op, parent), &[]);
+    let unit = room.make(prepare_header(op, op, boot, parent), &[]);
     append(disk, layout, &unit, table, &mut sector).expect(rt, "an append");
     unit.header().checksum
 }
@@ -54,8 +57,11 @@ fn write_ring(
     disk.sync()
 }
 
+// The boots of five prepares.
+type Boots = [u8; 5];
+
 // A file of five prepares, one of each op from 1 on.
-fn five(rt: &impl Abort, alloc: Global, layout: &Layout) -> MemoryDisk
+fn five(rt: &impl Abort, alloc: Global, layout: &Layout, boots: &Boots) -> MemoryDisk
     requires slots { layout.now.slots ≡ 32 }
     requires size { layout.now.message_size ≡ 8192 }
 {
@@ -63,29 +69,43 @@ fn five(rt: &impl Abort, alloc: Global, layout: &Layout) -> MemoryDisk
     let mut table = reserved_table(alloc, layout).expect(rt, "memory of a table");
     let mut sector = Raw::reserve(alloc, layout).expect(rt, "memory of a sector");
     write_ring(&mut disk, layout, &table, &mut sector).expect(rt, "a new ring");
-    let one = append_next(&mut disk, layout, &mut table, rt, alloc, 1, [0; 16]);
-    let two = append_next(&mut disk, layout, &mut table, rt, alloc, 2, one);
-    let three = append_next(&mut disk, layout, &mut table, rt, alloc, 3, two);
-    let four = append_next(&mut disk, layout, &mut table, rt, alloc, 4, three);
-    append_next(&mut disk, layout, &mut table, rt, alloc, 5, four);
+    let boot = u64::from(boots[0]);
+    let one = append_next(&mut disk, layout, &mut table, rt, alloc, 1, boot, [0; 16]);
+    let boot = u64::from(boots[1]);
+    let two = append_next(&mut disk, layout, &mut table, rt, alloc, 2, boot, one);
+    let boot = u64::from(boots[2]);
+    let three = append_next(&mut disk, layout, &mut table, rt, alloc, 3, boot, two);
+    let boot = u64::from(boots[3]);
+    let four = append_next(&mut disk, layout, &mut table, rt, alloc, 4, boot, three);
+    let boot = u64::from(boots[4]);
+    append_next(&mut disk, layout, &mut table, rt, alloc, 5, boot, four);
     disk
 }
 
-// What is found behind an empty checkpoint: the tail, and whether anything is behind or lost.
+// What is found behind an empty checkpoint in a boot: the tail, and whether anything is behind or lost.
 fn found(
     rt: &impl Abort,
     alloc: Global,
     disk: &mut MemoryDisk,
     layout: &Layout,
+    boot: u64,
 ) -> (Tail, bool, bool)
     requires slots { layout.now.slots ≡ 32 }
     requires clients { layout.now.clients ≡ 4 }
 {
-    let found = scanned(rt, alloc, disk, layout, 0);
+    let found = scanned(rt, alloc, disk, layout, boot);
     let mut sessions = SessionTable::new(4);
     let tail = find_tail(layout, &found, &[0; 16], &mut sessions);
     let seen = count_rings(&found);
-    (tail, is_behind(&seen, 1, 0, 32), is_lost(&seen, 0, tail.op))
+    let own = Counters {
+        ring_op: ring_top(&found, boot),
+        ..seen
+    };
+    (
+        tail,
+        is_behind(&seen, 1, 0, 32, boot),
+        is_lost(&own, 0, tail.op),
+    )
 }
 
 // The decisions on the first eight slots.
@@ -94,10 +114,11 @@ fn decisions(
     alloc: Global,
     disk: &mut MemoryDisk,
     layout: &Layout,
+    boot: u64,
 ) -> [Decision; 8]
     requires slots { layout.now.slots ≡ 32 }
 {
-    let found = scanned(rt, alloc, disk, layout, 0);
+    let found = scanned(rt, alloc, disk, layout, boot);
     let mut decided = [LOST; 8];
     for (i, decision) in decided.iter_mut().enumerate() {
         *decision = found.decision(i as u32);
@@ -144,17 +165,79 @@ const ROWS: [Row; 3] = [
 fn five_appends_are_found_but_for_a_spoilt_prepare(rt: HostRuntime) {
     let layout = Layout::small();
     for (name, spoilt, (op, mark, is_lost), decided) in &ROWS {
-        let mut disk = five(&rt, rt.alloc(), &layout);
+        let mut disk = five(&rt, rt.alloc(), &layout, &[0; 5]);
         if let Some(sector) = spoilt {
             assert!(rt; disk.strike(*sector, Strike::Fill { byte: 0xa5 }).is_ok());
         }
-        let (tail, behind, lost) = found(&rt, rt.alloc(), &mut disk, &layout);
+        let (tail, behind, lost) = found(&rt, rt.alloc(), &mut disk, &layout, 0);
         assert!(rt;
             (tail.op, tail.mark, behind, lost) == (*op, *mark, false, *is_lost),
             "{name}"
         );
         assert!(rt;
-            decisions(&rt, rt.alloc(), &mut disk, &layout) == *decided,
+            decisions(&rt, rt.alloc(), &mut disk, &layout, 0) == *decided,
+            "{name}"
+        );
+    }
+}
+
+// The boots of the five prepares, and the superblock's; the op and the mark of the tail, whether anything is behind and whether it is
+// lost; and the decisions on the first eight slots.
+type Booted = (
+    &'static str,
+    Boots,
+    u64,
+    (u64, u64, bool, bool),
+    [Decision; 8],
+);
+
+const BOOTED: [Booted; 5] = [
+    (
+        "all of the superblock's boot",
+        [3, 3, 3, 3, 3],
+        3,
+        (5, 4, false, false),
+        [EMPTY, TAKE, TAKE, TAKE, TAKE, TAKE, EMPTY, EMPTY],
+    ),
+    (
+        "two of boot 3 in a file of version 1",
+        [0, 0, 0, 3, 3],
+        0,
+        (3, 2, true, false),
+        [EMPTY, TAKE, TAKE, TAKE, EMPTY, EMPTY, EMPTY, EMPTY],
+    ),
+    (
+        "the last of an earlier boot",
+        [3, 3, 3, 3, 2],
+        3,
+        (4, 3, false, false),
+        [EMPTY, TAKE, TAKE, TAKE, TAKE, EMPTY, EMPTY, EMPTY],
+    ),
+    (
+        "the first of an earlier boot",
+        [2, 3, 3, 3, 3],
+        3,
+        (0, 0, false, true),
+        [EMPTY, EMPTY, TAKE, TAKE, TAKE, TAKE, EMPTY, EMPTY],
+    ),
+    (
+        "of version 1 in a file of version 2",
+        [0, 0, 0, 0, 0],
+        1,
+        (0, 0, false, false),
+        [EMPTY, EMPTY, EMPTY, EMPTY, EMPTY, EMPTY, EMPTY, EMPTY],
+    ),
+];
+
+#[test]
+fn a_unit_of_another_boot_is_neither_taken_nor_lost(rt: HostRuntime) {
+    let layout = Layout::small();
+    for (name, boots, boot, ended, decided) in &BOOTED {
+        let mut disk = five(&rt, rt.alloc(), &layout, boots);
+        let (tail, behind, lost) = found(&rt, rt.alloc(), &mut disk, &layout, *boot);
+        assert!(rt; (tail.op, tail.mark, behind, lost) == *ended, "{name}");
+        assert!(rt;
+            decisions(&rt, rt.alloc(), &mut disk, &layout, *boot) == *decided,
             "{name}"
         );
     }
@@ -163,7 +246,7 @@ fn five_appends_are_found_but_for_a_spoilt_prepare(rt: HostRuntime) {
 #[test]
 fn a_table_has_the_headers_and_classes_of_its_slots(rt: HostRuntime) {
     let layout = Layout::small();
-    let mut disk = five(&rt, rt.alloc(), &layout);
+    let mut disk = five(&rt, rt.alloc(), &layout, &[0; 5]);
     assert!(rt; disk.strike(12, Strike::Fill { byte: 0xa5 }).is_ok());
     let found = scanned(&rt, rt.alloc(), &mut disk, &layout, 0);
     let ops = (

@@ -95,10 +95,10 @@ leads2 = tidy_reply_law shape log1 view1 put2 0 reply1 leads1.0.tidy may2 (put_o
 -- ---- a block, and the trailer
 
 abbrev pub block : Block
-block = record { checksum = 9; kind = 1; sequence = 0; index = 0; before = 0; before_checksum = 0; body = [] }
+block = record { checksum = 9; kind = 1; sequence = 0; index = 0; before = 0; before_checksum = 0; boot = 0; body = [] }
 
 abbrev pub trailer : Block
-trailer = record { checksum = 11; kind = 0; sequence = 2; index = 0; before = 0; before_checksum = 0; body = 0 ∷ [] }
+trailer = record { checksum = 11; kind = 0; sequence = 2; index = 0; before = 0; before_checksum = 0; boot = 0; body = 0 ∷ [] }
 
 abbrev pub put_block : ℕ → Block → Units
 put_block a b = put_one (BlockPlace a) (BlockUnit b)

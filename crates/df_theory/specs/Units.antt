@@ -81,6 +81,7 @@ pub record Block : Type 0 where
   pub index : ℕ
   pub before : ℕ
   pub before_checksum : ℕ
+  pub boot : ℕ  -- the number of the boot that made it, 0 in version 1
   pub body : List ℕ
 
 -- what a trailer says

@@ -22,6 +22,7 @@ use Rattle.df_session.specs.Serving.{IsCall}
 use Rattle.df_session.specs.Stopping.{left_by}
 use Rattle.df_script_model.specs.Texts.{block_text}
 use Rattle.df_session.specs.Links.{Makes}
+use Rattle.df_session.proofs.Laws.{adds_none}
 use Rattle.df_session.specs.Endings.{heard}
 use Rattle.df_top.specs.Turning.{IsPrinted, Tells, printed_turn}
 use Rattle.df_top.specs.declared.turns.Turn.{Turn}
@@ -65,7 +66,7 @@ module _ (address : ℕ) (s t : Replica) (old new : Option Told) (same : new ≡
       call =
           subst (λ (o : Option Told). IsCall (supply s address old found) (ReadBlock address) s t old o answer) (sym same)
           (serves (supply s address old found) (refl, found_by s address old found) (gives s address old found));
-      told = ([], same);
+      own = adds_none (ReadBlock address) s old new answer refl same;
     };
   }
 

@@ -8,8 +8,9 @@ use Rattle.df_top.specs.Outside.{Blames, HasCauses, Outside, PrintsLine}
 use Rattle.df_top.specs.Refusing.{PrintsError}
 use Rattle.df_layout.specs.declared.damage.Mend.{Mend}
 use Rattle.df_top.specs.Reporting.{status_of}
-use Rattle.df_top.specs.Lines.{Turned}
-use Rattle.df_top.specs.Session.{Ended, EndsWith, State, act_of}
+use Rattle.df_top.specs.Lines.{Turned, act_of}
+use Rattle.df_top.specs.Session.{Ended, EndsWith, State}
+use Rattle.df_pace.specs.declared.pace.Pace.{Pace}
 use Rattle.df_session.specs.Session.{Act}
 use Rattle.df_top.specs.declared.status.Status.{Status}
 use Rattle.df_top.specs.declared.status.Status.TheVariants.{Done, Refused, DiskFault, Memory, ReadFault, Words, WriteFault}
@@ -91,8 +92,8 @@ no_words : (n : ℕ) (old new : Outside) (turns : List Turned) (failed : Option 
 no_words n old new turns None cut ends = ends
 no_words n old new turns (Some a) cut ends = ends
 
-pub ended_never : (bound : ℕ) (origin now : State) (status : Status) → Ended bound origin now status → (status ≡ Memory → ⊥) × (status ≡ Words → ⊥)
-ended_never bound origin now status e =
+pub ended_never : (pace : Pace) (bound : ℕ) (origin now : State) (status : Status) → Ended pace bound origin now status → (status ≡ Memory → ⊥) × (status ≡ Words → ⊥)
+ended_never pace bound origin now status e =
     let with : Status → Type 0 = EndsWith origin.lines origin.outside now.outside e.turns (act_of e.failing) e.cut in (
       λ is. no_memory origin.lines origin.outside now.outside e.turns (act_of e.failing) e.cut (subst with is e.written),
       λ is. no_words origin.lines origin.outside now.outside e.turns (act_of e.failing) e.cut (subst with is e.written),

@@ -26,7 +26,7 @@ use Rattle.df_top.specs.Outside.{Outside}
 use Rattle.df_top.specs.Run.{ComesTo, Does, RefusesSuperblock, Runs, ServesIn, ServesOwn, Works}
 use Rattle.df_session.specs.Links.{AreCalls, Calls, EndsCalls}
 use Rattle.df_top.specs.declared.mode.Mode.{Mode}
-use Rattle.df_top.specs.declared.mode.Mode.TheVariants.{Format, Run, Recover, Inspect, Scrub, Workload}
+use Rattle.df_top.specs.declared.mode.Mode.TheVariants.{Format, Run, Recover, Inspect, Scrub, Workload, Paced}
 use Rattle.df_top.specs.declared.status.Status.{Status}
 
 -- ---- reads
@@ -85,6 +85,9 @@ module _ (file : DataFile) (view : View) (t : Told) (may : MayBeHurt file view t
         → WordReadsOwn mode file.layout t found old new status works (opened (shape file) (unit_at file.layout file.cluster t.shown) finds.found)
     word_reads (Format layout cluster) found works finds = absurd works
     word_reads Run found serves finds =
+        let c = script_calls serves.session in
+        reads_own found finds c.to c.new c.acts c.answers c.failed c.calls
+    word_reads (Paced pace) found serves finds =
         let c = script_calls serves.session in
         reads_own found finds c.to c.new c.acts c.answers c.failed c.calls
     word_reads Recover found works finds = tt

@@ -6,6 +6,7 @@ mod Progress
 mod LineEnds
 mod SameWords
 mod Answered
+mod Passed
 mod BlockReadTurns
 mod ScrubTurns
 mod Checks

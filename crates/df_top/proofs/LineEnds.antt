@@ -8,25 +8,29 @@ use Rattle.df_lines.specs.Script.{IsRefused}
 use Rattle.df_lines.specs.Text.{line_of, unread}
 use Rattle.df_disk.specs.Told.{Told}
 use Rattle.df_session.specs.Below.{State as Replica}
-use Rattle.df_top.specs.Lines.{command_of}
+use Rattle.df_model.specs.Commands.{Command}
+use Rattle.df_pace.specs.Beats.{behind_line}
+use Rattle.df_pace.specs.declared.pace.Pace.{Pace}
+use Rattle.df_top.specs.Lines.{ByLine, command_of}
 use Rattle.df_top.specs.Outside.{Outside}
+use Rattle.df_top.specs.Pacing.{IsIdle, IsNext, runs}
 use Rattle.df_top.specs.Session.{EndedIsEnd, HoldsLine, State, state}
-use Rattle.df_top.specs.Step.{Answers, EndsIn, RefusesLine, Takes, Turns}
+use Rattle.df_top.specs.Step.{Answers, EndsIn, GoesOn as GoesOnBy, RefusesLine, Takes, Turns}
 use Rattle.df_top.specs.Turning.{OnGoing}
 use Rattle.df_top.specs.declared.session.Session.{Session}
 use Rattle.df_top.specs.declared.turns.Turn.{Turn}
 use Rattle.df_top.specs.declared.turns.Turn.TheVariants.{GoesOn, Ends}
 use Rattle.df_top.specs.declared.status.Status.{Status}
 use Rattle.df_top.specs.declared.status.Status.TheVariants.{Done, Found, Words, Script, Refused, DiskFault, ReadFault, WriteFault, Memory}
-use Rattle.df_top.proofs.Progress.{ends_answer, ends_damaged, ends_damaged_fault, ends_disk, ends_script, ends_script_fault, goes_on}
+use Rattle.df_top.proofs.Progress.{ends_answer, ends_damaged, ends_damaged_fault, ends_disk, ends_script, ends_script_fault, goes_on, on_ends, on_more}
 
 -- the line that refuses the next line ends the session
-pub ends_refused : (bound : ℕ) (old new : State) → new.outside.told ≡ old.outside.told → new.replica ≡ old.replica → ((rest : List ℕ) → old.text ≡ Some rest → IsRefused bound old.budget rest)
+pub ends_refused : (pace : Pace) (bound : ℕ) (old new : State) → new.outside.told ≡ old.outside.told → new.replica ≡ old.replica → IsIdle old.beat old.replica → ((rest : List ℕ) → old.text ≡ Some rest → IsRefused bound old.budget rest)
     → ((rest : List ℕ) → old.text ≡ Some rest → (remains : List ℕ) → new.outside.left ≡ Some remains → HoldsLine bound rest remains) → (status : Status)
-    → RefusesLine old.lines old.outside.written new.outside.written status → EndsIn bound old new status
-ends_refused bound old new same one refused holds Script wrote = ends_script bound old new same one refused holds wrote
-ends_refused bound old new same one refused holds WriteFault wrote = ends_script_fault bound old new same one refused holds wrote
-ends_refused bound old new same one refused holds status wrote = absurd wrote
+    → RefusesLine old.lines old.outside.written new.outside.written status → EndsIn pace bound old new status
+ends_refused pace bound old new same one idle refused holds Script wrote = ends_script pace bound old new same one idle refused holds wrote
+ends_refused pace bound old new same one idle refused holds WriteFault wrote = ends_script_fault pace bound old new same one idle refused holds wrote
+ends_refused pace bound old new same one idle refused holds status wrote = absurd wrote
 
 -- what the reader refuses is refused
 pub refused_next : (outside : Outside) (left : Option (List ℕ)) (old : Session) (room : Room) → EndedIsEnd old outside.left
@@ -63,19 +67,32 @@ module _ (before after : Outside) (old : Session) (room : Room) (line : Line) (e
           ap (λ (l : Room). l.reading.budget) kept ∙ line_is.budget,
         )
 
-    pub line_turns : (turn : Turn) → Answers (command_of said) old.replica new.replica before.told after.told before.written after.written turn → OnGoing turn (new.count ≡ old.count + 1)
-        → Turns old.lines.reading.bound (state before old) (state after new) turn
-    line_turns GoesOn did count = goes_on old.lines.reading.bound (state before old) (state after new) said takes did count
-    line_turns (Ends DiskFault) did count = ends_disk old.lines.reading.bound (state before old) (state after new) said takes did
-    line_turns (Ends WriteFault) (inl did) count = ends_answer old.lines.reading.bound (state before old) (state after new) said takes did
-    line_turns (Ends WriteFault) (inr did) count = ends_damaged_fault old.lines.reading.bound (state before old) (state after new) said takes did
-    line_turns (Ends Refused) did count = ends_damaged old.lines.reading.bound (state before old) (state after new) said takes did
-    line_turns (Ends Done) did count = absurd did
-    line_turns (Ends Found) did count = absurd did
-    line_turns (Ends Words) did count = absurd did
-    line_turns (Ends Script) did count = absurd did
-    line_turns (Ends ReadFault) did count = absurd did
-    line_turns (Ends Memory) did count = absurd did
+    module _ (pace : Pace) (idle : IsIdle old.beat old.replica) where
+      abbrev bound : ℕ
+      bound = old.lines.reading.bound
+
+      next : (c : Command) → c ≡ command_of said → IsNext old.beat old.replica (ByLine said) c
+      next c is = (is, idle)
+
+      pub line_turns : (turn : Turn) → Answers (command_of said) old.replica new.replica before.told after.told before.written after.written turn → OnGoing turn (new.count ≡ old.count + 1)
+          → new.beat ≡ behind_line pace old.beat new.replica.head (runs new.replica) → Turns pace bound (state before old) (state after new) turn
+      line_turns GoesOn did count beat = goes_on pace bound (state before old) (state after new) said takes idle did count beat
+      line_turns (Ends DiskFault) did count beat = ends_disk pace bound (state before old) (state after new) (ByLine said) (command_of said) takes next did
+      line_turns (Ends WriteFault) (inl did) count beat = ends_answer pace bound (state before old) (state after new) said takes idle did
+      line_turns (Ends WriteFault) (inr did) count beat = ends_damaged_fault pace bound (state before old) (state after new) (ByLine said) (command_of said) takes next did
+      line_turns (Ends Refused) did count beat = ends_damaged pace bound (state before old) (state after new) (ByLine said) (command_of said) takes next did
+      line_turns (Ends Done) did count beat = absurd did
+      line_turns (Ends Found) did count beat = absurd did
+      line_turns (Ends Words) did count beat = absurd did
+      line_turns (Ends Script) did count beat = absurd did
+      line_turns (Ends ReadFault) did count beat = absurd did
+      line_turns (Ends Memory) did count beat = absurd did
+
+-- ---- the work behind a line
+
+pub then_turns : (pace : Pace) (bound : ℕ) (old mid new : State) → GoesOnBy pace bound old mid → (turn : Turn) → Turns pace bound mid new turn → Turns pace bound old new turn
+then_turns pace bound old mid new line GoesOn work = on_more pace bound old mid new line work
+then_turns pace bound old mid new line (Ends status) work = on_ends pace bound old mid new status line work
 
 -- ---- calls may go on behind a line that was answered
 

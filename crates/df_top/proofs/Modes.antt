@@ -7,9 +7,10 @@ use Rattle.std.proofs.lemmas.Fmt.{decimal_is_IsNumeral}
 use Rattle.df_layout.specs.declared.layout.Layout.{Layout}
 use Rattle.df_layout.proofs.Laws.{same_layout}
 use Rattle.df_lines.proofs.Laws.{one_number}
+use Rattle.df_pace.specs.declared.pace.Pace.{Pace}
 use Rattle.df_top.specs.declared.mode.Mode.{Mode}
-use Rattle.df_top.specs.declared.mode.Mode.TheVariants.{Format, Run, Recover, Inspect, Scrub, Workload}
-use Rattle.df_top.specs.Mode.{HasNumbers, numbers_of, NamesLayout, Means, OneMeaning, SpellsFormat, SpellsWorkload}
+use Rattle.df_top.specs.declared.mode.Mode.TheVariants.{Format, Run, Recover, Inspect, Scrub, Workload, Paced}
+use Rattle.df_top.specs.Mode.{HasNumbers, numbers_of, NamesLayout, Means, OneMeaning, SpellsFormat, SpellsPaced, SpellsWorkload}
 use Rattle.df_top.proofs.Commas.{fit, from_message_size, from_clients, from_block_size, from_blocks, Five, one_five}
 
 -- what begins with digits begins with one
@@ -76,6 +77,19 @@ three f a b g c d same = (cc same, cc same)
 one_is_not_three : (f g a b : List ℕ) (words : List (List ℕ)) → words ≡ f ∷ [] → words ≡ g ∷ a ∷ b ∷ [] → ⊥
 one_is_not_three f g a b words one other = omega (arith, ap length one, ap length other)
 
+-- and so are four
+four : (f a b c g d e h : List ℕ) → f ∷ a ∷ b ∷ c ∷ [] ≡ g ∷ d ∷ e ∷ h ∷ [] → (a ≡ d) × (b ≡ e) × (c ≡ h)
+four f a b c g d e h same = (cc same, cc same, cc same)
+
+one_is_not_four : (f g a b c : List ℕ) (words : List (List ℕ)) → words ≡ f ∷ [] → words ≡ g ∷ a ∷ b ∷ c ∷ [] → ⊥
+one_is_not_four f g a b c words one other = omega (arith, ap length one, ap length other)
+
+three_is_not_four : (f a b g c d e : List ℕ) (words : List (List ℕ)) → words ≡ f ∷ a ∷ b ∷ [] → words ≡ g ∷ c ∷ d ∷ e ∷ [] → ⊥
+three_is_not_four f a b g c d e words one other = omega (arith, ap length one, ap length other)
+
+same_paced : (p q : Pace) → p.scrub ≡ q.scrub → p.every ≡ q.every → p.steps ≡ q.steps → Paced p ≡ Paced q
+same_paced p q scrubs everies steps = λ i. Paced (record { scrub = scrubs i; every = everies i; steps = steps i })
+
 same_format : (l m : Layout) (c d : ℕ) → l ≡ m → c ≡ d → Format l c ≡ Format m d
 same_format l m c d layouts clusters = cc (layouts, clusters)
 
@@ -129,6 +143,22 @@ one_mode words (Workload s n) Inspect one other = absurd (one_is_not_three (code
 one_mode words (Format l c) Inspect one other = absurd (one_is_not_three (codes "inspect") (codes "format") one.name (decimal c) words other one.is)
 one_mode words (Workload s n) Scrub one other = absurd (one_is_not_three (codes "scrub") (codes "workload") (decimal s) (decimal n) words other one.is)
 one_mode words (Format l c) Scrub one other = absurd (one_is_not_three (codes "scrub") (codes "format") one.name (decimal c) words other one.is)
+one_mode words Run (Paced p) one other = absurd (one_is_not_four (codes "run") (codes "paced") (decimal p.scrub) (decimal p.every) (decimal p.steps) words one other.is)
+one_mode words (Paced p) Run one other = absurd (one_is_not_four (codes "run") (codes "paced") (decimal p.scrub) (decimal p.every) (decimal p.steps) words other one.is)
+one_mode words Recover (Paced p) one other = absurd (one_is_not_four (codes "recover") (codes "paced") (decimal p.scrub) (decimal p.every) (decimal p.steps) words one other.is)
+one_mode words (Paced p) Recover one other = absurd (one_is_not_four (codes "recover") (codes "paced") (decimal p.scrub) (decimal p.every) (decimal p.steps) words other one.is)
+one_mode words Inspect (Paced p) one other = absurd (one_is_not_four (codes "inspect") (codes "paced") (decimal p.scrub) (decimal p.every) (decimal p.steps) words one other.is)
+one_mode words (Paced p) Inspect one other = absurd (one_is_not_four (codes "inspect") (codes "paced") (decimal p.scrub) (decimal p.every) (decimal p.steps) words other one.is)
+one_mode words Scrub (Paced p) one other = absurd (one_is_not_four (codes "scrub") (codes "paced") (decimal p.scrub) (decimal p.every) (decimal p.steps) words one other.is)
+one_mode words (Paced p) Scrub one other = absurd (one_is_not_four (codes "scrub") (codes "paced") (decimal p.scrub) (decimal p.every) (decimal p.steps) words other one.is)
+one_mode words (Workload s n) (Paced p) one other = absurd (three_is_not_four (codes "workload") (decimal s) (decimal n) (codes "paced") (decimal p.scrub) (decimal p.every) (decimal p.steps) words one.is other.is)
+one_mode words (Paced p) (Workload s n) one other = absurd (three_is_not_four (codes "workload") (decimal s) (decimal n) (codes "paced") (decimal p.scrub) (decimal p.every) (decimal p.steps) words other.is one.is)
+one_mode words (Format l c) (Paced p) one other = absurd (three_is_not_four (codes "format") one.name (decimal c) (codes "paced") (decimal p.scrub) (decimal p.every) (decimal p.steps) words one.is other.is)
+one_mode words (Paced p) (Format l c) one other = absurd (three_is_not_four (codes "format") other.name (decimal c) (codes "paced") (decimal p.scrub) (decimal p.every) (decimal p.steps) words other.is one.is)
+one_mode words (Paced p) (Paced q) one other =
+    let parts = four (codes "paced") (decimal p.scrub) (decimal p.every) (decimal p.steps) (codes "paced") (decimal q.scrub) (decimal q.every) (decimal q.steps) (sym one.is ∙ other.is) in
+    same_paced p q (one_number p.scrub q.scrub (omega (arith, one.scrub)) (omega (arith, other.scrub)) parts.0) (one_number p.every q.every (omega (arith, one.every)) (omega (arith, other.every)) parts.1)
+    (one_number p.steps q.steps (omega (arith, one.steps)) (omega (arith, other.steps)) parts.2)
 one_mode words (Workload s n) (Format m d) one other = absurd (format_or_workload words m d s n other one)
 one_mode words (Format l c) (Workload s n) one other = absurd (format_or_workload words l c s n one other)
 one_mode words (Workload s n) (Workload u k) one other =
@@ -148,6 +178,7 @@ no_other word one two no_format no_workload Run says = one_is_not_three (codes "
 no_other word one two no_format no_workload Recover says = one_is_not_three (codes "recover") word one two (word ∷ one ∷ two ∷ []) says refl
 no_other word one two no_format no_workload Inspect says = one_is_not_three (codes "inspect") word one two (word ∷ one ∷ two ∷ []) says refl
 no_other word one two no_format no_workload Scrub says = one_is_not_three (codes "scrub") word one two (word ∷ one ∷ two ∷ []) says refl
+no_other word one two no_format no_workload (Paced p) says = three_is_not_four word one two (codes "paced") (decimal p.scrub) (decimal p.every) (decimal p.steps) (word ∷ one ∷ two ∷ []) refl says.is
 no_other word one two no_format no_workload (Workload s n) says = no_workload (first_of word one two (codes "workload") (decimal s) (decimal n) says.is)
 no_other word one two no_format no_workload (Format l c) says = no_format (first_of word one two (codes "format") says.name (decimal c) says.is)
 
@@ -157,6 +188,7 @@ only_format name cluster none Run says = one_is_not_three (codes "run") (codes "
 only_format name cluster none Recover says = one_is_not_three (codes "recover") (codes "format") name cluster (codes "format" ∷ name ∷ cluster ∷ []) says refl
 only_format name cluster none Inspect says = one_is_not_three (codes "inspect") (codes "format") name cluster (codes "format" ∷ name ∷ cluster ∷ []) says refl
 only_format name cluster none Scrub says = one_is_not_three (codes "scrub") (codes "format") name cluster (codes "format" ∷ name ∷ cluster ∷ []) says refl
+only_format name cluster none (Paced p) says = three_is_not_four (codes "format") name cluster (codes "paced") (decimal p.scrub) (decimal p.every) (decimal p.steps) (codes "format" ∷ name ∷ cluster ∷ []) refl says.is
 only_format name cluster none (Workload s n) says =
     let letter : 102 ≡ 119 = ap (λ (l : List ℕ). get_or l 0 0) (first_of (codes "format") name cluster (codes "workload") (decimal s) (decimal n) says.is) in
     omega (arith, letter)
@@ -170,6 +202,7 @@ only_workload seed count none Run says = one_is_not_three (codes "run") (codes "
 only_workload seed count none Recover says = one_is_not_three (codes "recover") (codes "workload") seed count (codes "workload" ∷ seed ∷ count ∷ []) says refl
 only_workload seed count none Inspect says = one_is_not_three (codes "inspect") (codes "workload") seed count (codes "workload" ∷ seed ∷ count ∷ []) says refl
 only_workload seed count none Scrub says = one_is_not_three (codes "scrub") (codes "workload") seed count (codes "workload" ∷ seed ∷ count ∷ []) says refl
+only_workload seed count none (Paced p) says = three_is_not_four (codes "workload") seed count (codes "paced") (decimal p.scrub) (decimal p.every) (decimal p.steps) (codes "workload" ∷ seed ∷ count ∷ []) refl says.is
 only_workload seed count none (Workload s n) says =
     let parts = three (codes "workload") seed count (codes "workload") (decimal s) (decimal n) says.is in
     none s n parts.0 parts.1 says.seed_fits says.some says.million
@@ -177,6 +210,34 @@ only_workload seed count none (Format l c) says =
     let letter : 119 ≡ 102 = ap (λ (l : List ℕ). get_or l 0 0) (first_of (codes "workload") seed count (codes "format") says.name (decimal c) says.is) in
     omega (arith, letter)
 
+-- ---- four words
+
+-- their first one is `paced`
+pub no_pace : (word one two three : List ℕ) → (word ≡ codes "paced" → ⊥) → (mode : Mode) → Means (word ∷ one ∷ two ∷ three ∷ []) mode → ⊥
+no_pace word one two three no_paced Run says = one_is_not_four (codes "run") word one two three (word ∷ one ∷ two ∷ three ∷ []) says refl
+no_pace word one two three no_paced Recover says = one_is_not_four (codes "recover") word one two three (word ∷ one ∷ two ∷ three ∷ []) says refl
+no_pace word one two three no_paced Inspect says = one_is_not_four (codes "inspect") word one two three (word ∷ one ∷ two ∷ three ∷ []) says refl
+no_pace word one two three no_paced Scrub says = one_is_not_four (codes "scrub") word one two three (word ∷ one ∷ two ∷ three ∷ []) says refl
+no_pace word one two three no_paced (Workload s n) says = three_is_not_four (codes "workload") (decimal s) (decimal n) word one two three (word ∷ one ∷ two ∷ three ∷ []) says.is refl
+no_pace word one two three no_paced (Format l c) says = three_is_not_four (codes "format") says.name (decimal c) word one two three (word ∷ one ∷ two ∷ three ∷ []) says.is refl
+no_pace word one two three no_paced (Paced p) says = let same : word ≡ codes "paced" = cc says.is in no_paced same
+
+-- behind it stand three numbers
+pub only_paced : (scrub every steps : List ℕ) → ((p : Pace) → scrub ≡ decimal p.scrub → every ≡ decimal p.every → steps ≡ decimal p.steps → p.scrub ≤ 64 → p.every ≤ 64 → p.steps ≤ 64 → ⊥) → (mode : Mode) → Means (codes "paced" ∷ scrub ∷ every ∷ steps ∷ []) mode → ⊥
+only_paced scrub every steps none Run says = one_is_not_four (codes "run") (codes "paced") scrub every steps (codes "paced" ∷ scrub ∷ every ∷ steps ∷ []) says refl
+only_paced scrub every steps none Recover says = one_is_not_four (codes "recover") (codes "paced") scrub every steps (codes "paced" ∷ scrub ∷ every ∷ steps ∷ []) says refl
+only_paced scrub every steps none Inspect says = one_is_not_four (codes "inspect") (codes "paced") scrub every steps (codes "paced" ∷ scrub ∷ every ∷ steps ∷ []) says refl
+only_paced scrub every steps none Scrub says = one_is_not_four (codes "scrub") (codes "paced") scrub every steps (codes "paced" ∷ scrub ∷ every ∷ steps ∷ []) says refl
+only_paced scrub every steps none (Workload s n) says = three_is_not_four (codes "workload") (decimal s) (decimal n) (codes "paced") scrub every steps (codes "paced" ∷ scrub ∷ every ∷ steps ∷ []) says.is refl
+only_paced scrub every steps none (Format l c) says = three_is_not_four (codes "format") says.name (decimal c) (codes "paced") scrub every steps (codes "paced" ∷ scrub ∷ every ∷ steps ∷ []) says.is refl
+only_paced scrub every steps none (Paced p) says =
+    let parts = four (codes "paced") scrub every steps (codes "paced") (decimal p.scrub) (decimal p.every) (decimal p.steps) says.is in
+    none p parts.0 parts.1 parts.2 says.scrub says.every says.steps
+
 -- a number out of its range
 pub out_of_range : (count : List ℕ) (found n : ℕ) → count ≡ decimal found → count ≡ decimal n → found < 2 ^ 64 → 1 ≤ n → n ≤ 1000000 → found ≡ n
 out_of_range count found n one other fits some million = one_number found n (omega arith) (omega arith) (sym one ∙ other)
+
+-- a number of a pace
+pub past_pieces : (text : List ℕ) (found n : ℕ) → text ≡ decimal found → text ≡ decimal n → found < 2 ^ 64 → n ≤ 64 → found ≡ n
+past_pieces text found n one other fits few = one_number found n (omega arith) (omega arith) (sym one ∙ other)

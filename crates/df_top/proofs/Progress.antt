@@ -1,6 +1,6 @@
--- A session goes on by one line, or ends.
-use Rattle.std.proofs.Common.{◌≡◌, ℕ, ◌+◌, true, false, List, [], ◌∷◌, ◌++◌, map, Option, Some, None, refl, sym, subst, arith, length-append}
-use Rattle.std.proofs.lemmas.List.{append-nil, map_push}
+-- A session goes on by one call, of a line or of the loop, or ends.
+use Rattle.std.proofs.Common.{◌≡◌, ℕ, ◌+◌, true, false, List, [], ◌∷◌, ◌++◌, length, Option, Some, None, refl, sym, ◌∙◌, ap, subst, arith, length-append, append_assoc}
+use Rattle.std.proofs.lemmas.List.{append-nil}
 use Rattle.df_base.specs.Streams.{Appends, AppendsPart}
 use Rattle.df_base.proofs.Laws.{appends_none, appends_more, appends_part}
 use Rattle.df_disk.specs.Told.{Told}
@@ -9,119 +9,162 @@ use Rattle.df_lines.specs.Grammar.{Said}
 use Rattle.df_lines.specs.Script.{Begins, IsRefused}
 use Rattle.df_lines.specs.Text.{after_line}
 use Rattle.df_model.specs.Commands.{Answer, Command}
+use Rattle.df_pace.specs.Beats.{command_of as piece_command, next_piece}
+use Rattle.df_pace.specs.declared.beat.Beat.{Beat}
+use Rattle.df_pace.specs.declared.beat.Piece.{Piece}
+use Rattle.df_pace.specs.declared.pace.Pace.{Pace}
 use Rattle.df_session.specs.Below.{State as Replica}
 use Rattle.df_session.specs.Session.{Act}
 use Rattle.df_script_model.specs.Script.{answer_text}
-use Rattle.df_session.proofs.Laws.{calls_join}
-use Rattle.df_top.specs.Lines.{Turned, all_acts, all_answers, all_text, command_of, said_in}
-use Rattle.df_session.specs.Links.{AreCalls, Makes}
+use Rattle.df_top.specs.Lines.{Asker, ByLine, ByLoop, Turned, all_said, all_text, command_of, said_by, told_by}
+use Rattle.df_session.specs.Links.{Calls, Makes}
+use Rattle.df_top.specs.Pacing.{AreTurns, EndTurns, IsIdle, IsNext, behind, runs}
 use Rattle.df_top.specs.Session.{Ended, EndsText, EndsWith, Executed, HoldsLine, IsDamagedLine, State}
 use Rattle.df_top.specs.Step.{EndsDamaged, EndsIn, GoesOn, IsAnswered, Takes}
 use Rattle.df_top.specs.declared.status.Status.{Status}
 use Rattle.df_top.specs.declared.status.Status.TheVariants.{Done, Script, Refused, DiskFault, ReadFault, WriteFault}
-use Rattle.df_top.proofs.Written.{acts_more, answers_more, are_more, begins_more, text_more}
+use Rattle.df_top.proofs.Written.{begins_more, said_more, text_more, turns_join}
 
 -- ---- on
 
 -- at the start nothing was executed
-pub executed_none : (bound : ℕ) (origin : State) → Executed bound origin origin []
-executed_none bound origin = record {
+pub executed_none : (pace : Pace) (bound : ℕ) (origin : State) → Executed pace bound origin origin []
+executed_none pace bound origin = record {
   text = λ text is. (text, is, (refl, refl));
-  are = tt;
   written = appends_none origin.outside.written;
   lines = omega arith;
-  calls = (refl, refl);
+  calls = (refl, refl, refl);
 }
 
--- the text with one line more
-text_on : (bound : ℕ) (origin old : State) (turns : List Turned) (said : Said) (left : Option (List ℕ)) (budget : ℕ)
-    → Executed bound origin old turns → Takes bound old said left budget → (text : List ℕ) → origin.text ≡ Some text
-    → (rest : List ℕ) × (left ≡ Some rest) × Begins bound origin.budget text (map said_in turns ++ said ∷ []) budget rest
-text_on bound origin old turns said left budget so_far takes text is =
+-- a call takes the line that asks for it, or no line
+abbrev pub TakesFor : (bound : ℕ) → State → Asker → Option (List ℕ) → ℕ → Type 0
+TakesFor bound old (ByLine said) text budget = Takes bound old said text budget
+TakesFor bound old (ByLoop p) text budget = (text ≡ old.text) × (budget ≡ old.budget)
+
+-- the text with one call more
+text_on : (pace : Pace) (bound : ℕ) (origin old : State) (turns : List Turned) (asker : Asker) (left : Option (List ℕ)) (budget : ℕ)
+    → Executed pace bound origin old turns → TakesFor bound old asker left budget → (text : List ℕ) → origin.text ≡ Some text
+    → (rest : List ℕ) × (left ≡ Some rest) × Begins bound origin.budget text (all_said turns ++ said_by asker) budget rest
+text_on pace bound origin old turns (ByLine said) left budget so_far takes text is =
     let before = so_far.text text is in
     let line = takes before.0 before.1 in (
       after_line before.0,
       line.1,
-      subst (λ (n : ℕ). Begins bound origin.budget text (map said_in turns ++ said ∷ []) n (after_line before.0)) (sym line.2)
-          (begins_more bound origin.budget text (map said_in turns) old.budget before.0 said before.2 line.0),
+      subst (λ (n : ℕ). Begins bound origin.budget text (all_said turns ++ said ∷ []) n (after_line before.0)) (sym line.2)
+          (begins_more bound origin.budget text (all_said turns) old.budget before.0 said before.2 line.0),
+    )
+text_on pace bound origin old turns (ByLoop p) left budget so_far takes text is =
+    let before = so_far.text text is in (
+      before.0,
+      takes.0 ∙ before.1,
+      subst (λ (n : ℕ). Begins bound origin.budget text (all_said turns ++ []) n before.0) (sym takes.1)
+          (subst (λ (l : List Said). Begins bound origin.budget text l old.budget before.0) (sym (append-nil (all_said turns))) before.2),
     )
 
--- the call of a line was made and answered
-module _ (bound : ℕ) (old new : State) (said : Said) (takes : Takes bound old said new.text new.budget) (x : Answer) (makes : Makes (command_of said) old.replica new.replica old.outside.told new.outside.told (Some x))
-    (origin : State) (turns : List Turned) (so_far : Executed bound origin old turns) where
-  line : Turned
-  line = record { said = said; act = makes.act; answer = x }
+-- the call was made and answered
+module _ (pace : Pace) (bound : ℕ) (old new : State) (asker : Asker) (takes : TakesFor bound old asker new.text new.budget) (act : Act) (next : IsNext old.beat old.replica asker act.command) (x : Answer)
+    (calls : Calls act old.replica new.replica old.outside.told new.outside.told (Some x)) (origin : State) (turns : List Turned) (so_far : Executed pace bound origin old turns) where
+  abbrev one : Turned
+  one = record { asker = asker; act = act; answer = x }
 
-  all_calls : AreCalls origin.replica origin.outside.told (all_acts (turns ++ line ∷ [])) (all_answers (turns ++ line ∷ [])) new.replica new.outside.told
-  unfolding line
-  all_calls =
-      subst (λ (l : List Act). AreCalls origin.replica origin.outside.told l (all_answers (turns ++ line ∷ [])) new.replica new.outside.told) (sym (acts_more turns line))
-      (subst (λ (l : List Answer). AreCalls origin.replica origin.outside.told (all_acts turns ++ makes.act ∷ []) l new.replica new.outside.told) (sym (answers_more turns line))
-      (calls_join origin.replica old.replica new.replica origin.outside.told old.outside.told new.outside.told (all_acts turns) (makes.act ∷ []) (all_answers turns) (x ∷ []) so_far.calls
-      (new.replica, new.outside.told, makes.calls, (refl, refl))))
+  abbrev beat_then : Beat
+  beat_then = behind pace old.beat asker new.replica x
 
-  said_on : (text : List ℕ) → origin.text ≡ Some text → (rest : List ℕ) × (new.text ≡ Some rest) × Begins bound origin.budget text (map said_in (turns ++ line ∷ [])) new.budget rest
-  unfolding line
+  all_turns : AreTurns pace origin.beat origin.replica origin.outside.told (turns ++ one ∷ []) beat_then new.replica new.outside.told
+  all_turns =
+      turns_join pace origin.beat old.beat beat_then origin.replica old.replica new.replica origin.outside.told old.outside.told new.outside.told turns (one ∷ []) so_far.calls (new.replica, new.outside.told, next, calls, (refl, refl, refl))
+
+  said_is : all_said (turns ++ one ∷ []) ≡ all_said turns ++ said_by asker
+  said_is = said_more turns (one ∷ []) ∙ ap (λ (l : List Said). all_said turns ++ l) (append-nil (said_by asker))
+
+  text_is : all_text (turns ++ one ∷ []) ≡ all_text turns ++ told_by asker x
+  text_is = text_more turns (one ∷ []) ∙ ap (λ (l : List ℕ). all_text turns ++ l) (append-nil (told_by asker x))
+
+  said_on : (text : List ℕ) → origin.text ≡ Some text → (rest : List ℕ) × (new.text ≡ Some rest) × Begins bound origin.budget text (all_said (turns ++ one ∷ [])) new.budget rest
   said_on text is =
-      let more = text_on bound origin old turns said new.text new.budget so_far takes text is in
-      (more.0, more.1, subst (λ (l : List Said). Begins bound origin.budget text l new.budget more.0) (sym (map_push said_in turns line)) more.2)
+      let more = text_on pace bound origin old turns asker new.text new.budget so_far takes text is in
+      (more.0, more.1, subst (λ (l : List Said). Begins bound origin.budget text l new.budget more.0) (sym said_is) more.2)
 
-  pub line_done : Appends old.outside.written new.outside.written (answer_text (command_of said) x) → new.lines ≡ old.lines + 1 → (t : Turned) × Executed bound origin new (turns ++ t ∷ [])
-  unfolding line
-  line_done wrote lines = (
-    line,
+  pub call_done : Appends old.outside.written new.outside.written (told_by asker x) → new.lines ≡ old.lines + length (said_by asker) → new.beat ≡ beat_then → (more : List Turned) × Executed pace bound origin new (turns ++ more)
+  call_done wrote lines beat = (
+    one ∷ [],
     record {
       text = said_on;
-      are = are_more turns line so_far.are makes.is;
       written =
-          subst (λ (l : List ℕ). Appends origin.outside.written new.outside.written l) (sym (text_more turns line))
-          (appends_more origin.outside.written old.outside.written new.outside.written (all_text turns) (answer_text (command_of said) x) so_far.written wrote);
-      lines = omega (arith, lines, so_far.lines, length-append turns (line ∷ []));
-      calls = all_calls;
+          subst (λ (l : List ℕ). Appends origin.outside.written new.outside.written l) (sym text_is)
+          (appends_more origin.outside.written old.outside.written new.outside.written (all_text turns) (told_by asker x) so_far.written wrote);
+      lines = let count = ap length said_is in omega (arith, lines, so_far.lines, count, length-append (all_said turns) (said_by asker));
+      calls = subst (λ (c : Beat). AreTurns pace origin.beat origin.replica origin.outside.told (turns ++ one ∷ []) c new.replica new.outside.told) (sym beat) all_turns;
     },
   )
 
-  pub line_cut_off : AppendsPart old.outside.written new.outside.written (answer_text (command_of said) x) → Ended bound origin new WriteFault
-  unfolding line
-  line_cut_off wrote = record {
-    turns = turns ++ line ∷ [];
+  pub call_cut_off : AppendsPart old.outside.written new.outside.written (told_by asker x) → Ended pace bound origin new WriteFault
+  call_cut_off wrote = record {
+    turns = turns ++ one ∷ [];
     failing = None;
     cut = false;
     text = λ text is.
         let more = said_on text is in (
           new.budget,
           more.0,
-          subst (λ (l : List Said). Begins bound origin.budget text l new.budget more.0) (sym (append-nil (map said_in (turns ++ line ∷ [])))) more.2,
+          subst (λ (l : List Said). Begins bound origin.budget text l new.budget more.0) (sym (append-nil (all_said (turns ++ one ∷ [])))) more.2,
           record { refused = λ no. absurd (cc); held = λ no. absurd (cc); finished = λ no. absurd (cc) },
         );
-    are = are_more turns line so_far.are makes.is;
     written =
-        subst (λ (l : List ℕ). AppendsPart origin.outside.written new.outside.written l) (sym (text_more turns line))
-        (appends_part origin.outside.written old.outside.written new.outside.written (all_text turns) (answer_text (command_of said) x) so_far.written wrote);
-    calls = all_calls;
+        subst (λ (l : List ℕ). AppendsPart origin.outside.written new.outside.written l) (sym text_is)
+        (appends_part origin.outside.written old.outside.written new.outside.written (all_text turns) (told_by asker x) so_far.written wrote);
+    calls = (beat_then, all_turns, λ no. absurd (no refl));
   }
 
-pub goes_on : (bound : ℕ) (old new : State) (said : Said) → Takes bound old said new.text new.budget
-    → IsAnswered (command_of said) old.replica new.replica old.outside.told new.outside.told (λ line. Appends old.outside.written new.outside.written line) → new.lines ≡ old.lines + 1 → GoesOn bound old new
-goes_on bound old new said takes done lines origin turns so_far = line_done bound old new said takes done.0 done.1 origin turns so_far done.2 lines
+-- a line was executed
+pub goes_on : (pace : Pace) (bound : ℕ) (old new : State) (said : Said) → Takes bound old said new.text new.budget → IsIdle old.beat old.replica
+    → (done : IsAnswered (command_of said) old.replica new.replica old.outside.told new.outside.told (λ line. Appends old.outside.written new.outside.written line)) → new.lines ≡ old.lines + 1
+    → new.beat ≡ behind pace old.beat (ByLine said) new.replica done.0 → GoesOn pace bound old new
+goes_on pace bound old new said takes idle done lines beat origin turns so_far =
+    call_done pace bound old new (ByLine said) takes done.1.act (done.1.is, idle) done.0 done.1.calls origin turns so_far done.2 (omega (arith, lines)) beat
+
+-- a piece of the loop's work was done
+module _ (pace : Pace) (bound : ℕ) (old new : State) (p : Piece) (text : new.text ≡ old.text) (budget : new.budget ≡ old.budget) (due : next_piece old.beat.due (runs old.replica) ≡ Some p) where
+  pub works_on : (x : Answer) → Makes (piece_command p old.replica.root) old.replica new.replica old.outside.told new.outside.told (Some x) → new.outside.written ≡ old.outside.written → new.lines ≡ old.lines → new.beat ≡ behind pace old.beat (ByLoop p) new.replica x
+      → GoesOn pace bound old new
+  works_on x makes wrote lines beat origin turns so_far =
+      call_done pace bound old new (ByLoop p) (text, budget) makes.act (makes.is, due) x makes.calls origin turns so_far
+      (subst (λ (o : Option (List ℕ)). Appends old.outside.written o []) (sym wrote) (appends_none old.outside.written)) (omega (arith, lines)) beat
+
+-- ---- some calls and some more
+
+pub on_none : (pace : Pace) (bound : ℕ) (old new : State) → new ≡ old → GoesOn pace bound old new
+on_none pace bound old new same origin turns so_far = ([], subst (λ (l : List Turned). Executed pace bound origin new l) (sym (append-nil turns)) (subst (λ (s : State). Executed pace bound origin s turns) (sym same) so_far))
+
+pub on_more : (pace : Pace) (bound : ℕ) (old mid new : State) → GoesOn pace bound old mid → GoesOn pace bound mid new → GoesOn pace bound old new
+on_more pace bound old mid new one two origin turns so_far =
+    let first = one origin turns so_far in
+    let second = two origin (turns ++ first.0) first.1 in
+    (first.0 ++ second.0, subst (λ (l : List Turned). Executed pace bound origin new l) (append_assoc turns first.0 second.0) second.1)
+
+pub on_ends : (pace : Pace) (bound : ℕ) (old mid new : State) (status : Status) → GoesOn pace bound old mid → EndsIn pace bound mid new status → EndsIn pace bound old new status
+on_ends pace bound old mid new status one two origin turns so_far = let first = one origin turns so_far in two origin (turns ++ first.0) first.1
 
 -- ---- the end
 
 -- nothing more was executed
-module _ (bound : ℕ) (old new : State) (same_told : new.outside.told ≡ old.outside.told) (same_replica : new.replica ≡ old.replica) where
-  stays : (origin : State) (turns : List Turned) → Executed bound origin old turns → AreCalls origin.replica origin.outside.told (all_acts turns) (all_answers turns) new.replica new.outside.told
-  stays origin turns so_far =
-      subst (λ (o : Option Told). AreCalls origin.replica origin.outside.told (all_acts turns) (all_answers turns) new.replica o) (sym same_told)
-      (subst (λ (r : Replica). AreCalls origin.replica origin.outside.told (all_acts turns) (all_answers turns) r old.outside.told) (sym same_replica) so_far.calls)
+module _ (pace : Pace) (bound : ℕ) (old new : State) (same_told : new.outside.told ≡ old.outside.told) (same_replica : new.replica ≡ old.replica) (idle : IsIdle old.beat old.replica) where
+  stays : (status : Status) (origin : State) (turns : List Turned) → Executed pace bound origin old turns → EndTurns pace origin.beat origin.replica origin.outside.told turns None status new.replica new.outside.told
+  stays status origin turns so_far = (
+    old.beat,
+    subst (λ (o : Option Told). AreTurns pace origin.beat origin.replica origin.outside.told turns old.beat new.replica o) (sym same_told)
+        (subst (λ (r : Replica). AreTurns pace origin.beat origin.replica origin.outside.told turns old.beat r old.outside.told) (sym same_replica) so_far.calls),
+    λ no. subst (λ (r : Replica). IsIdle old.beat r) (sym same_replica) idle,
+  )
 
-  said_all : (origin : State) (turns : List Turned) (text rest : List ℕ) → Begins bound origin.budget text (map said_in turns) old.budget rest → Begins bound origin.budget text (map said_in turns ++ []) old.budget rest
-  said_all origin turns text rest begins = subst (λ (l : List Said). Begins bound origin.budget text l old.budget rest) (sym (append-nil (map said_in turns))) begins
+  said_all : (origin : State) (turns : List Turned) (text rest : List ℕ) → Begins bound origin.budget text (all_said turns) old.budget rest → Begins bound origin.budget text (all_said turns ++ []) old.budget rest
+  said_all origin turns text rest begins = subst (λ (l : List Said). Begins bound origin.budget text l old.budget rest) (sym (append-nil (all_said turns))) begins
 
-  written_so : (origin : State) (turns : List Turned) → new.outside.written ≡ old.outside.written → Executed bound origin old turns → Appends origin.outside.written new.outside.written (all_text turns)
+  written_so : (origin : State) (turns : List Turned) → new.outside.written ≡ old.outside.written → Executed pace bound origin old turns → Appends origin.outside.written new.outside.written (all_text turns)
   written_so origin turns same so_far = subst (λ (o : Option (List ℕ)). Appends origin.outside.written o (all_text turns)) (sym same) so_far.written
 
   -- the text is at its end
-  pub ends_done : new.outside.written ≡ old.outside.written → ((rest : List ℕ) → old.text ≡ Some rest → (rest ≡ []) × (new.outside.left ≡ Some [])) → EndsIn bound old new Done
+  pub ends_done : new.outside.written ≡ old.outside.written → ((rest : List ℕ) → old.text ≡ Some rest → (rest ≡ []) × (new.outside.left ≡ Some [])) → EndsIn pace bound old new Done
   ends_done same at_end origin turns so_far = record {
     turns = turns;
     failing = None;
@@ -129,13 +172,12 @@ module _ (bound : ℕ) (old new : State) (same_told : new.outside.told ≡ old.o
     text = λ text is.
         let before = so_far.text text is in
         (old.budget, before.0, said_all origin turns text before.0 before.2, record { refused = λ no. absurd (cc); held = λ no. absurd (cc); finished = λ yes. at_end before.0 before.1 });
-    are = so_far.are;
     written = (refl, written_so origin turns same so_far);
-    calls = stays origin turns so_far;
+    calls = stays Done origin turns so_far;
   }
 
   -- the source failed
-  pub ends_read : new.outside.written ≡ old.outside.written → EndsIn bound old new ReadFault
+  pub ends_read : new.outside.written ≡ old.outside.written → EndsIn pace bound old new ReadFault
   ends_read same origin turns so_far = record {
     turns = turns;
     failing = None;
@@ -143,32 +185,30 @@ module _ (bound : ℕ) (old new : State) (same_told : new.outside.told ≡ old.o
     text = λ text is.
         let before = so_far.text text is in
         (old.budget, before.0, said_all origin turns text before.0 before.2, record { refused = λ no. absurd (cc); held = λ no. absurd (cc); finished = λ no. absurd (cc) });
-    are = so_far.are;
     written = (refl, written_so origin turns same so_far);
-    calls = stays origin turns so_far;
+    calls = stays ReadFault origin turns so_far;
   }
 
   -- the next line is refused, and was read, and the line that says so is written, or a front of it
   module _ (refused : (rest : List ℕ) → old.text ≡ Some rest → IsRefused bound old.budget rest)
       (holds : (rest : List ℕ) → old.text ≡ Some rest → (remains : List ℕ) → new.outside.left ≡ Some remains → HoldsLine bound rest remains) where
-    cut_text : (origin : State) (turns : List Turned) (status : Status) → (status ≡ Done → ⊥) → Executed bound origin old turns → (text : List ℕ) → origin.text ≡ Some text
-        → (budget : ℕ) × (rest : List ℕ) × Begins bound origin.budget text (map said_in turns ++ []) budget rest × EndsText bound budget rest new.outside.left true status
+    cut_text : (origin : State) (turns : List Turned) (status : Status) → (status ≡ Done → ⊥) → Executed pace bound origin old turns → (text : List ℕ) → origin.text ≡ Some text
+        → (budget : ℕ) × (rest : List ℕ) × Begins bound origin.budget text (all_said turns ++ []) budget rest × EndsText bound budget rest new.outside.left true status
     cut_text origin turns status unfinished so_far text is =
         let before = so_far.text text is in
         (old.budget, before.0, said_all origin turns text before.0 before.2, record { refused = λ yes. refused before.0 before.1; held = λ yes. holds before.0 before.1; finished = λ done. absurd (unfinished done) })
 
-    ends_cut : (status : Status) → (status ≡ Done → ⊥) → (origin : State) (turns : List Turned) → Executed bound origin old turns → EndsWith origin.lines origin.outside new.outside turns None true status → Ended bound origin new status
+    ends_cut : (status : Status) → (status ≡ Done → ⊥) → (origin : State) (turns : List Turned) → Executed pace bound origin old turns → EndsWith origin.lines origin.outside new.outside turns None true status → Ended pace bound origin new status
     ends_cut status unfinished origin turns so_far written = record {
       turns = turns;
       failing = None;
       cut = true;
       text = cut_text origin turns status unfinished so_far;
-      are = so_far.are;
       written = written;
-      calls = stays origin turns so_far;
+      calls = stays status origin turns so_far;
     }
 
-    pub ends_script : Appends old.outside.written new.outside.written (script_text (old.lines + 1)) → EndsIn bound old new Script
+    pub ends_script : Appends old.outside.written new.outside.written (script_text (old.lines + 1)) → EndsIn pace bound old new Script
     ends_script wrote origin turns so_far =
         ends_cut Script (λ no. cc) origin turns so_far (
           refl,
@@ -176,53 +216,53 @@ module _ (bound : ℕ) (old new : State) (same_told : new.outside.told ≡ old.o
               (subst (λ (n : ℕ). Appends old.outside.written new.outside.written (script_text (n + 1))) so_far.lines wrote),
         )
 
-    pub ends_script_fault : AppendsPart old.outside.written new.outside.written (script_text (old.lines + 1)) → EndsIn bound old new WriteFault
+    pub ends_script_fault : AppendsPart old.outside.written new.outside.written (script_text (old.lines + 1)) → EndsIn pace bound old new WriteFault
     ends_script_fault wrote origin turns so_far =
         ends_cut WriteFault (λ no. cc) origin turns so_far
         (appends_part origin.outside.written old.outside.written new.outside.written (all_text turns) _ so_far.written
         (subst (λ (n : ℕ). AppendsPart old.outside.written new.outside.written (script_text (n + 1))) so_far.lines wrote))
 
--- the session ends within a call, or with its answer
-module _ (bound : ℕ) (old new : State) (said : Said) (takes : Takes bound old said new.text new.budget) where
-  last_text : (origin : State) (turns : List Turned) (status : Status) → (status ≡ Done → ⊥) → Executed bound origin old turns → (text : List ℕ) → origin.text ≡ Some text
-      → (budget : ℕ) × (rest : List ℕ) × Begins bound origin.budget text (map said_in turns ++ said ∷ []) budget rest × EndsText bound budget rest new.outside.left false status
+-- the session ends within a call
+module _ (pace : Pace) (bound : ℕ) (old new : State) (asker : Asker) (command : Command) (takes : TakesFor bound old asker new.text new.budget) (next : (c : Command) → c ≡ command → IsNext old.beat old.replica asker c) where
+  last_text : (origin : State) (turns : List Turned) (status : Status) → (status ≡ Done → ⊥) → Executed pace bound origin old turns → (text : List ℕ) → origin.text ≡ Some text
+      → (budget : ℕ) × (rest : List ℕ) × Begins bound origin.budget text (all_said turns ++ said_by asker) budget rest × EndsText bound budget rest new.outside.left false status
   last_text origin turns status unfinished so_far text is =
-      let more = text_on bound origin old turns said new.text new.budget so_far takes text is in
+      let more = text_on pace bound origin old turns asker new.text new.budget so_far takes text is in
       (new.budget, more.0, more.2, record { refused = λ no. absurd (cc); held = λ no. absurd (cc); finished = λ done. absurd (unfinished done) })
 
-  -- its call wasn't answered
-  ends_failing : (status : Status) → (status ≡ Done → ⊥) → (makes : Makes (command_of said) old.replica new.replica old.outside.told new.outside.told None) (origin : State) (turns : List Turned) → Executed bound origin old turns
-      → EndsWith origin.lines origin.outside new.outside turns (Some makes.act) false status → Ended bound origin new status
+  -- it wasn't answered
+  ends_failing : (status : Status) → (status ≡ Done → ⊥) → (makes : Makes command old.replica new.replica old.outside.told new.outside.told None) (origin : State) (turns : List Turned) → Executed pace bound origin old turns
+      → EndsWith origin.lines origin.outside new.outside turns (Some makes.act) false status → Ended pace bound origin new status
   ends_failing status unfinished makes origin turns so_far written = record {
     turns = turns;
-    failing = Some (record { said = said; act = makes.act; asks = makes.is });
+    failing = Some (record { asker = asker; act = makes.act });
     cut = false;
     text = last_text origin turns status unfinished so_far;
-    are = so_far.are;
     written = written;
-    calls = (old.replica, old.outside.told, so_far.calls, makes.calls);
+    calls = (old.beat, old.replica, old.outside.told, so_far.calls, next makes.act.command makes.is, makes.calls);
   }
 
   -- the disk failed
-  pub ends_disk : Makes (command_of said) old.replica new.replica old.outside.told new.outside.told None × (new.outside.written ≡ old.outside.written) → EndsIn bound old new DiskFault
+  pub ends_disk : Makes command old.replica new.replica old.outside.told new.outside.told None × (new.outside.written ≡ old.outside.written) → EndsIn pace bound old new DiskFault
   ends_disk failed origin turns so_far =
       ends_failing DiskFault (λ no. cc) failed.0 origin turns so_far (refl, subst (λ (o : Option (List ℕ)). Appends origin.outside.written o (all_text turns)) (sym failed.1) so_far.written)
 
-  -- the sink failed
-  pub ends_answer : IsAnswered (command_of said) old.replica new.replica old.outside.told new.outside.told (λ line. AppendsPart old.outside.written new.outside.written line) → EndsIn bound old new WriteFault
-  ends_answer done origin turns so_far = line_cut_off bound old new said takes done.0 done.1 origin turns so_far done.2
-
   -- its step is damaged
-  damaged_step : (makes : Makes (command_of said) old.replica new.replica old.outside.told new.outside.told None) (line : List ℕ) → IsDamagedLine (command_of said) new.outside.told line → IsDamagedLine makes.act.command new.outside.told line
+  damaged_step : (makes : Makes command old.replica new.replica old.outside.told new.outside.told None) (line : List ℕ) → IsDamagedLine command new.outside.told line → IsDamagedLine makes.act.command new.outside.told line
   damaged_step makes line damaged = subst (λ (c : Command). IsDamagedLine c new.outside.told line) (sym makes.is) damaged
 
   -- the line that says so is written, or a front of it
-  pub ends_damaged : EndsDamaged (command_of said) old.replica new.replica old.outside.told new.outside.told (λ line. Appends old.outside.written new.outside.written line) → EndsIn bound old new Refused
+  pub ends_damaged : EndsDamaged command old.replica new.replica old.outside.told new.outside.told (λ line. Appends old.outside.written new.outside.written line) → EndsIn pace bound old new Refused
   ends_damaged failed origin turns so_far =
       ends_failing Refused (λ no. cc) failed.1 origin turns so_far
       (refl, failed.0, damaged_step failed.1 failed.0 failed.2, appends_more origin.outside.written old.outside.written new.outside.written (all_text turns) failed.0 so_far.written failed.3)
 
-  pub ends_damaged_fault : EndsDamaged (command_of said) old.replica new.replica old.outside.told new.outside.told (λ line. AppendsPart old.outside.written new.outside.written line) → EndsIn bound old new WriteFault
+  pub ends_damaged_fault : EndsDamaged command old.replica new.replica old.outside.told new.outside.told (λ line. AppendsPart old.outside.written new.outside.written line) → EndsIn pace bound old new WriteFault
   ends_damaged_fault failed origin turns so_far =
       ends_failing WriteFault (λ no. cc) failed.1 origin turns so_far
       (refl, failed.0, damaged_step failed.1 failed.0 failed.2, appends_part origin.outside.written old.outside.written new.outside.written (all_text turns) failed.0 so_far.written failed.3)
+
+-- the sink failed with the answer to a line
+pub ends_answer : (pace : Pace) (bound : ℕ) (old new : State) (said : Said) → Takes bound old said new.text new.budget → IsIdle old.beat old.replica
+    → IsAnswered (command_of said) old.replica new.replica old.outside.told new.outside.told (λ line. AppendsPart old.outside.written new.outside.written line) → EndsIn pace bound old new WriteFault
+ends_answer pace bound old new said takes idle done origin turns so_far = call_cut_off pace bound old new (ByLine said) takes done.1.act (done.1.is, idle) done.0 done.1.calls origin turns so_far done.2

@@ -28,6 +28,8 @@ use Rattle.df_script_model.specs.Texts.{message_text}
 use Rattle.df_session.specs.Supply.{IsSupplied}
 use Rattle.df_session.specs.Endings.{heard}
 use Rattle.df_session.specs.Links.{Makes}
+use Rattle.df_session.specs.Own.{own_events}
+use Rattle.df_session.proofs.Laws.{adds_none}
 use Rattle.df_top.specs.Turning.{IsPrinted, Tells, printed_turn}
 use Rattle.df_top.specs.declared.turns.Turn.{Turn}
 use Rattle.df_top.proofs.Answered.{Comes, comes_answered, comes_failed, prints_turn, told_fault}
@@ -64,22 +66,22 @@ shown_turn word u h b written took r turn h_is b_is turn_is prints =
 module _ (s t : Replica) (old new : Option Told) (same : new ≡ old) where
   -- what was found serves the command, where that is what it is rightly supplied with
   makes : (form : Result Message Class → Given) (own : (m : Result Message Class) → supplied_message (form m) ≡ m) (command : Command) (found : Option (Result Message Class)) (answer : Option Answer)
-      → IsSupplied s old command (supply form s command old found) → ServesRead command s t old found answer → Makes command s t old new answer
-  makes form own command found answer supplied serves = record {
+      → IsSupplied s old command (supply form s command old found) → own_events command s ≡ [] → ServesRead command s t old found answer → Makes command s t old new answer
+  makes form own command found answer supplied none serves = record {
     act = record { command = command; given = supply form s command old found };
     is = refl;
     calls = record {
       call =
           subst (λ (o : Option Told). IsCall (supply form s command old found) command s t old o answer) (sym same) (serves (supply form s command old found) supplied (gives form own s command old found));
-      told = ([], same);
+      own = adds_none command s old new answer none same;
     };
   }
 
   makes_prepare : (op : ℕ) (found : Option (Result Message Class)) (answer : Option Answer) → ServesRead (ReadPrepare op) s t old found answer → Makes (ReadPrepare op) s t old new answer
-  makes_prepare op found answer serves = makes ForReadPrepare (λ m. refl) (ReadPrepare op) found answer (refl, found_by s (ReadPrepare op) old found) serves
+  makes_prepare op found answer serves = makes ForReadPrepare (λ m. refl) (ReadPrepare op) found answer (refl, found_by s (ReadPrepare op) old found) refl serves
 
   makes_reply : (client : ℕ) (found : Option (Result Message Class)) (answer : Option Answer) → ServesRead (ReadReply client) s t old found answer → Makes (ReadReply client) s t old new answer
-  makes_reply client found answer serves = makes ForReadReply (λ m. refl) (ReadReply client) found answer (refl, found_by s (ReadReply client) old found) serves
+  makes_reply client found answer serves = makes ForReadReply (λ m. refl) (ReadReply client) found answer (refl, found_by s (ReadReply client) old found) refl serves
 
   module _ (written took : Option (List ℕ)) (before now : ℕ) (turn : Turn) where
     abbrev Reads : Command → Type 0

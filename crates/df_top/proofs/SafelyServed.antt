@@ -8,6 +8,8 @@ use Rattle.df_lines.specs.Grammar.{Said}
 use Rattle.df_lines.specs.Room.{line_bound}
 use Rattle.df_lines.specs.Script.{Begins, IsRefused, IsScript}
 use Rattle.df_lines.proofs.Laws.{one_script, begins_one}
+use Rattle.df_pace.specs.Beats.{idle}
+use Rattle.df_pace.specs.declared.pace.Pace.{Pace}
 use Rattle.df_session.specs.Below.{DataFile, IsNotRefused, State as Replica}
 use Rattle.df_theory.specs.View.{View}
 use Rattle.df_session.specs.Following.{MayOpen}
@@ -20,12 +22,12 @@ use Rattle.df_top.specs.Outside.{Faults, HasCauses, Outside}
 use Rattle.df_top.specs.Reporting.{status_of}
 use Rattle.df_top.specs.Scrubs.{failing_blocks, tour_status}
 use Rattle.df_top.specs.Run.{ComesTo, Does, DidNothing, RefusesSuperblock, ServesOwn, ServesScript, Works, script_budget}
-use Rattle.df_top.specs.Lines.{Turned, said_in}
-use Rattle.df_top.specs.Session.{EndsWith, act_of, said_of}
+use Rattle.df_top.specs.Lines.{Turned, act_of, all_said, said_of}
+use Rattle.df_top.specs.Session.{EndsWith}
 use Rattle.df_workload.specs.declared.state.State.{State as Generated}
 use Rattle.df_top.specs.Works.{Writes}
 use Rattle.df_top.specs.declared.mode.Mode.{Mode}
-use Rattle.df_top.specs.declared.mode.Mode.TheVariants.{Format, Run, Recover, Inspect, Scrub, Workload}
+use Rattle.df_top.specs.declared.mode.Mode.TheVariants.{Format, Run, Recover, Inspect, Scrub, Workload, Paced}
 use Rattle.df_top.specs.declared.status.Status.{Status}
 use Rattle.df_top.specs.declared.status.Status.TheVariants.{Done, Found, Script, Refused, DiskFault, ReadFault, WriteFault, Memory}
 
@@ -98,15 +100,15 @@ module _ (file : DataFile) (view : View) (t : Told) (old new : Outside) (before 
   no_refusal : RefusesFile file.layout t old new status → ⊥
   no_refusal refuses = refuses.is.other (answers.1.answered refuses.error refuses.is.why)
 
-  served : (found : FoundFile file.layout t) → ServesScript file.layout t found old new status → IsCarriedOut Run file.layout old.left status
-  served found serves = elim (session_ends 0 old serves.last.outside serves.session.turns (act_of serves.session.failing) serves.session.cut status serves.session.written) [
+  served : (pace : Pace) (found : FoundFile file.layout t) → ServesScript pace file.layout t found old new status → IsCarriedOut (Paced pace) file.layout old.left status
+  served pace found serves = elim (session_ends 0 old serves.last.outside serves.session.turns (act_of serves.session.failing) serves.session.cut status serves.session.written) [
     | AtEnd done ↦ inl done
     | AtLine script cut ↦
         inr (record {
           script = script;
           why = λ text left whole.
               let read = serves.session.text text left in
-              whole_uncut file.layout text read.1 (map said_in serves.session.turns ++ said_of serves.session.failing) read.0 whole read.2 (read.3.refused cut);
+              whole_uncut file.layout text read.1 (all_said serves.session.turns ++ said_of serves.session.failing) read.0 whole read.2 (read.3.refused cut);
         })
     | Unread failed ↦ absurd (no_source failed)
     | Unwritten failed ↦ absurd (no_sink failed)
@@ -124,7 +126,8 @@ module _ (file : DataFile) (view : View) (t : Told) (old new : Outside) (before 
 
   carried : (mode : Mode) (found : FoundFile file.layout t) → Works mode file.layout t found old new status → IsCarriedOut mode file.layout old.left status
   carried (Format shape cluster) found works = works
-  carried Run found serves = served found serves
+  carried Run found serves = served idle found serves
+  carried (Paced pace) found serves = served pace found serves
   carried Recover found recovers = elim recovers.prints [
     | inl printed ↦ printed.0
     | inr part ↦ absurd (no_sink part.0)

@@ -20,7 +20,7 @@ use Rattle.df_session.specs.Links.{Makes}
 use Rattle.df_top.specs.Step.{Answers}
 use Rattle.df_top.specs.Turning.{Tells, printed_turn}
 use Rattle.df_top.specs.declared.turns.Turn.{Turn}
-use Rattle.df_session.proofs.Laws.{made}
+use Rattle.df_session.proofs.Laws.{adds_none, made}
 use Rattle.df_top.proofs.Answered.{Comes, comes_answered, printed_is, prints_turn}
 
 -- ---- what a check is rightly supplied with
@@ -51,7 +51,7 @@ module _ (s t : Replica) (old new : Option Told) (same : new ≡ old) where
     is = refl;
     calls = record {
       call = subst (λ (o : Option Told). IsCall (supply s old r) Scrub s t old o (scrub_answer r)) (sym same) (serves (supply s old r) (refl, found_by s old r) (gives s old r));
-      told = ([], same);
+      own = adds_none Scrub s old new (scrub_answer r) refl same;
     };
   }
 
@@ -88,5 +88,5 @@ take_more (x ∷ xs) (suc n) =
 pub ring_printed : (s : Replica) (told : Option Told) (written took : Option (List ℕ)) → Serves Recent s s told told (Some (ToRecent s.findings)) → {T E : Type 0} (r : Result T E) → Prints (recent_text s.findings) written took r
     → Answers Recent s s told told written took (printed_turn r)
 ring_printed s told written took serves r prints =
-    printed_is Recent s s told told written took (ToRecent s.findings) (made Recent ForRecent s s told told (Some (ToRecent s.findings)) refl serves ([], refl)) (printed_turn r)
+    printed_is Recent s s told told written took (ToRecent s.findings) (made Recent ForRecent s s told told (Some (ToRecent s.findings)) refl serves refl) (printed_turn r)
     (prints_turn (recent_text s.findings) written took r prints)

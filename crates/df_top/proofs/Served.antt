@@ -13,24 +13,29 @@ use Rattle.df_model.specs.Work.{opened}
 use Rattle.df_model.specs.declared.errors.OpenError.{OpenError}
 use Rattle.df_model.specs.declared.errors.OpenError.TheVariants as opens
 use Rattle.df_session.specs.Below.{State as Replica, shape, IsOpened}
-use Rattle.df_session.specs.Opened.{MendsAll, ToldBy}
+use Rattle.df_session.specs.Opened.{MendsAll, StopsOpening, ToldBy}
 use Rattle.df_session.specs.Surveying.{TellsSurvey}
 use Rattle.df_session.proofs.Laws.{found_keeps}
+use Rattle.df_pace.specs.Beats.{started}
+use Rattle.df_pace.specs.declared.pace.Pace.{Pace}
 use Rattle.df_session.specs.Found.{FoundFile}
+use Rattle.df_session.specs.Links.{CallsMade}
 use Rattle.df_session.specs.Laws.{CallsKeep}
 use Rattle.df_session.proofs.Laws.{calls_keep, ends_told}
 use Rattle.df_top.specs.Acknowledging.{script_calls}
 use Rattle.df_top.specs.Opening.{FailsToFind, RefusesFile, StopsBefore}
-use Rattle.df_top.specs.Outside.{Outside}
+use Rattle.df_top.specs.Outside.{IsThrough, Outside}
 use Rattle.df_top.specs.Refusing.{PrintsError}
-use Rattle.df_top.specs.Run.{ComesTo, ServesScript, start}
+use Rattle.df_top.specs.Mode.{Executes}
+use Rattle.df_top.specs.Run.{ComesTo, Does, ServesScript, start}
 use Rattle.df_session.specs.Session.{Act}
-use Rattle.df_top.specs.Lines.{Turned, all_acts, all_answers}
-use Rattle.df_top.specs.Session.{Ended, EndsWith, State, act_of, state}
+use Rattle.df_top.specs.Lines.{Failing, Turned, act_of, all_acts, all_answers}
+use Rattle.df_top.specs.Session.{Ended, EndsWith, State, state}
 use Rattle.df_top.specs.declared.mode.Mode.{Mode}
+use Rattle.df_top.specs.declared.mode.Mode.TheVariants.{Run, Paced}
 use Rattle.df_top.specs.declared.session.Session.{Session}
 use Rattle.df_top.specs.declared.status.Status.{Status}
-use Rattle.df_top.specs.declared.status.Status.TheVariants.{Refused}
+use Rattle.df_top.specs.declared.status.Status.TheVariants.{Done, Script, Words, Refused, Memory, DiskFault, ReadFault, WriteFault, Found}
 use Rattle.df_top.proofs.Resulted.{opened_prints}
 
 -- ---- a session that was just opened
@@ -39,20 +44,21 @@ unread_none : (left : Option (List ℕ)) → unread [] left ≡ left
 unread_none None = refl
 unread_none (Some xs) = refl
 
-begins_so : (told : Option Told) (old : Outside) (s : Session) (bound : ℕ) → IsFresh bound s.lines → s.count ≡ 0 → state (record { told = told; left = old.left; written = old.written }) s ≡ start told old s.replica
-begins_so told old s bound fresh none = λ i. record {
+begins_so : (told : Option Told) (old : Outside) (s : Session) (bound : ℕ) → IsFresh bound s.lines → s.count ≡ 0 → s.beat ≡ started s.replica.head → state (record { told = told; left = old.left; written = old.written }) s ≡ start told old s.replica
+begins_so told old s bound fresh none idle = λ i. record {
   outside = record { told = told; left = old.left; written = old.written };
   text = (ap (λ (r : Reading). unread r.held old.left) fresh.reading ∙ unread_none old.left) i;
   budget = (ap (λ (r : Reading). r.budget) fresh.reading) i;
   lines = none i;
   replica = s.replica;
+  beat = idle i;
 }
 
-pub from_start : (told : Option Told) (old : Outside) (s : Session) (layout : Layout) (last : State) (status : Status) → IsFresh (line_bound layout) s.lines → s.count ≡ 0
-    → Ended s.lines.reading.bound (state (record { told = told; left = old.left; written = old.written }) s) last status → Ended (line_bound layout) (start told old s.replica) last status
-from_start told old s layout last status fresh none ended =
-    subst (λ (n : ℕ). Ended n (start told old s.replica) last status) (ap (λ (r : Reading). r.bound) fresh.reading)
-    (subst (λ (o : State). Ended s.lines.reading.bound o last status) (begins_so told old s (line_bound layout) fresh none) ended)
+pub from_start : (pace : Pace) (told : Option Told) (old : Outside) (s : Session) (layout : Layout) (last : State) (status : Status) → IsFresh (line_bound layout) s.lines → s.count ≡ 0 → s.beat ≡ started s.replica.head
+    → Ended pace s.lines.reading.bound (state (record { told = told; left = old.left; written = old.written }) s) last status → Ended pace (line_bound layout) (start told old s.replica) last status
+from_start pace told old s layout last status fresh none idle ended =
+    subst (λ (n : ℕ). Ended pace n (start told old s.replica) last status) (ap (λ (r : Reading). r.bound) fresh.reading)
+    (subst (λ (o : State). Ended pace s.lines.reading.bound o last status) (begins_so told old s (line_bound layout) fresh none idle) ended)
 
 -- ---- a disk that tells what it shows
 
@@ -61,13 +67,30 @@ refused_never : (n : ℕ) (old new : Outside) (turns : List Turned) (failed : Op
 refused_never n old new turns None cut u is ends = ends
 refused_never n old new turns (Some a) cut u is ends = none-some u (sym ends.2.step.untold ∙ is)
 
+-- where nothing failed each call was answered, and the sink took all
+through_whole : (n : ℕ) (old new : Outside) (turns : List Turned) (failing : Option Failing) (cut : Bool) (status : Status) → EndsWith n old new turns (act_of failing) cut status → IsThrough status → (failing ≡ None) × (status ≡ WriteFault → ⊥)
+through_whole n old new turns None cut Done ends is = (refl, λ no. cc)
+through_whole n old new turns None cut Script ends is = (refl, λ no. cc)
+through_whole n old new turns (Some f) cut Done ends is = absurd ends
+through_whole n old new turns (Some f) cut Script ends is = absurd ends
+through_whole n old new turns failing cut Words ends is = absurd is
+through_whole n old new turns failing cut Refused ends is = absurd is
+through_whole n old new turns failing cut Memory ends is = absurd is
+through_whole n old new turns failing cut DiskFault ends is = absurd is
+through_whole n old new turns failing cut ReadFault ends is = absurd is
+through_whole n old new turns failing cut WriteFault ends is = absurd is
+through_whole n old new turns failing cut Found ends is = absurd is
+
 -- ---- it is served
 
-module _ (layout : Layout) (t : Told) (old new : Outside) (status : Status) (s : Replica) (mended : Option Told) (whole : IsImage t.shown) (told : old.told ≡ Some t) (live : s.live ≡ true) (of : s.file.layout ≡ layout) (is_opened : IsOpened layout t.shown s)
+module _ (pace : Pace) (layout : Layout) (t : Told) (old new : Outside) (status : Status) (s : Replica) (mended : Option Told) (whole : IsImage t.shown) (told : old.told ≡ Some t) (live : s.live ≡ true) (of : s.file.layout ≡ layout) (is_opened : IsOpened layout t.shown s)
     (over : MendsAll t s mended)
-    (last : State) (last_is : last.outside ≡ new) (ended : Ended (line_bound layout) (start mended old s) last status) where
+    (last : State) (last_is : last.outside ≡ new) (ended : Ended pace (line_bound layout) (start mended old s) last status) where
   abbrev found : FoundFile layout t
   found = record { replica = s; is_opened = is_opened; mended = mended; mending = over.mending }
+
+  abbrev made : CallsMade
+  made = script_calls ended
 
   last_told : last.outside.told ≡ new.told
   last_told = ap (λ (o : Outside). o.told) last_is
@@ -82,7 +105,7 @@ module _ (layout : Layout) (t : Told) (old new : Outside) (status : Status) (s :
   tells_on : (u : Told) × (last.outside.told ≡ Some u)
   tells_on =
       let goes = goes_told (did Sync t) mended synced in
-      let by_calls = ends_told s last.replica mended last.outside.told (all_acts ended.turns) (all_answers ended.turns) (act_of ended.failing) ended.calls in
+      let by_calls = ends_told s last.replica mended last.outside.told (all_acts ended.turns) (all_answers ended.turns) (act_of ended.failing) made.calls in
       let more = goes_told goes.0 last.outside.told (subst (λ (o : Option Told). ToldBy o last.outside.told) goes.1 by_calls) in
       (more.0, more.1)
 
@@ -93,22 +116,25 @@ module _ (layout : Layout) (t : Told) (old new : Outside) (status : Status) (s :
       (subst (λ (x : Status). EndsWith origin.lines origin.outside last.outside ended.turns (act_of ended.failing) ended.cut x) is ended.written)
 
   calls : CallsKeep t found.replica found.mended found.mending (script_calls ended)
-  calls = calls_keep t s mended over last.replica last.outside.told (all_acts ended.turns) (all_answers ended.turns) (act_of ended.failing) ended.calls whole live opened_here
+  calls = calls_keep t s mended over last.replica last.outside.told (all_acts ended.turns) (all_answers ended.turns) (act_of ended.failing) made.calls whole live opened_here
 
-  serves_here : ServesScript layout t found old new status
+  abbrev origin : State
+  origin = start mended old s
+
+  serves_here : ServesScript pace layout t found old new status
   serves_here = record {
     last = last;
     last_is = last_is;
     session = ended;
     result = λ view shown there agree.
-        opened_prints s t mended over whole (opened (shape s.file) (unit_at s.file.layout s.file.cluster t.shown) view) (found_keeps s t.shown view whole opened_here there) last.replica last.outside.told (act_of ended.failing) shown agree ended.turns
-        ended.are ended.calls;
+        opened_prints pace s t mended over whole (opened (shape s.file) (unit_at s.file.layout s.file.cluster t.shown) view) (found_keeps s t.shown view whole opened_here there) last.replica last.outside.told shown agree ended.turns ended.failing status
+        (through_whole origin.lines origin.outside last.outside ended.turns ended.failing ended.cut status ended.written) ended.calls;
     adds = sym last_told ∙ calls.adds;
     calls = calls;
     undamaged = undamaged;
   }
 
-  pub serves : (found : FoundFile layout t) × ServesScript layout t found old new status
+  pub serves : (found : FoundFile layout t) × ServesScript pace layout t found old new status
   serves = (found, serves_here)
 
 -- ---- it isn't
@@ -142,3 +168,18 @@ not_opened mode layout t old new status e whole told answer unread barrier stops
     by_fault (λ x. ComesTo mode layout t old new status) e
     (λ is. inr (inl (fails mode layout t old new status e is (stops whole is) unread prints)))
     (λ no. inl (refuses layout t old new status e no whole told answer unread (barrier no) prints))
+
+-- ---- a word that executes a script
+
+-- it serves it
+pub executed : (mode : Mode) (pace : Pace) → Executes mode pace → (layout : Layout) (t : Told) (old new : Outside) (status : Status) → (found : FoundFile layout t) × ServesScript pace layout t found old new status → Does mode layout t old new status
+executed Run pace is layout t old new status served = (tt, inr (inr (served.0, subst (λ (p : Pace). ServesScript p layout t served.0 old new status) is served.1)))
+executed (Paced given) pace is layout t old new status served = (tt, inr (inr (served.0, subst (λ (p : Pace). ServesScript p layout t served.0 old new status) is served.1)))
+executed mode pace is layout t old new status served = absurd is
+
+-- or the file isn't opened
+pub not_executed : (mode : Mode) (pace : Pace) → Executes mode pace → (layout : Layout) (t : Told) (old new : Outside) (status : Status) (e : OpenError) → IsImage t.shown → old.told ≡ Some t → TellsSurvey layout old.told (Err e) → new.left ≡ old.left → ((e ≡ opens.DiskFault → ⊥) → new.told ≡ after Sync old.told)
+    → (IsImage t.shown → e ≡ opens.DiskFault → StopsOpening layout t new.told) → PrintsError e old.written new.written status → Does mode layout t old new status
+not_executed Run pace is layout t old new status e whole told answer unread barrier stops prints = (tt, not_opened Run layout t old new status e whole told answer unread barrier stops prints)
+not_executed (Paced given) pace is layout t old new status e whole told answer unread barrier stops prints = (tt, not_opened (Paced given) layout t old new status e whole told answer unread barrier stops prints)
+not_executed mode pace is layout t old new status e whole told answer unread barrier stops prints = absurd is

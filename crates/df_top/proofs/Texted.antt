@@ -1,6 +1,6 @@
 -- A session's text and status follow from its script and from what the disk shows.
 use Rattle.std.proofs.Common.{◌≡◌, ◌⊎◌, inl, inr, ℕ, ◌+◌, ◌-◌, Bool, List, [], ◌∷◌, ◌++◌, length, map, Option, Some, None, refl, sym, ◌∙◌, ap, subst, arith}
-use Rattle.std.proofs.lemmas.List.{append-nil, length-map}
+use Rattle.std.proofs.lemmas.List.{append-nil}
 use Rattle.df_base.specs.Image.{Image}
 use Rattle.df_base.specs.Streams.{Appends}
 use Rattle.df_disk.specs.Told.{Told}
@@ -21,17 +21,19 @@ use Rattle.df_theory.proofs.Laws.{one_found_law}
 use Rattle.df_units.specs.Bytes.{unit_at}
 use Rattle.df_model.specs.Supply.{Shown}
 use Rattle.df_model.specs.Work.{Work, opened}
+use Rattle.df_pace.specs.declared.pace.Pace.{Pace}
+use Rattle.df_pace.proofs.Laws.{idle_law}
 use Rattle.df_session.specs.Below.{DataFile, IsOpened, State as Replica, shape}
 use Rattle.df_session.specs.Reading.{shown_of}
 use Rattle.df_session.proofs.Laws.{one_super, same_file}
-use Rattle.df_session.specs.Below.{AgreeShown}
+use Rattle.df_session.specs.Below.{AgreeShown, codec}
 use Rattle.df_session.specs.Found.{FoundFile}
-use Rattle.df_top.specs.Lines.{Turned, all_text, printed, said_in}
-use Rattle.df_top.specs.OneText.{IsThrough, OneText, ShowSame, TextIsResult, status_by, text_by}
-use Rattle.df_top.specs.Outside.{Outside}
-use Rattle.df_top.specs.Resulting.{text_over}
+use Rattle.df_top.specs.Lines.{Failing, Turned, act_of, all_said, all_text, command_of, printed, said_of}
+use Rattle.df_top.specs.OneText.{OneText, ShowSame, TextIsResult, status_by, text_by}
+use Rattle.df_top.specs.Outside.{IsThrough, Outside}
+use Rattle.df_top.specs.Resulting.{TextAlone, joined, text_over}
 use Rattle.df_top.specs.Run.{ServesScript, script_budget, start}
-use Rattle.df_top.specs.Session.{EndsText, EndsWith, Failing, act_of, said_of}
+use Rattle.df_top.specs.Session.{EndsText, EndsWith}
 use Rattle.df_top.specs.declared.status.Status.{Status}
 use Rattle.df_top.specs.declared.status.Status.TheVariants.{Done, Script, Words, Refused, Memory, DiskFault, ReadFault, WriteFault, Found}
 
@@ -77,24 +79,24 @@ module _ (bound budget : ℕ) (text : List ℕ) (says lines : List Said) (script
 pub record IsThroughBy (bound budget : ℕ) (text : List ℕ) (turns : List Turned) (old new : Outside) (status : Status) : Type 0 where
   pub left : ℕ
   pub rest : List ℕ
-  pub begins : Begins bound budget text (map said_in turns) left rest
-  pub ends : ((status ≡ Done) × (rest ≡ []) × Appends old.written new.written (all_text turns)) ⊎ ((status ≡ Script) × IsRefused bound left rest × Appends old.written new.written (all_text turns ++ script_text (length turns + 1)))
+  pub begins : Begins bound budget text (all_said turns) left rest
+  pub ends : ((status ≡ Done) × (rest ≡ []) × Appends old.written new.written (all_text turns)) ⊎ ((status ≡ Script) × IsRefused bound left rest × Appends old.written new.written (all_text turns ++ script_text (length (all_said turns) + 1)))
 
 module _ (bound : ℕ) (text : List ℕ) (turns : List Turned) (old new : Outside) (budget : ℕ) (left : ℕ) (rest : List ℕ) where
-  through : (failing : Option Failing) (cut : Bool) (status : Status) → Begins bound budget text (map said_in turns ++ said_of failing) left rest → EndsText bound left rest new.left cut status → EndsWith 0 old new turns (act_of failing) cut status → IsThrough status
+  through : (failing : Option Failing) (cut : Bool) (status : Status) → Begins bound budget text (all_said turns ++ said_of failing) left rest → EndsText bound left rest new.left cut status → EndsWith 0 old new turns (act_of failing) cut status → IsThrough status
       → IsThroughBy bound budget text turns old new status
   through None cut Done begins ends wrote is = record {
     left = left;
     rest = rest;
-    begins = subst (λ (l : List Said). Begins bound budget text l left rest) (append-nil (map said_in turns)) begins;
+    begins = subst (λ (l : List Said). Begins bound budget text l left rest) (append-nil (all_said turns)) begins;
     ends = inl (refl, (ends.finished refl).0, subst (λ (b : Bool). Appends old.written new.written (printed 0 turns b)) wrote.0 wrote.1);
   }
   through None cut Script begins ends wrote is = record {
     left = left;
     rest = rest;
-    begins = subst (λ (l : List Said). Begins bound budget text l left rest) (append-nil (map said_in turns)) begins;
+    begins = subst (λ (l : List Said). Begins bound budget text l left rest) (append-nil (all_said turns)) begins;
     ends =
-        let count : 0 + length turns + 1 ≡ length turns + 1 = omega arith in
+        let count : 0 + length (all_said turns) + 1 ≡ length (all_said turns) + 1 = omega arith in
         inr (refl, ends.refused wrote.0, subst (λ (n : ℕ). Appends old.written new.written (all_text turns ++ script_text n)) count (subst (λ (b : Bool). Appends old.written new.written (printed 0 turns b)) wrote.0 wrote.1));
   }
   through (Some f) cut Done begins ends wrote is = absurd wrote
@@ -107,7 +109,7 @@ module _ (bound : ℕ) (text : List ℕ) (turns : List Turned) (old new : Outsid
   through failing cut WriteFault begins ends wrote is = absurd is
   through failing cut Found begins ends wrote is = absurd is
 
-module _ (layout : Layout) (t : Told) (old new : Outside) (status : Status) (opening : FoundFile layout t) (serves : ServesScript layout t opening old new status) (text : List ℕ) (left : old.left ≡ Some text) (is : IsThrough status) where
+module _ (pace : Pace) (layout : Layout) (t : Told) (old new : Outside) (status : Status) (opening : FoundFile layout t) (serves : ServesScript pace layout t opening old new status) (text : List ℕ) (left : old.left ≡ Some text) (is : IsThrough status) where
   abbrev file : DataFile
   file = opening.replica.file
 
@@ -120,7 +122,7 @@ module _ (layout : Layout) (t : Told) (old new : Outside) (status : Status) (ope
       through (line_bound layout) text turns (start opening.mended old opening.replica).outside serves.last.outside script_budget ended.0 ended.1 serves.session.failing serves.session.cut status ended.2 ended.3 serves.session.written is
 
   -- its script
-  pub script_of : IsScript (line_bound layout) script_budget text (map said_in turns)
+  pub script_of : IsScript (line_bound layout) script_budget text (all_said turns)
   script_of = record {
     left = by.left;
     rest = by.rest;
@@ -135,7 +137,7 @@ module _ (layout : Layout) (t : Told) (old new : Outside) (status : Status) (ope
     abbrev w : Work
     w = opened (shape file) (unit_at file.layout file.cluster t.shown) view
 
-    lines_text : all_text turns ≡ text_over file shown w (map said_in turns)
+    lines_text : all_text turns ≡ text_over pace file shown w (all_said turns)
     lines_text = (serves.result view shown found agree).text
 
     abbrev Prints : List ℕ → Type 0
@@ -145,29 +147,33 @@ module _ (layout : Layout) (t : Told) (old new : Outside) (status : Status) (ope
     written_new line wrote = subst (λ (o : Outside). Appends old.written o.written line) serves.last_is wrote
 
     -- its status, and what it prints over whatever agrees with what the disk shows
-    pub prints_over : (status ≡ status_by script.ends) × Prints (text_by script.ends (length says) (text_over file shown w says))
+    pub prints_over : (status ≡ status_by script.ends) × Prints (text_by script.ends (length says) (text_over pace file shown w says))
     prints_over = elim by.ends [
       | inl (done, empty, wrote) ↦
-          let ends = ends_whole (line_bound layout) script_budget text says (map said_in turns) script by.left by.rest by.begins empty in
-          let line : all_text turns ≡ text_by script.ends (length says) (text_over file shown w says) =
-          lines_text ∙ ap (text_over file shown w) ends.lines_are ∙ ends.text_is (length says) (text_over file shown w says) in
+          let ends = ends_whole (line_bound layout) script_budget text says (all_said turns) script by.left by.rest by.begins empty in
+          let line : all_text turns ≡ text_by script.ends (length says) (text_over pace file shown w says) =
+          lines_text ∙ ap (text_over pace file shown w) ends.lines_are ∙ ends.text_is (length says) (text_over pace file shown w says) in
           (done ∙ ends.status_is, subst Prints line (written_new (all_text turns) wrote))
       | inr (cut, refused, wrote) ↦
-          let ends = ends_refused (line_bound layout) script_budget text says (map said_in turns) script by.left by.rest by.begins refused in
-          let count : length turns ≡ length says = sym (length-map turns said_in) ∙ ap length ends.lines_are in
-          let line : all_text turns ++ script_text (length turns + 1) ≡ text_by script.ends (length says) (text_over file shown w says) =
-          ap (λ (l : List ℕ). l ++ script_text (length turns + 1)) (lines_text ∙ ap (text_over file shown w) ends.lines_are)
-          ∙ ap (λ (n : ℕ). text_over file shown w says ++ script_text (n + 1)) count ∙ ends.text_is (length says) (text_over file shown w says) in
-          (cut ∙ ends.status_is, subst Prints line (written_new (all_text turns ++ script_text (length turns + 1)) wrote))
+          let ends = ends_refused (line_bound layout) script_budget text says (all_said turns) script by.left by.rest by.begins refused in
+          let count : length (all_said turns) ≡ length says = ap length ends.lines_are in
+          let line : all_text turns ++ script_text (length (all_said turns) + 1) ≡ text_by script.ends (length says) (text_over pace file shown w says) =
+          ap (λ (l : List ℕ). l ++ script_text (length (all_said turns) + 1)) (lines_text ∙ ap (text_over pace file shown w) ends.lines_are)
+          ∙ ap (λ (n : ℕ). text_over pace file shown w says ++ script_text (n + 1)) count ∙ ends.text_is (length says) (text_over pace file shown w says) in
+          (cut ∙ ends.status_is, subst Prints line (written_new (all_text turns ++ script_text (length (all_said turns) + 1)) wrote))
     ]
 
 pub agree_self : (layout : Layout) (shown : Shown) → AgreeShown layout shown shown
 agree_self layout shown = record { units = record { prepare = λ k. refl; reply = λ k. refl; block = λ k. refl }; classes = λ place read none. refl }
 
 pub text_is_result : TextIsResult
-text_is_result layout t old new status opening serves view text says script found left is =
+text_is_result pace layout t old new status opening serves view text says script found left is =
     let file = opening.replica.file in
-    prints_over layout t old new status opening serves text left is view (shown_of file t.shown) says script found (agree_self file.layout (shown_of file t.shown))
+    prints_over pace layout t old new status opening serves text left is view (shown_of file t.shown) says script found (agree_self file.layout (shown_of file t.shown))
+
+-- beside no work
+pub text_alone : TextAlone
+text_alone file shown w says = ap joined (idle_law (shape file) (codec file) shown w (map command_of says))
 
 -- ---- two images that show the same
 
@@ -201,30 +207,30 @@ module _ (layout : Layout) (a b : Image) (same : ShowSame layout a b) where
       }
 
   -- what lines print over the one and over the other
-  one_line : (s u : Replica) (one : IsOpened layout a s) (other : IsOpened layout b u) (says : List Said)
-      → text_over s.file (shown_of s.file b) (opened (shape s.file) (unit_at s.file.layout s.file.cluster a) one.view) says ≡ text_over u.file (shown_of u.file b) (opened (shape u.file) (unit_at u.file.layout u.file.cluster b) other.view) says
-  one_line s u one other says =
+  one_line : (pace : Pace) (s u : Replica) (one : IsOpened layout a s) (other : IsOpened layout b u) (says : List Said)
+      → text_over pace s.file (shown_of s.file b) (opened (shape s.file) (unit_at s.file.layout s.file.cluster a) one.view) says ≡ text_over pace u.file (shown_of u.file b) (opened (shape u.file) (unit_at u.file.layout u.file.cluster b) other.view) says
+  one_line pace s u one other says =
       let there : unit_at s.file.layout s.file.cluster a ≡ unit_at s.file.layout s.file.cluster b =
       subst (λ (l : Layout). unit_at l s.file.cluster a ≡ unit_at l s.file.cluster b) (sym one.of) (units_there s.file.cluster) in
-      ap (λ (image : Place → Option AnyUnit). text_over s.file (shown_of s.file b) (opened (shape s.file) image one.view) says) there
-      ∙ ap (λ (v : View). text_over s.file (shown_of s.file b) (opened (shape s.file) (unit_at s.file.layout s.file.cluster b) v) says) (one_view s u one other)
-      ∙ ap (λ (f : DataFile). text_over f (shown_of f b) (opened (shape f) (unit_at f.layout f.cluster b) other.view) says) (one_file s u one other)
+      ap (λ (image : Place → Option AnyUnit). text_over pace s.file (shown_of s.file b) (opened (shape s.file) image one.view) says) there
+      ∙ ap (λ (v : View). text_over pace s.file (shown_of s.file b) (opened (shape s.file) (unit_at s.file.layout s.file.cluster b) v) says) (one_view s u one other)
+      ∙ ap (λ (f : DataFile). text_over pace f (shown_of f b) (opened (shape f) (unit_at f.layout f.cluster b) other.view) says) (one_file s u one other)
 
 pub found_here : (layout : Layout) (image : Image) (s : Replica) (is : IsOpened layout image s) → IsFound (shape s.file) (unit_at s.file.layout s.file.cluster image) is.view
 found_here layout image s is = subst (λ (l : Layout). IsFound (shape s.file) (unit_at l s.file.cluster image) is.view) (sym is.of) is.found
 
 pub one_text : OneText
-one_text layout t u old new before now status ending text here there one other same left also is are =
+one_text pace layout t u old new before now status ending text here there one other same left also is are =
     let s = here.replica in
     let r = there.replica in
-    let script = script_of layout u before now ending there other text also are in
-    let says : List Said = map said_in other.session.turns in
-    let first = prints_over layout t old new status here one text left is here.is_opened.view (shown_of s.file u.shown) says script (found_here layout t.shown s here.is_opened) (agree_there layout t.shown u.shown same s.file here.is_opened.of) in
-    let second = prints_over layout u before now ending there other text also are there.is_opened.view (shown_of r.file u.shown) says script (found_here layout u.shown r there.is_opened) (agree_self r.file.layout (shown_of r.file u.shown)) in
-    let line = one_line layout t.shown u.shown same s r here.is_opened there.is_opened says in (
+    let script = script_of pace layout u before now ending there other text also are in
+    let says : List Said = all_said other.session.turns in
+    let first = prints_over pace layout t old new status here one text left is here.is_opened.view (shown_of s.file u.shown) says script (found_here layout t.shown s here.is_opened) (agree_there layout t.shown u.shown same s.file here.is_opened.of) in
+    let second = prints_over pace layout u before now ending there other text also are there.is_opened.view (shown_of r.file u.shown) says script (found_here layout u.shown r there.is_opened) (agree_self r.file.layout (shown_of r.file u.shown)) in
+    let line = one_line layout t.shown u.shown same pace s r here.is_opened there.is_opened says in (
       first.0 ∙ sym second.0,
       (
-        text_by script.ends (length says) (text_over r.file (shown_of r.file u.shown) (opened (shape r.file) (unit_at r.file.layout r.file.cluster u.shown) there.is_opened.view) says),
+        text_by script.ends (length says) (text_over pace r.file (shown_of r.file u.shown) (opened (shape r.file) (unit_at r.file.layout r.file.cluster u.shown) there.is_opened.view) says),
         subst (λ (l : List ℕ). Appends old.written new.written (text_by script.ends (length says) l)) line first.1,
         second.1,
       ),

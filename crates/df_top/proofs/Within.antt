@@ -24,7 +24,7 @@ use Rattle.df_top.specs.Outside.{Outside}
 use Rattle.df_top.specs.Run.{ComesTo, Does, Runs, Works}
 use Rattle.df_top.specs.Within.{WritesOwn}
 use Rattle.df_top.specs.declared.mode.Mode.{Mode}
-use Rattle.df_top.specs.declared.mode.Mode.TheVariants.{Format, Run, Recover, Inspect, Scrub, Workload}
+use Rattle.df_top.specs.declared.mode.Mode.TheVariants.{Format, Run, Recover, Inspect, Scrub, Workload, Paced}
 use Rattle.df_top.specs.declared.status.Status.{Status}
 
 -- ---- calls
@@ -78,6 +78,7 @@ module _ (layout : Layout) (t : Told) where
   before_within Recover new stops = stops_within new stops
   before_within Inspect new stops = part_within layout (Sync ∷ []) (Some t) new (tt, tt) stops
   before_within Scrub new stops = stops_within new stops
+  before_within (Paced pace) new stops = stops_within new stops
   before_within (Workload seed count) new stops = stops_within new stops
 
   -- what was found is mended, and nothing more
@@ -93,6 +94,9 @@ module _ (layout : Layout) (t : Told) (old new : Outside) (status : Status) wher
   works_within : (mode : Mode) (found : FoundFile layout t) → Works mode layout t found old new status → AddsWithin layout (Some t) new.told
   works_within (Format shape cluster) found works = absurd works
   works_within Run found serves =
+      let c = script_calls serves.session in
+      subst (λ (o : Outside). AddsWithin layout (Some t) o.told) serves.last_is (calls_within_found layout t found c.to c.new c.acts c.answers c.failed c.calls)
+  works_within (Paced pace) found serves =
       let c = script_calls serves.session in
       subst (λ (o : Outside). AddsWithin layout (Some t) o.told) serves.last_is (calls_within_found layout t found c.to c.new c.acts c.answers c.failed c.calls)
   works_within Recover found recovers = found_within layout t found new.told recovers.told

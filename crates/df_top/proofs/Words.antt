@@ -4,7 +4,7 @@ use Rattle.std.proofs.lemmas.Option.{none-some}
 use Rattle.df_layout.specs.declared.layout.Layout.{Layout}
 use Rattle.df_top.specs.Mode.{AsksOfFile, IsOfFile, IsRunnable, Means, new_file}
 use Rattle.df_top.specs.declared.mode.Mode.{Mode}
-use Rattle.df_top.specs.declared.mode.Mode.TheVariants.{Format, Run, Recover, Inspect, Scrub, Workload}
+use Rattle.df_top.specs.declared.mode.Mode.TheVariants.{Format, Run, Recover, Inspect, Scrub, Workload, Paced}
 use Rattle.df_top.specs.declared.mode.NewFile.{NewFile}
 use Rattle.df_top.proofs.Modes.{one_mode}
 
@@ -32,6 +32,7 @@ runnable words Run means of = tt
 runnable words Recover means of = tt
 runnable words Inspect means of = tt
 runnable words Scrub means of = tt
+runnable words (Paced pace) means of = tt
 runnable words (Workload seed count) means of = (means.some, means.million)
 
 -- what makes no file works on one
@@ -41,6 +42,7 @@ works_on_file Run is = tt
 works_on_file Recover is = tt
 works_on_file Inspect is = tt
 works_on_file Scrub is = tt
+works_on_file (Paced pace) is = tt
 works_on_file (Workload seed count) is = tt
 
 -- and what makes one is `format`
@@ -53,4 +55,5 @@ makes_file Run file is = absurd (none-some file is)
 makes_file Recover file is = absurd (none-some file is)
 makes_file Inspect file is = absurd (none-some file is)
 makes_file Scrub file is = absurd (none-some file is)
+makes_file (Paced pace) file is = absurd (none-some file is)
 makes_file (Workload seed count) file is = absurd (none-some file is)

@@ -1,33 +1,33 @@
--- What a sink has taken goes on, piece by piece; and lists go on by one item.
-use Rattle.std.proofs.Common.{◌≡◌, ℕ, ◌-◌, List, [], ◌∷◌, ◌++◌, refl, sym, ◌∙◌, ap, subst, append_assoc}
-use Rattle.std.proofs.lemmas.List.{append-nil}
+-- The calls of a session go on, and so do their lines and what they print.
+use Rattle.std.proofs.Common.{◌≡◌, ℕ, ◌-◌, List, [], ◌∷◌, ◌++◌, Option, refl, sym, ◌∙◌, ap, subst, append_assoc}
 use Rattle.df_lines.specs.Grammar.{Said}
 use Rattle.df_lines.specs.Script.{Begins, IsLine}
 use Rattle.df_lines.specs.Text.{after_line, taken}
-use Rattle.df_model.specs.Commands.{Answer}
-use Rattle.df_session.specs.Session.{Act}
-use Rattle.df_script_model.specs.Script.{answer_text}
-use Rattle.df_top.specs.Lines.{AreTurned, Turned, all_acts, all_answers, all_text, command_of}
+use Rattle.df_disk.specs.Told.{Told}
+use Rattle.df_pace.specs.declared.beat.Beat.{Beat}
+use Rattle.df_pace.specs.declared.pace.Pace.{Pace}
+use Rattle.df_session.specs.Below.{State as Replica}
+use Rattle.df_top.specs.Lines.{Turned, all_said, all_text, said_by, told_by}
+use Rattle.df_top.specs.Pacing.{AreTurns, behind}
+
+-- ---- calls more
+
+pub text_more : (turns more : List Turned) → all_text (turns ++ more) ≡ all_text turns ++ all_text more
+text_more [] more = refl
+text_more (u ∷ turns) more = ap (λ (l : List ℕ). told_by u.asker u.answer ++ l) (text_more turns more) ∙ sym (append_assoc (told_by u.asker u.answer) (all_text turns) (all_text more))
+
+pub said_more : (turns more : List Turned) → all_said (turns ++ more) ≡ all_said turns ++ all_said more
+said_more [] more = refl
+said_more (u ∷ turns) more = ap (λ (l : List Said). said_by u.asker ++ l) (said_more turns more) ∙ sym (append_assoc (said_by u.asker) (all_said turns) (all_said more))
+
+-- what was made goes on
+pub turns_join : (pace : Pace) (b c d : Beat) (s t u : Replica) (old mid new : Option Told) (turns more : List Turned) → AreTurns pace b s old turns c t mid → AreTurns pace c t mid more d u new → AreTurns pace b s old (turns ++ more) d u new
+turns_join pace b c d s t u old mid new [] more are rest =
+    subst (λ (e : Beat). AreTurns pace e s old more d u new) are.2 (subst (λ (o : Option Told). AreTurns pace c s o more d u new) are.1 (subst (λ (r : Replica). AreTurns pace c r mid more d u new) are.0 rest))
+turns_join pace b c d s t u old mid new (x ∷ turns) more are rest =
+    (are.0, are.1, are.2, are.3, turns_join pace (behind pace b x.asker are.0 x.answer) c d are.0 t u are.1 mid new turns more are.4 rest)
 
 -- ---- one line more
-
-pub are_more : (turns : List Turned) (t : Turned) → AreTurned turns → t.act.command ≡ command_of t.said → AreTurned (turns ++ t ∷ [])
-are_more [] t are is = (is, tt)
-are_more (u ∷ turns) t are is = (are.0, are_more turns t are.1 is)
-
-pub text_more : (turns : List Turned) (t : Turned) → all_text (turns ++ t ∷ []) ≡ all_text turns ++ answer_text (command_of t.said) t.answer
-text_more [] t = append-nil (answer_text (command_of t.said) t.answer)
-text_more (u ∷ turns) t =
-    let text = answer_text (command_of u.said) u.answer in
-    ap (λ (l : List ℕ). text ++ l) (text_more turns t) ∙ sym (append_assoc text (all_text turns) (answer_text (command_of t.said) t.answer))
-
-pub acts_more : (turns : List Turned) (t : Turned) → all_acts (turns ++ t ∷ []) ≡ all_acts turns ++ t.act ∷ []
-acts_more [] t = refl
-acts_more (u ∷ turns) t = ap (λ (l : List Act). u.act ∷ l) (acts_more turns t)
-
-pub answers_more : (turns : List Turned) (t : Turned) → all_answers (turns ++ t ∷ []) ≡ all_answers turns ++ t.answer ∷ []
-answers_more [] t = refl
-answers_more (u ∷ turns) t = ap (λ (l : List Answer). u.answer ∷ l) (answers_more turns t)
 
 pub begins_more : (bound budget : ℕ) (text : List ℕ) (asked : List Said) (left : ℕ) (rest : List ℕ) (said : Said) → Begins bound budget text asked left rest → IsLine bound left rest said
     → Begins bound budget text (asked ++ said ∷ []) (left - taken rest) (after_line rest)

@@ -1,17 +1,19 @@
--- The calls of a script, and those of a generated run.
+-- The calls of a script with the work beside it, and those of a generated run.
 use Rattle.std.specs.Prelude.{ℕ, Option}
 use Rattle.df_disk.specs.Told.{Told}
+use Rattle.df_pace.specs.declared.pace.Pace.{Pace}
 use Rattle.df_session.specs.Below.{State as Replica}
 use Rattle.df_session.specs.Links.{CallsMade}
 use Rattle.df_workload.specs.declared.state.State.{State as Run}
-use Rattle.df_top.specs.Lines.{all_acts, all_answers}
-use Rattle.df_top.specs.Session.{Ended, State, act_of}
+use Rattle.df_top.specs.Lines.{act_of, all_acts, all_answers}
+use Rattle.df_top.specs.Pacing.{all_calls}
+use Rattle.df_top.specs.Session.{Ended, State}
 use Rattle.df_top.specs.Works.{Worked}
 use Rattle.df_top.specs.declared.status.Status.{Status}
 
 -- those of a script
-abbrev pub script_calls : {bound : ℕ} {origin now : State} {status : Status} → Ended bound origin now status → CallsMade
-script_calls {origin = origin} {now = now} ended = record {
+abbrev pub script_calls : {pace : Pace} {bound : ℕ} {origin now : State} {status : Status} → Ended pace bound origin now status → CallsMade
+script_calls {pace = pace} {origin = origin} {now = now} {status = status} ended = record {
   from = origin.replica;
   to = now.replica;
   old = origin.outside.told;
@@ -19,7 +21,7 @@ script_calls {origin = origin} {now = now} ended = record {
   acts = all_acts ended.turns;
   answers = all_answers ended.turns;
   failed = act_of ended.failing;
-  calls = ended.calls;
+  calls = all_calls pace origin.beat origin.replica origin.outside.told ended.turns ended.failing status now.replica now.outside.told ended.calls;
 }
 
 -- those of a generated run

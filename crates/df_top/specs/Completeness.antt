@@ -14,7 +14,7 @@ use Rattle.df_top.specs.Mode.{IsOfFile}
 use Rattle.df_top.specs.Outside.{Faults, HasCauses, Outside}
 use Rattle.df_top.specs.Run.{Runs, ServesIn, script_budget}
 use Rattle.df_top.specs.declared.mode.Mode.{Mode}
-use Rattle.df_top.specs.declared.mode.Mode.TheVariants.{Format, Run, Recover, Inspect, Scrub, Workload}
+use Rattle.df_top.specs.declared.mode.Mode.TheVariants.{Format, Run, Recover, Inspect, Scrub, Workload, Paced}
 use Rattle.df_top.specs.declared.status.Status.{Status}
 use Rattle.df_top.specs.declared.status.Status.TheVariants.{Done, Found, Memory, Script}
 
@@ -43,6 +43,7 @@ IsCarriedOut Recover layout left status = status ≡ Done
 IsCarriedOut Inspect layout left status = (status ≡ Done) ⊎ (status ≡ Found)
 IsCarriedOut Scrub layout left status = (status ≡ Done) ⊎ (status ≡ Found)
 IsCarriedOut (Workload seed count) layout left status = status ≡ Done
+IsCarriedOut (Paced pace) layout left status = (status ≡ Done) ⊎ IsCut layout left status
 
 -- whatever word on a file is run, over a disk that may be opened: where nothing failed, it was carried out, or memory was wanting
 abbrev pub SafeIsRun : Type 0

@@ -13,7 +13,7 @@ use Rattle.df_top.specs.Acknowledging.{run_calls, script_calls}
 use Rattle.df_top.specs.Outside.{Outside}
 use Rattle.df_top.specs.Run.{ComesTo, DidNothing, Does, RefusesSuperblock, Works}
 use Rattle.df_top.specs.declared.mode.Mode.{Mode}
-use Rattle.df_top.specs.declared.mode.Mode.TheVariants.{Run, Workload}
+use Rattle.df_top.specs.declared.mode.Mode.TheVariants.{Run, Workload, Paced}
 use Rattle.df_top.specs.declared.status.Status.{Status}
 
 -- ---- a word
@@ -21,6 +21,7 @@ use Rattle.df_top.specs.declared.status.Status.{Status}
 -- the reads of a word's calls give what is the state's own
 abbrev pub WordReadsOwn : (mode : Mode) → (layout : Layout) → (t : Told) → (found : FoundFile layout t) → (old new : Outside) → (status : Status) → Works mode layout t found old new status → Work → Type 0
 WordReadsOwn Run layout t found old new status serves w = ReadsOwn (script_calls serves.session) w
+WordReadsOwn (Paced pace) layout t found old new status serves w = ReadsOwn (script_calls serves.session) w
 WordReadsOwn (Workload seed count) layout t found old new status works w = ReadsOwn (run_calls works.worked) w
 WordReadsOwn mode layout t found old new status works w = Unit {0}
 

@@ -3,6 +3,7 @@ pub mod Mode
 pub mod Usage
 pub mod Outside
 pub mod Lines
+pub mod Pacing
 pub mod Findings
 pub mod Resulting
 pub mod Session

@@ -1,9 +1,10 @@
--- The call that a line of a script asks for, and what its answer prints.
-use Rattle.std.specs.Prelude.{◌≡◌, ◌+◌, ℕ, Bool, true, false, List, [], ◌∷◌, ◌++◌, length}
+-- The call that a line of a script asks for, the calls of a session, and what their answers print.
+use Rattle.std.specs.Prelude.{◌+◌, ℕ, Bool, true, false, List, [], ◌∷◌, ◌++◌, length, Option, Some, None}
 use Rattle.df_inspect.specs.Opening.{script_text}
 use Rattle.df_lines.specs.Grammar.{Said}
 use Rattle.df_lines.specs.Grammar as lines
 use Rattle.df_model.specs.Commands.{Advance, Answer, Append, Begin, Command, ReadBlock, ReadPrepare, ReadReply, Recent, Release, Reply, Scrub, WriteBlock}
+use Rattle.df_pace.specs.declared.beat.Piece.{Piece}
 use Rattle.df_session.specs.Session.{Act}
 use Rattle.df_script_model.specs.Script.{answer_text}
 
@@ -21,23 +22,29 @@ command_of (lines.Read address) = ReadBlock address
 command_of lines.Scrub = Scrub
 command_of lines.Recent = Recent
 
--- ---- a line that was executed
+-- ---- a call that was made
 
--- a line with the call that it asked for, and its answer
+-- who asked for it: a line of the script, or the loop beside it, for a piece of its work
+pub data Asker : Type 0 where
+  ByLine : Said → Asker
+  ByLoop : Piece → Asker
+
+-- a call with its answer, and who asked for it
 pub record Turned : Type 0 where
-  pub said : Said
+  pub asker : Asker
   pub act : Act
   pub answer : Answer
 
--- each call is the one that its line asks for
-abbrev pub AreTurned : List Turned → Type 0
-AreTurned [] = Unit {0}
-AreTurned (t ∷ turns) = (t.act.command ≡ command_of t.said) × AreTurned turns
+-- and one that was not answered
+pub record Failing : Type 0 where
+  pub asker : Asker
+  pub act : Act
 
-abbrev pub said_in : Turned → Said
-said_in t = t.said
+abbrev pub act_of : Option Failing → Option Act
+act_of None = None
+act_of (Some f) = Some f.act
 
--- all their calls and answers, in order
+-- all calls and answers, in order
 abbrev pub all_acts : List Turned → List Act
 all_acts [] = []
 all_acts (t ∷ turns) = t.act ∷ all_acts turns
@@ -46,14 +53,33 @@ abbrev pub all_answers : List Turned → List Answer
 all_answers [] = []
 all_answers (t ∷ turns) = t.answer ∷ all_answers turns
 
+-- ---- the lines among them
+
+abbrev pub said_by : Asker → List Said
+said_by (ByLine said) = said ∷ []
+said_by (ByLoop piece) = []
+
+abbrev pub all_said : List Turned → List Said
+all_said [] = []
+all_said (t ∷ turns) = said_by t.asker ++ all_said turns
+
+abbrev pub said_of : Option Failing → List Said
+said_of None = []
+said_of (Some f) = said_by f.asker
+
 -- ---- what is printed
 
--- the lines that their answers print
+-- an answer has its line where a line of the script asked for it; nothing is printed of the loop's work
+abbrev pub told_by : Asker → Answer → List ℕ
+told_by (ByLine said) answer = answer_text (command_of said) answer
+told_by (ByLoop piece) answer = []
+
+-- the lines that the answers print
 abbrev pub all_text : List Turned → List ℕ
 all_text [] = []
-all_text (t ∷ turns) = answer_text (command_of t.said) t.answer ++ all_text turns
+all_text (t ∷ turns) = told_by t.asker t.answer ++ all_text turns
 
 -- and the line that refuses the next one, where the script is cut there, n lines before the first of them
 abbrev pub printed : (n : ℕ) → List Turned → (cut : Bool) → List ℕ
 printed n turns false = all_text turns
-printed n turns true = all_text turns ++ script_text (n + length turns + 1)
+printed n turns true = all_text turns ++ script_text (n + length (all_said turns) + 1)

@@ -1,8 +1,10 @@
 -- What the words of the command line ask for.
 use Rattle.std.specs.Prelude.{◌≡◌, ◌⊎◌, ◌<◌, ◌≤◌, ◌^◌, ℕ, List, [], ◌∷◌, ◌++◌, codes, decimal, Option, Some, None}
 use Rattle.df_layout.specs.declared.layout.Layout.{Layout}
+use Rattle.df_pace.specs.Beats.{idle}
+use Rattle.df_pace.specs.declared.pace.Pace.{Pace}
 use Rattle.df_top.specs.declared.mode.Mode.{Mode}
-use Rattle.df_top.specs.declared.mode.Mode.TheVariants.{Format, Run, Recover, Inspect, Scrub, Workload}
+use Rattle.df_top.specs.declared.mode.Mode.TheVariants.{Format, Run, Recover, Inspect, Scrub, Workload, Paced}
 use Rattle.df_top.specs.declared.mode.NewFile.{NewFile}
 
 -- the layout has these five numbers
@@ -37,6 +39,13 @@ pub record SpellsWorkload (words : List (List ℕ)) (seed count : ℕ) : Type 0 
   pub some : 1 ≤ count
   pub million : count ≤ 1000000
 
+-- the words of `paced`: in decimal how much of the scrubber, after how many appends a checkpoint, and how many of its steps
+pub record SpellsPaced (words : List (List ℕ)) (pace : Pace) : Type 0 where
+  pub is : words ≡ codes "paced" ∷ decimal pace.scrub ∷ decimal pace.every ∷ decimal pace.steps ∷ []
+  pub scrub : pace.scrub ≤ 64
+  pub every : pace.every ≤ 64
+  pub steps : pace.steps ≤ 64
+
 -- the words ask for this
 abbrev pub Means : List (List ℕ) → Mode → Type 0
 Means words Run = words ≡ codes "run" ∷ []
@@ -44,6 +53,7 @@ Means words Recover = words ≡ codes "recover" ∷ []
 Means words Inspect = words ≡ codes "inspect" ∷ []
 Means words Scrub = words ≡ codes "scrub" ∷ []
 Means words (Workload seed count) = SpellsWorkload words seed count
+Means words (Paced pace) = SpellsPaced words pace
 Means words (Format layout cluster) = SpellsFormat words layout cluster
 
 -- words ask for one thing at most
@@ -71,6 +81,20 @@ pub record AsksOfFile (words : List (List ℕ)) : Type 0 where
   pub mode : Mode
   pub means : Means words mode
   pub of_file : IsOfFile mode
+
+-- it executes a script, with work of this pace beside it
+abbrev pub Executes : Mode → Pace → Type 0
+Executes Run pace = pace ≡ idle
+Executes (Paced given) pace = pace ≡ given
+Executes mode pace = ⊥
+
+-- it executes a script
+abbrev pub ReadsScript : Mode → Type 0
+ReadsScript mode = (pace : Pace) × Executes mode pace
+
+-- the words ask for a script to be executed
+abbrev pub AsksScript : List (List ℕ) → Type 0
+AsksScript words = (mode : Mode) × Means words mode × ReadsScript mode
 
 -- the words have no meaning
 abbrev pub MeansNothing : List (List ℕ) → Type 0

@@ -4,7 +4,7 @@ use Rattle.df_base.specs.Causes.{Rose}
 use Rattle.df_base.specs.Streams.{Appends, AppendsPart}
 use Rattle.df_disk.specs.Told.{Told}
 use Rattle.df_top.specs.declared.status.Status.{Status}
-use Rattle.df_top.specs.declared.status.Status.TheVariants.{DiskFault, ReadFault, WriteFault}
+use Rattle.df_top.specs.declared.status.Status.TheVariants.{Done, DiskFault, ReadFault, Script, WriteFault}
 
 -- what they tell: the disk's log and what it shows, what the source has left, what the sink has taken
 pub record Outside : Type 0 where
@@ -37,3 +37,9 @@ PrintsLine line given old new status = ((status ≡ given) × Appends old new li
 abbrev pub status_or : {T E : Type 0} → Status → Result T E → Status
 status_or status (Ok x) = status
 status_or status (Err e) = WriteFault
+
+-- nothing failed: the script came to its end, or its next line was refused
+abbrev pub IsThrough : Status → Type 0
+IsThrough Done = Unit {0}
+IsThrough Script = Unit {0}
+IsThrough status = ⊥

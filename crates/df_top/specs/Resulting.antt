@@ -4,29 +4,47 @@ use Rattle.df_base.specs.Image.{Image}
 use Rattle.df_lines.specs.Grammar.{Said}
 use Rattle.df_theory.specs.View.{View}
 use Rattle.df_units.specs.Bytes.{unit_at}
+use Rattle.df_model.specs.Commands.{Command}
 use Rattle.df_model.specs.Supply.{Shown}
 use Rattle.df_model.specs.Work.{Work, opened}
 use Rattle.df_session.specs.Below.{DataFile, shape}
 use Rattle.df_session.specs.Reading.{shown_of}
 use Rattle.df_session.specs.Below.{codec}
+use Rattle.df_pace.specs.Beats.{idle}
+use Rattle.df_pace.specs.Loop.{all_commands, paced, start}
+use Rattle.df_pace.specs.declared.pace.Pace.{Pace}
 use Rattle.df_script_model.specs.Script.{printed}
+use Rattle.df_session.specs.Links.{command_in}
 use Rattle.df_session.specs.Resulting.{AnswersResult}
-use Rattle.df_top.specs.Lines.{Turned, all_acts, all_answers, all_text, command_of, said_in}
+use Rattle.df_top.specs.Lines.{Turned, all_acts, all_answers, all_said, all_text, command_of}
+use Rattle.df_top.specs.Outside.{IsThrough}
+use Rattle.df_top.specs.declared.status.Status.{Status}
 
 -- one text behind the other
 abbrev pub joined : List (List ℕ) → List ℕ
 joined [] = []
 joined (text ∷ texts) = text ++ joined texts
 
--- what these lines print over what is shown, from this state of the machine on
-abbrev pub text_over : DataFile → Shown → Work → List Said → List ℕ
-text_over file shown w says = joined (printed (shape file) (codec file) shown w (map command_of says))
+-- what these lines print over what is shown, from this state of the machine on, with work of this pace beside them
+abbrev pub text_over : Pace → DataFile → Shown → Work → List Said → List ℕ
+text_over pace file shown w says = joined (paced (shape file) (codec file) pace (start shown w) (map command_of says))
 
 -- what they print over a file whose disk shows this image, in which this view is found
-abbrev pub script_text_of : DataFile → View → Image → List Said → List ℕ
-script_text_of file view image says = text_over file (shown_of file image) (opened (shape file) (unit_at file.layout file.cluster image) view) says
+abbrev pub script_text_of : Pace → DataFile → View → Image → List Said → List ℕ
+script_text_of pace file view image says = text_over pace file (shown_of file image) (opened (shape file) (unit_at file.layout file.cluster image) view) says
 
--- so it is of these lines, and so they print
-pub record IsResultOf (file : DataFile) (shown : Shown) (w : Work) (turns : List Turned) : Type 0 where
+-- beside no work it is what the machine prints of the lines alone
+abbrev pub TextAlone : Type 0
+TextAlone = (file : DataFile) (shown : Shown) (w : Work) (says : List Said) → text_over idle file shown w says ≡ joined (printed (shape file) (codec file) shown w (map command_of says))
+
+-- all commands of a session: its lines', each followed by those of the loop that are due behind it
+abbrev pub commands_over : Pace → DataFile → Shown → Work → List Said → List Command
+commands_over pace file shown w says = all_commands (shape file) (codec file) pace (start shown w) (map command_of says)
+
+-- So it is of these calls: they answer and print what the machine does, and they are the first of all commands that their lines come to; all of them where nothing failed.
+pub record IsResultOf (pace : Pace) (file : DataFile) (shown : Shown) (w : Work) (turns : List Turned) (status : Status) : Type 0 where
   pub answers : AnswersResult file shown w (all_acts turns) (all_answers turns)
-  pub text : all_text turns ≡ text_over file shown w (map said_in turns)
+  pub text : all_text turns ≡ text_over pace file shown w (all_said turns)
+  pub rest : List Command
+  pub commands : commands_over pace file shown w (all_said turns) ≡ map command_in (all_acts turns) ++ rest
+  pub whole : IsThrough status → rest ≡ []

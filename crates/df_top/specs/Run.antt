@@ -12,6 +12,8 @@ use Rattle.df_units.specs.Bytes.{unit_at}
 use Rattle.df_model.specs.Supply.{Shown}
 use Rattle.df_model.specs.Work.{opened}
 use Rattle.df_model.specs.declared.errors.OpenError.{OpenError}
+use Rattle.df_pace.specs.Beats.{idle, started}
+use Rattle.df_pace.specs.declared.pace.Pace.{Pace}
 use Rattle.df_session.specs.Below.{IsLayoutShown, Refuses, State as Replica, shape}
 use Rattle.df_session.specs.Reading.{shown_of}
 use Rattle.df_session.specs.Below.{AgreeShown}
@@ -29,7 +31,7 @@ use Rattle.df_top.specs.Resulting.{IsResultOf}
 use Rattle.df_top.specs.Session.{Ended, State}
 use Rattle.df_top.specs.Usage.{usage}
 use Rattle.df_top.specs.declared.mode.Mode.{Mode}
-use Rattle.df_top.specs.declared.mode.Mode.TheVariants.{Format, Run, Recover, Inspect, Scrub, Workload}
+use Rattle.df_top.specs.declared.mode.Mode.TheVariants.{Format, Run, Recover, Inspect, Scrub, Workload, Paced}
 use Rattle.df_top.specs.declared.status.Status.{Status}
 use Rattle.df_top.specs.declared.status.Status.TheVariants.{DiskFault, Memory, Refused, Words, WriteFault}
 
@@ -45,26 +47,27 @@ script_budget = 2 ^ 32
 
 -- a state of a session that was just opened: nothing was executed
 abbrev pub start : (told : Option Told) → Outside → Replica → State
-start told old replica = record { outside = record { told = told; left = old.left; written = old.written }; text = old.left; budget = script_budget; lines = 0; replica = replica }
+start told old replica = record { outside = record { told = told; left = old.left; written = old.written }; text = old.left; budget = script_budget; lines = 0; replica = replica; beat = started replica.head }
 
--- The script is served; what its calls keep is what calls on an open file keep, and what is answered and printed is a function of what the disk shows at first, and of the lines. No
--- step finds the superblock damaged that it wrote, since the disk tells what it shows.
-pub record ServesScript (layout : Layout) (t : Told) (found : FoundFile layout t) (old new : Outside) (status : Status) : Type 0 where
+-- The script is served, with work of this pace beside it; what all these calls keep is what calls on an open file keep, and what is answered and printed, and which work is done, is a
+-- function of what the disk shows at first, and of the lines. No step finds the superblock damaged that it wrote, since the disk tells what it shows.
+pub record ServesScript (pace : Pace) (layout : Layout) (t : Told) (found : FoundFile layout t) (old new : Outside) (status : Status) : Type 0 where
   pub last : State
   pub last_is : last.outside ≡ new
-  pub session : Ended (line_bound layout) (start found.mended old found.replica) last status
+  pub session : Ended pace (line_bound layout) (start found.mended old found.replica) last status
   pub result : (view : View) (shown : Shown) → IsFound (shape found.replica.file) (unit_at found.replica.file.layout found.replica.file.cluster t.shown) view → AgreeShown found.replica.file.layout (shown_of found.replica.file t.shown) shown
-      → IsResultOf found.replica.file shown (opened (shape found.replica.file) (unit_at found.replica.file.layout found.replica.file.cluster t.shown) view) session.turns
+      → IsResultOf pace found.replica.file shown (opened (shape found.replica.file) (unit_at found.replica.file.layout found.replica.file.cluster t.shown) view) session.turns status
   pub adds : new.told ≡ after_all (events_made (script_calls session)) found.mended
   pub calls : CallsKeep t found.replica found.mended found.mending (script_calls session)
   pub undamaged : status ≡ Refused → ⊥
 
 -- ---- any word
 
--- what each word does with the file that was found: serves the script, prints the summary, what is to be mended or which blocks fail, or carries out a generated run
+-- what each word does with the file that was found: serves the script, with work beside it or with none, prints the summary, what is to be mended or which blocks fail, or carries out a generated run
 abbrev pub Works : (mode : Mode) → (layout : Layout) → (t : Told) → FoundFile layout t → (old new : Outside) → Status → Type 0
 Works (Format shape cluster) layout t found old new status = ⊥
-Works Run layout t found old new status = ServesScript layout t found old new status
+Works Run layout t found old new status = ServesScript idle layout t found old new status
+Works (Paced pace) layout t found old new status = ServesScript pace layout t found old new status
 Works Recover layout t found old new status = Recovers layout t found old new status
 Works Inspect layout t found old new status = Inspects layout t found old new status
 Works Scrub layout t found old new status = ScrubsFile layout t found old new status

@@ -1,5 +1,5 @@
 -- How far a session has come, and what it has done when it ends.
-use Rattle.std.specs.Prelude.{◌≡◌, ◌⊎◌, ◌<◌, ◌+◌, ℕ, Bool, true, false, IsTrue, List, [], ◌∷◌, ◌++◌, length, map, Option, Some, None}
+use Rattle.std.specs.Prelude.{◌≡◌, ◌⊎◌, ◌<◌, ◌+◌, ℕ, Bool, true, false, IsTrue, List, [], ◌++◌, length, Option, Some, None}
 use Rattle.df_base.specs.Streams.{Appends, AppendsPart}
 use Rattle.df_disk.specs.Told.{Told}
 use Rattle.df_layout.specs.declared.damage.Class.{Class}
@@ -9,28 +9,31 @@ use Rattle.df_lines.specs.Room.{IsAtEnd}
 use Rattle.df_lines.specs.Script.{Begins, IsRefused}
 use Rattle.df_lines.specs.Text.{line_of, unread}
 use Rattle.df_model.specs.Commands.{Command}
+use Rattle.df_pace.specs.declared.beat.Beat.{Beat}
+use Rattle.df_pace.specs.declared.pace.Pace.{Pace}
 use Rattle.df_session.specs.Below.{State as Replica}
 use Rattle.df_session.specs.Session.{Act}
 use Rattle.df_script_model.specs.Texts.{damaged_text}
 use Rattle.df_session.specs.Endings.{IsDamaged}
-use Rattle.df_session.specs.Links.{AreCalls, EndsCalls}
-use Rattle.df_top.specs.Lines.{AreTurned, Turned, all_acts, all_answers, command_of, printed, said_in}
+use Rattle.df_top.specs.Lines.{Failing, Turned, act_of, all_said, printed, said_of}
 use Rattle.df_top.specs.Outside.{Outside}
+use Rattle.df_top.specs.Pacing.{AreTurns, EndTurns}
 use Rattle.df_top.specs.declared.session.Session.{Session}
 use Rattle.df_top.specs.declared.status.Status.{Status}
 use Rattle.df_top.specs.declared.status.Status.TheVariants.{Done, Script, Refused, DiskFault, ReadFault, WriteFault}
 
 -- What a session has before it: the outside, the text that is unread where the source tells it, how many bytes may still be taken, how many lines were
--- executed, and the replica.
+-- executed, the replica, and where the loop beside the script stands.
 pub record State : Type 0 where
   pub outside : Outside
   pub text : Option (List ℕ)
   pub budget : ℕ
   pub lines : ℕ
   pub replica : Replica
+  pub beat : Beat
 
 abbrev pub state : Outside → Session → State
-state outside s = record { outside = outside; text = unread s.lines.reading.held outside.left; budget = s.lines.reading.budget; lines = s.count; replica = s.replica }
+state outside s = record { outside = outside; text = unread s.lines.reading.held outside.left; budget = s.lines.reading.budget; lines = s.count; replica = s.replica; beat = s.beat }
 
 -- a source that has said that it has ended has nothing left
 abbrev pub EndedIsEnd : Session → Option (List ℕ) → Type 0
@@ -38,28 +41,12 @@ EndedIsEnd s left = IsTrue s.lines.ended → IsAtEnd left
 
 -- ---- executed, and ended
 
--- the line whose one call was not answered
-pub record Failing : Type 0 where
-  pub said : Said
-  pub act : Act
-  pub asks : act.command ≡ command_of said
-
-abbrev pub act_of : Option Failing → Option Act
-act_of None = None
-act_of (Some f) = Some f.act
-
-abbrev pub said_of : Option Failing → List Said
-said_of None = []
-said_of (Some f) = f.said ∷ []
-
--- from origin to now these lines were executed: they are the first ones of the text, the calls that they ask for were made and answered, and what the answers
--- print is written
-pub record Executed (bound : ℕ) (origin now : State) (turns : List Turned) : Type 0 where
-  pub text : (text : List ℕ) → origin.text ≡ Some text → (rest : List ℕ) × (now.text ≡ Some rest) × Begins bound origin.budget text (map said_in turns) now.budget rest
-  pub are : AreTurned turns
+-- from origin to now these calls were made and answered: their lines are the first ones of the text, and what the lines' answers print is written
+pub record Executed (pace : Pace) (bound : ℕ) (origin now : State) (turns : List Turned) : Type 0 where
+  pub text : (text : List ℕ) → origin.text ≡ Some text → (rest : List ℕ) × (now.text ≡ Some rest) × Begins bound origin.budget text (all_said turns) now.budget rest
   pub written : Appends origin.outside.written now.outside.written (printed origin.lines turns false)
-  pub lines : now.lines ≡ origin.lines + length turns
-  pub calls : AreCalls origin.replica origin.outside.told (all_acts turns) (all_answers turns) now.replica now.outside.told
+  pub lines : now.lines ≡ origin.lines + length (all_said turns)
+  pub calls : AreTurns pace origin.beat origin.replica origin.outside.told turns now.beat now.replica now.outside.told
 
 -- of this rest of a text, of which the source has so much left, its first line was read, or more of it than the bound
 pub record HoldsLine (bound : ℕ) (rest left : List ℕ) : Type 0 where
@@ -92,14 +79,13 @@ EndsWith n old new turns (Some a) cut Refused = (cut ≡ false) × (line : List 
 EndsWith n old new turns (Some a) cut WriteFault = (cut ≡ false) × (line : List ℕ) × IsDamagedLine a.command new.told line × AppendsPart old.written new.written (printed n turns cut ++ line)
 EndsWith n old new turns failed cut status = ⊥
 
--- from origin to now a session was executed to its end: these lines are the first ones of the text, each was answered, and then one more was not, or there
--- was none
-pub record Ended (bound : ℕ) (origin now : State) (status : Status) : Type 0 where
+-- from origin to now a session was executed to its end: the lines of these calls are the first ones of the text, each call was answered, and then one more was not, or
+-- there was none
+pub record Ended (pace : Pace) (bound : ℕ) (origin now : State) (status : Status) : Type 0 where
   pub turns : List Turned
   pub failing : Option Failing
   pub cut : Bool
   pub text : (text : List ℕ) → origin.text ≡ Some text
-      → (budget : ℕ) × (rest : List ℕ) × Begins bound origin.budget text (map said_in turns ++ said_of failing) budget rest × EndsText bound budget rest now.outside.left cut status
-  pub are : AreTurned turns
+      → (budget : ℕ) × (rest : List ℕ) × Begins bound origin.budget text (all_said turns ++ said_of failing) budget rest × EndsText bound budget rest now.outside.left cut status
   pub written : EndsWith origin.lines origin.outside now.outside turns (act_of failing) cut status
-  pub calls : EndsCalls origin.replica now.replica origin.outside.told now.outside.told (all_acts turns) (all_answers turns) (act_of failing)
+  pub calls : EndTurns pace origin.beat origin.replica origin.outside.told turns failing status now.replica now.outside.told

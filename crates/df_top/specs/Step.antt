@@ -1,5 +1,5 @@
--- What one line of a script does to a session, whatever was executed before it.
-use Rattle.std.specs.Prelude.{◌≡◌, ◌⊎◌, ◌+◌, ◌-◌, ℕ, List, [], ◌∷◌, ◌++◌, Option, Some, None}
+-- What one line of a script, or one piece of the work behind it, does to a session, whatever was executed before it.
+use Rattle.std.specs.Prelude.{◌≡◌, ◌⊎◌, ◌+◌, ◌-◌, ℕ, List, ◌++◌, Option, Some, None}
 use Rattle.df_base.specs.Streams.{Appends, AppendsPart}
 use Rattle.df_disk.specs.Told.{Told}
 use Rattle.df_inspect.specs.Opening.{script_text}
@@ -7,6 +7,10 @@ use Rattle.df_lines.specs.Grammar.{Said}
 use Rattle.df_lines.specs.Script.{IsLine}
 use Rattle.df_lines.specs.Text.{after_line, taken}
 use Rattle.df_model.specs.Commands.{Answer, Command}
+use Rattle.df_pace.specs.Beats.{behind_piece, is_begun}
+use Rattle.df_pace.specs.declared.beat.Beat.{Beat}
+use Rattle.df_pace.specs.declared.beat.Piece.{Piece}
+use Rattle.df_pace.specs.declared.pace.Pace.{Pace}
 use Rattle.df_session.specs.Below.{State as Replica}
 use Rattle.df_script_model.specs.Script.{answer_text}
 use Rattle.df_session.specs.Links.{Makes}
@@ -33,6 +37,15 @@ Answers command s t old new written took (EndsBy Refused) = EndsDamaged command 
 Answers command s t old new written took (EndsBy WriteFault) = IsAnswered command s t old new (λ line. AppendsPart written took line) ⊎ EndsDamaged command s t old new (λ line. AppendsPart written took line)
 Answers command s t old new written took (EndsBy status) = ⊥
 
+-- A piece of the loop's work was done: the call was made, and nothing is printed of its answer; or the disk failed in it; or it is a step that is damaged, whose line
+-- ends the session; or the sink failed with that.
+abbrev pub Passes : Piece → Command → (s t : Replica) → (old new : Option Told) → (written took : Option (List ℕ)) → (b c : Beat) → Turn → Type 0
+Passes p command s t old new written took b c Goes = (x : Answer) × Makes command s t old new (Some x) × (took ≡ written) × (c ≡ behind_piece p (is_begun x) b t.head)
+Passes p command s t old new written took b c (EndsBy DiskFault) = Makes command s t old new None × (took ≡ written)
+Passes p command s t old new written took b c (EndsBy Refused) = EndsDamaged command s t old new (λ line. Appends written took line)
+Passes p command s t old new written took b c (EndsBy WriteFault) = EndsDamaged command s t old new (λ line. AppendsPart written took line)
+Passes p command s t old new written took b c (EndsBy status) = ⊥
+
 -- the line that refuses the next line was written, or a front of it where the sink failed
 abbrev pub RefusesLine : (n : ℕ) → (old new : Option (List ℕ)) → Status → Type 0
 RefusesLine n old new Script = Appends old new (script_text (n + 1))
@@ -44,13 +57,13 @@ abbrev pub Takes : (bound : ℕ) → State → Said → Option (List ℕ) → �
 Takes bound old said text budget =
     (rest : List ℕ) → old.text ≡ Some rest → IsLine bound old.budget rest said × (text ≡ Some (after_line rest)) × (budget ≡ old.budget - taken rest)
 
--- the session goes on with one line more, or ends
-abbrev pub GoesOn : (bound : ℕ) → (old new : State) → Type 0
-GoesOn bound old new = (origin : State) (turns : List Turned) → Executed bound origin old turns → (t : Turned) × Executed bound origin new (turns ++ t ∷ [])
+-- the session goes on with some calls more, or ends
+abbrev pub GoesOn : Pace → (bound : ℕ) → (old new : State) → Type 0
+GoesOn pace bound old new = (origin : State) (turns : List Turned) → Executed pace bound origin old turns → (more : List Turned) × Executed pace bound origin new (turns ++ more)
 
-abbrev pub EndsIn : (bound : ℕ) → (old new : State) → Status → Type 0
-EndsIn bound old new status = (origin : State) (turns : List Turned) → Executed bound origin old turns → Ended bound origin new status
+abbrev pub EndsIn : Pace → (bound : ℕ) → (old new : State) → Status → Type 0
+EndsIn pace bound old new status = (origin : State) (turns : List Turned) → Executed pace bound origin old turns → Ended pace bound origin new status
 
-abbrev pub Turns : (bound : ℕ) → (old new : State) → Turn → Type 0
-Turns bound old new Goes = GoesOn bound old new
-Turns bound old new (EndsBy status) = EndsIn bound old new status
+abbrev pub Turns : Pace → (bound : ℕ) → (old new : State) → Turn → Type 0
+Turns pace bound old new Goes = GoesOn pace bound old new
+Turns pace bound old new (EndsBy status) = EndsIn pace bound old new status

@@ -1,9 +1,15 @@
 -- What the functions that serve a script say of their session.
-use Rattle.std.specs.Prelude.{◌≡◌, ◌≤◌, ◌+◌, ◌^◌, ℕ, true, List, Option, Result, Ok, Err}
+use Rattle.std.specs.Prelude.{◌≡◌, ◌≤◌, ◌+◌, ◌^◌, ℕ, Bool, true, false, List, Option, Some, None, Result, Ok, Err}
 use Rattle.df_base.specs.Streams.{Appends, AppendsPart}
 use Rattle.df_inspect.specs.Answers.{text_of}
-use Rattle.df_model.specs.Commands.{Command}
+use Rattle.df_disk.specs.Told.{Told}
+use Rattle.df_model.specs.Commands.{Answer as Said, Command}
 use Rattle.df_model.specs.declared.commands.Answer.{Answer}
+use Rattle.df_model.specs.declared.commands.Answer.TheVariants as answers
+use Rattle.df_pace.specs.Beats.{is_begun}
+use Rattle.df_session.specs.Below.{State as Replica}
+use Rattle.df_session.specs.Endings.{EndsBy}
+use Rattle.df_session.specs.Links.{Makes}
 use Rattle.df_session.specs.declared.hearing.Fault.{Fault}
 use Rattle.df_top.specs.Outside.{Blames}
 use Rattle.df_top.specs.Refusing.{PrintsFault}
@@ -40,6 +46,16 @@ abbrev pub Tells : Command → Result Answer Fault → (old new : Option (List �
 Tells command (Ok answer) old new turn = IsPrinted (text_of command answer) old new turn
 Tells command (Err fault) old new GoesOn = ⊥
 Tells command (Err fault) old new (Ends status) = PrintsFault fault old new status
+
+-- a checkpoint was begun by a call that answered so
+abbrev pub begun_in : Answer → Bool
+begun_in (answers.Begin (Ok blocks)) = true
+begun_in answer = false
+
+-- what a piece of the work comes to: whether a checkpoint was begun by it, or why no call may follow
+abbrev pub DoesPiece : Command → (s t : Replica) → (old new : Option Told) → Result Bool Fault → Type 0
+DoesPiece command s t old new (Ok begun) = (x : Said) × Makes command s t old new (Some x) × (begun ≡ is_begun x)
+DoesPiece command s t old new (Err fault) = Makes command s t old new None × EndsBy fault command new
 
 -- calls may go on, and no more lines were executed than bytes were taken
 pub record IsReady (s : Session) (left : Option (List ℕ)) : Type 0 where

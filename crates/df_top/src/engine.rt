@@ -6,7 +6,7 @@ ghost use Rattle.df_layout.specs.declared.layout.Layout.{Layout};
 ghost use Rattle.df_lines.specs.Room.{IsFresh, line_bound};
 ghost use Rattle.df_units.specs.Within.{AddsWithin};
 ghost use Rattle.df_top.specs.declared.mode.Mode.{Mode};
-ghost use Rattle.df_top.specs.Mode.{IsOfFile, IsRunnable, Means, MeansNothing};
+ghost use Rattle.df_top.specs.Mode.{AsksScript, IsOfFile, IsRunnable, Means, MeansNothing, ReadsScript};
 ghost use Rattle.df_top.specs.Formats.{Formats, MakesFile};
 ghost use Rattle.df_top.specs.Hurting.{RunsOverHurt};
 ghost use Rattle.df_top.specs.Outside.{Blames, HasCauses};
@@ -27,7 +27,7 @@ use std::alloc::Global;
 
 /// The line that says which words have a meaning.
 pub const USAGE: &[u8] =
-    b"usage: format LAYOUT CLUSTER | run | recover | inspect | scrub | workload SEED COUNT\n";
+    b"usage: format LAYOUT CLUSTER | run | recover | inspect | scrub | workload SEED COUNT | paced SCRUB EVERY STEPS\n";
 
 // The memory of a session over a file.
 #[derive(Drop)]
@@ -59,7 +59,7 @@ fn run_file<D: Disk, S: Source, W: Sink>(
         (record { told = D.told disk.old; left = S.left source.old; written = W.written sink.old })
         (record { told = D.told disk.new; left = S.left source.new; written = W.written sink.new }) result }
     ensures inspects { mode ≡ Mode.Inspect → AddsPart (Sync ∷ []) (D.told disk.old) (D.told disk.new) }
-    ensures unread { (mode ≡ Mode.Run → ⊥) → S.left source.new ≡ S.left source.old }
+    ensures unread { (ReadsScript mode → ⊥) → S.left source.new ≡ S.left source.old }
     ensures causes { HasCauses
         (record { disk = D.faults disk.old; source = S.faults source.old; sink = W.faults sink.old })
         (record { disk = D.faults disk.new; source = S.faults source.new; sink = W.faults sink.new }) result }
@@ -100,10 +100,10 @@ pub fn run<D: Disk, S: Source, W: Sink>(
     sink: &mut W,
     disk: &mut D,
 ) -> Status
-    // Words without a meaning print the usage line, and touch neither the disk nor the source. `run` alone reads a script.
+    // Words without a meaning print the usage line, and touch neither the disk nor the source. `run` and `paced` alone read a script.
     ensures usage { MeansNothing (map string_bytes words.now) → PrintsUsage (W.written sink.old) (W.written sink.new) result }
     ensures untouched { MeansNothing (map string_bytes words.now) → D.told disk.new ≡ D.told disk.old }
-    ensures unread { (Means (map string_bytes words.now) Mode.Run → ⊥) → S.left source.new ≡ S.left source.old }
+    ensures unread { (AsksScript (map string_bytes words.now) → ⊥) → S.left source.new ≡ S.left source.old }
     ensures words { result ≡ Status.Words → MeansNothing (map string_bytes words.now) }
 
     // `format` makes the file or refuses it; over a disk that was never written the log is safe at every moment.
@@ -113,7 +113,7 @@ pub fn run<D: Disk, S: Source, W: Sink>(
         → MakesFile layout cluster (D.told disk.old) (D.told disk.new) result }
 
     // The other words refuse a file by the first reason of the order of open. `run` serves the script as the machine does, and
-    // keeps what it answered at every moment and at its end; `recover` mends the file and prints its summary; `inspect` prints
+    // keeps what it answered at every moment and at its end; `paced` does so too, with the work that is due behind each line; `recover` mends the file and prints its summary; `inspect` prints
     // the report of what it finds, and adds nothing but the sync of its barrier; `scrub` mends the file, and prints
     // the referenced blocks that fail; `workload` carries out a generated run as the machine does, keeps what was answered, and
     // prints what it did.

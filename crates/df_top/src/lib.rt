@@ -1,6 +1,7 @@
 //! What the program does: its words, its script, its answers and its status.
 #![tactic(auto)]
 
+mod background;
 mod completeness;
 mod engine;
 mod making;
@@ -19,6 +20,7 @@ mod working;
 mod works;
 
 pub use completeness::{a_blank_disk_is_formatted, a_safe_file_is_served};
+pub use df_pace::Pace;
 pub use df_session::Rooms;
 pub use engine::run;
 pub use mode::{Mode, mode_of, words_have_one_meaning};

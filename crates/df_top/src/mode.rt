@@ -1,5 +1,5 @@
 // What the words of the command line ask for, by rules that take no memory.
-ghost use Rattle.std.specs.Prelude.{◌≡◌, ◌<◌, ◌^◌, ℕ, List, [], ◌∷◌, ◌++◌, map, codes, decimal, string_bytes};
+ghost use Rattle.std.specs.Prelude.{◌≡◌, ◌<◌, ◌≤◌, ◌^◌, ℕ, List, [], ◌∷◌, ◌++◌, map, codes, decimal, string_bytes};
 ghost use Rattle.std.specs.Prelude.{IfSome, IfNone};
 ghost use Rattle.df_layout.specs.declared.layout.Layout.{Layout};
 ghost use Rattle.df_top.specs.declared.mode.Mode.{Mode};
@@ -7,9 +7,13 @@ ghost use Rattle.df_top.specs.Mode.{Means, NamesLayout, OneMeaning, new_file, nu
 
 use df_layout::Layout;
 use df_lines::{u32_of, u64_of, u128_of};
+use df_pace::Pace;
 
 /// The rounds of the longest generated run.
 const MOST_ROUNDS: u64 = 1_000_000;
+
+/// The greatest number of a pace.
+const MOST_PIECES: u64 = 64;
 
 /// What the words of the command line ask for.
 #[derive(Clone, Copy, Debug, PartialEq, Eq)]
@@ -26,6 +30,8 @@ pub enum Mode {
     Scrub,
     /// Opens the file, which mends it, carries out a generated run of `count` rounds and prints what it did: `workload SEED COUNT`.
     Workload { seed: u64, count: u64 },
+    /// Serves the script with this work beside it: `paced SCRUB EVERY STEPS`.
+    Paced { pace: Pace },
 }
 
 /// A file that is to be made.
@@ -47,13 +53,15 @@ pub(crate) fn new_file(mode: Mode) -> Option<NewFile>
         | Mode::Recover
         | Mode::Inspect
         | Mode::Scrub
-        | Mode::Workload { seed: _, count: _ } => None,
+        | Mode::Workload { seed: _, count: _ }
+        | Mode::Paced { pace: _ } => None,
     }
 }
 
 /// What the words ask for, or None where they have no meaning. LAYOUT is `small`, `large`, or the slots, the bytes of a
 /// message, the clients, the bytes of a block and the blocks, in decimal with commas between them. CLUSTER is a number in
-/// decimal below 2^128. SEED is one below 2^64, COUNT one from 1 to 1,000,000. A number has no zero before it, `0` itself aside.
+/// decimal below 2^128. SEED is one below 2^64, COUNT one from 1 to 1,000,000; SCRUB, EVERY and STEPS are at most 64. A number has
+/// no zero before it, `0` itself aside.
 pub fn mode_of(words: &[String]) -> Option<Mode>
     ensures found { IfSome result (Means (map string_bytes words.now)) }
     ensures none { IfNone result ((c : Mode) → Means (map string_bytes words.now) c → ⊥) }
@@ -61,6 +69,12 @@ pub fn mode_of(words: &[String]) -> Option<Mode>
     match words {
         [word] => plain_mode(word.as_str()),
         [word, one, two] => mode_with(word.as_str(), one.as_str(), two.as_str()),
+        [word, scrub, every, steps] => paced_words(
+            word.as_str(),
+            scrub.as_str(),
+            every.as_str(),
+            steps.as_str(),
+        ),
         _ => None,
     }
 }
@@ -112,6 +126,48 @@ fn workload_mode(seed: &str, count: &str) -> Option<Mode>
         return None;
     }
     Some(Mode::Workload { seed, count })
+}
+
+// What four words ask for.
+fn paced_words(word: &str, scrub: &str, every: &str, steps: &str) -> Option<Mode>
+    ensures found { IfSome result (Means (word.now ∷ scrub.now ∷ every.now ∷ steps.now ∷ [])) }
+    ensures none { IfNone result ((c : Mode) → Means (word.now ∷ scrub.now ∷ every.now ∷ steps.now ∷ []) c → ⊥) }
+{
+    if word == "paced" {
+        paced_mode(scrub, every, steps)
+    } else {
+        None
+    }
+}
+
+// What `paced` asks for with these words behind it.
+fn paced_mode(scrub: &str, every: &str, steps: &str) -> Option<Mode>
+    ensures found { IfSome result (Means (codes "paced" ∷ scrub.now ∷ every.now ∷ steps.now ∷ [])) }
+    ensures none { IfNone result ((c : Mode) → Means (codes "paced" ∷ scrub.now ∷ every.now ∷ steps.now ∷ []) c → ⊥) }
+{
+    let scrub = pieces_of(scrub)?;
+    let every = pieces_of(every)?;
+    let steps = pieces_of(steps)?;
+    Some(Mode::Paced {
+        pace: Pace {
+            scrub,
+            every,
+            steps,
+        },
+    })
+}
+
+// The number of a pace that a word names.
+fn pieces_of(word: &str) -> Option<u64>
+    ensures found { IfSome result (λ n. word.now ≡ decimal n) }
+    ensures most { IfSome result (λ n. n ≤ 64) }
+    ensures none { IfNone result ((n : ℕ) → n ≤ 64 → word.now ≡ decimal n → ⊥) }
+{
+    let pieces = u64_of(word.as_bytes())?;
+    if pieces > MOST_PIECES {
+        return None;
+    }
+    Some(pieces)
 }
 
 // What `format` asks for with these words behind it.

@@ -5,7 +5,7 @@ ghost use Rattle.df_disk.specs.Adds.{AddsPart};
 ghost use Rattle.df_lines.specs.Room.{IsFresh, line_bound};
 ghost use Rattle.df_top.specs.Hurting.{ServesOverHurt};
 ghost use Rattle.df_top.specs.declared.mode.Mode.{Mode};
-ghost use Rattle.df_top.specs.Mode.{AsksOfFile, IsRunnable, Means};
+ghost use Rattle.df_top.specs.Mode.{AsksOfFile, AsksScript, Executes, IsRunnable, Means, ReadsScript};
 ghost use Rattle.df_top.specs.Outside.{Blames, HasCauses};
 ghost use Rattle.df_top.specs.Refusing.{PrintsError};
 ghost use Rattle.df_top.specs.Run.{ServesIn};
@@ -22,6 +22,7 @@ use df_base::{Sink, Source};
 use df_disk::Disk;
 use df_inspect::print_open_refusal;
 use df_lines::LineRoom;
+use df_pace::{Beat, Pace};
 use df_session::{OpenError, Replica, Rooms};
 
 /// Prints why a file isn't opened; a failing disk has no line.
@@ -38,8 +39,9 @@ pub(crate) fn refuse_file<W: Sink>(sink: &mut W, error: &OpenError) -> Status
     }
 }
 
-// Opens the file and serves the script.
+// Opens the file and serves the script, with this work beside it.
 fn serve_file<D: Disk, S: Source, W: Sink>(
+    pace: Pace,
     rooms: Rooms,
     lines: LineRoom,
     source: &mut S,
@@ -47,7 +49,7 @@ fn serve_file<D: Disk, S: Source, W: Sink>(
     disk: &mut D,
 ) -> Status
     requires lines { IsFresh (line_bound rooms.layout) lines }
-    ensures serves { ServesIn Mode.Run rooms.layout
+    ensures serves { (mode : Mode) → Executes mode pace → ServesIn mode rooms.layout
         (record { told = D.told disk.old; left = S.left source.old; written = W.written sink.old })
         (record { told = D.told disk.new; left = S.left source.new; written = W.written sink.new }) result }
     ensures causes { HasCauses
@@ -58,10 +60,13 @@ fn serve_file<D: Disk, S: Source, W: Sink>(
 {
     match Replica::open(disk, rooms) {
         Ok(replica) => {
+            let beat = Beat::start(replica.summary().head);
             let mut session = Session {
                 replica,
                 lines,
                 count: 0,
+                pace,
+                beat,
             };
             serve_script(disk, source, sink, &mut session)
         }
@@ -84,7 +89,7 @@ pub(crate) fn carry_out<D: Disk, S: Source, W: Sink>(
         (record { told = D.told disk.old; left = S.left source.old; written = W.written sink.old })
         (record { told = D.told disk.new; left = S.left source.new; written = W.written sink.new }) result }
     ensures inspects { mode ≡ Mode.Inspect → AddsPart (Sync ∷ []) (D.told disk.old) (D.told disk.new) }
-    ensures unread { (mode ≡ Mode.Run → ⊥) → S.left source.new ≡ S.left source.old }
+    ensures unread { (ReadsScript mode → ⊥) → S.left source.new ≡ S.left source.old }
     ensures causes { HasCauses
         (record { disk = D.faults disk.old; source = S.faults source.old; sink = W.faults sink.old })
         (record { disk = D.faults disk.new; source = S.faults source.new; sink = W.faults sink.new }) result }
@@ -92,11 +97,12 @@ pub(crate) fn carry_out<D: Disk, S: Source, W: Sink>(
     ensures usage { result ≡ Status.Words → ⊥ }
 {
     match mode {
-        Mode::Run => serve_file(rooms, lines, source, sink, disk),
+        Mode::Run => serve_file(Pace::idle(), rooms, lines, source, sink, disk),
         Mode::Recover => recover_file(rooms, sink, disk),
         Mode::Inspect => inspect_file(rooms, sink, disk),
         Mode::Scrub => scrub_file(rooms, sink, disk),
         Mode::Workload { seed, count } => workload_file(rooms, seed, count, sink, disk),
+        Mode::Paced { pace } => serve_file(pace, rooms, lines, source, sink, disk),
         Mode::Format {
             layout: _,
             cluster: _,
@@ -124,7 +130,7 @@ pub fn serve<D: Disk, S: Source, W: Sink>(
         (record { told = D.told disk.old; left = S.left source.old; written = W.written sink.old })
         (record { told = D.told disk.new; left = S.left source.new; written = W.written sink.new }) result }
     ensures within { WritesIn rooms.layout (D.told disk.old) (D.told disk.new) }
-    ensures unread { (Means (map string_bytes words.now) Mode.Run → ⊥) → S.left source.new ≡ S.left source.old }
+    ensures unread { (AsksScript (map string_bytes words.now) → ⊥) → S.left source.new ≡ S.left source.old }
     ensures causes { HasCauses
         (record { disk = D.faults disk.old; source = S.faults source.old; sink = W.faults sink.old })
         (record { disk = D.faults disk.new; source = S.faults source.new; sink = W.faults sink.new }) result }

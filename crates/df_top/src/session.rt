@@ -1,5 +1,6 @@
-// A session: the replica that it works with, the memory that serves a script, and how far the script has come.
+// A session: the replica that it works with, the memory that serves a script, how far the script has come, and the work beside it.
 use df_lines::LineRoom;
+use df_pace::{Beat, Pace};
 use df_session::Replica;
 
 /// What a session works with. All of its memory is taken before the first command.
@@ -11,4 +12,8 @@ pub struct Session {
     pub lines: LineRoom,
     /// How many lines were executed.
     pub count: u64,
+    /// How much work is done behind each line.
+    pub pace: Pace,
+    /// Where that work stands.
+    pub beat: Beat,
 }

@@ -1,12 +1,15 @@
-// The session over a script: one turn for each line, until there is none, one is refused, or something fails.
+// The session over a script: one turn for each line and the work behind it, until there is none, one is refused, or something fails.
 ghost use Rattle.std.specs.Prelude.{◌≡◌, ◌<◌, ◌≤◌, ◌+◌, ◌^◌, length, true};
 ghost use Rattle.df_lines.specs.Grammar.{body_length, said_with};
+ghost use Rattle.df_pace.specs.Beats.{behind_line};
 ghost use Rattle.df_top.specs.Lines.{command_of};
 ghost use Rattle.df_top.specs.Outside.{Blames};
+ghost use Rattle.df_top.specs.Pacing.{IsIdle, runs};
 ghost use Rattle.df_top.specs.Session.{Ended, state};
 ghost use Rattle.df_top.specs.Step.{Answers, RefusesLine, Turns};
 ghost use Rattle.df_top.specs.Turning.{BlamesIfEnds, IsReady, OnGoing};
 
+use crate::background::work;
 use crate::reads::{lookup, prepare, read_block};
 use crate::scrub_calls::{recent, scrub};
 use crate::session::Session;
@@ -17,6 +20,7 @@ use df_disk::Disk;
 use df_inspect::print_script;
 use df_lines::{Line, Next};
 use df_model::Command;
+use df_pace::Beat;
 
 /// What became of a session by one turn.
 #[derive(Clone, Copy, Debug, PartialEq, Eq)]
@@ -44,6 +48,8 @@ fn execute<D: Disk, W: Sink>(disk: &mut D, sink: &mut W, session: &mut Session, 
     ensures answers { Answers (command_of (said_with session.old.lines.body line)) session.old.replica session.new.replica (D.told disk.old) (D.told disk.new) (W.written sink.old) (W.written sink.new) result }
     ensures lines { session.new.lines ≡ session.old.lines }
     ensures count { session.new.count ≡ session.old.count }
+    ensures pace { session.new.pace ≡ session.old.pace }
+    ensures beat { session.new.beat ≡ session.old.beat }
     ensures disk { BlamesIfEnds Status.DiskFault (D.faults disk.old) (D.faults disk.new) result }
     ensures sink { BlamesIfEnds Status.WriteFault (W.faults sink.old) (W.faults sink.new) result }
 {
@@ -89,6 +95,15 @@ fn execute<D: Disk, W: Sink>(disk: &mut D, sink: &mut W, session: &mut Session, 
     }
 }
 
+// Where the loop stands behind a line.
+fn behind(session: &Session) -> Beat
+    ensures { result ≡ behind_line session.now.pace session.now.beat session.now.replica.head (runs session.now.replica) }
+{
+    let head = session.replica.summary().head;
+    let running = session.replica.is_running();
+    session.beat.behind_line(&session.pace, head, running)
+}
+
 // Serves the line that was taken last.
 fn serve_line<D: Disk, W: Sink>(
     disk: &mut D,
@@ -103,28 +118,33 @@ fn serve_line<D: Disk, W: Sink>(
     ensures lines { session.new.lines ≡ session.old.lines }
     ensures live { OnGoing result (session.new.replica.live ≡ true) }
     ensures count { OnGoing result (session.new.count ≡ session.old.count + 1) }
+    ensures pace { session.new.pace ≡ session.old.pace }
+    ensures beat { session.new.beat ≡ behind_line session.old.pace session.old.beat session.new.replica.head (runs session.new.replica) }
     ensures disk { BlamesIfEnds Status.DiskFault (D.faults disk.old) (D.faults disk.new) result }
     ensures sink { BlamesIfEnds Status.WriteFault (W.faults sink.old) (W.faults sink.new) result }
 {
     let turn = execute(disk, sink, session, line);
     session.count += 1;
+    session.beat = behind(session);
     turn
 }
 
 // Takes the next line of the script and serves it.
-fn take_turn<D: Disk, S: Source, W: Sink>(
+fn take_line<D: Disk, S: Source, W: Sink>(
     disk: &mut D,
     source: &mut S,
     sink: &mut W,
     session: &mut Session,
 ) -> Turn
     requires ready { IsReady session.old (S.left source.old) }
-    ensures turns { Turns session.old.lines.reading.bound
+    requires idle { IsIdle session.old.beat session.old.replica }
+    ensures turns { Turns session.old.pace session.old.lines.reading.bound
         (state (record { told = D.told disk.old; left = S.left source.old; written = W.written sink.old }) session.old)
         (state (record { told = D.told disk.new; left = S.left source.new; written = W.written sink.new }) session.new) result }
     ensures ready { OnGoing result (IsReady session.new (S.left source.new)) }
     ensures bound { session.new.lines.reading.bound ≡ session.old.lines.reading.bound }
     ensures budget { OnGoing result (session.new.lines.reading.budget < session.old.lines.reading.budget) }
+    ensures pace { session.new.pace ≡ session.old.pace }
     ensures disk { BlamesIfEnds Status.DiskFault (D.faults disk.old) (D.faults disk.new) result }
     ensures source { BlamesIfEnds Status.ReadFault (S.faults source.old) (S.faults source.new) result }
     ensures sink { BlamesIfEnds Status.WriteFault (W.faults sink.old) (W.faults sink.new) result }
@@ -137,7 +157,34 @@ fn take_turn<D: Disk, S: Source, W: Sink>(
     }
 }
 
-/// Serves a script, line by line, to its end.
+// Serves the next line of the script, and does the work that is due behind it.
+fn take_turn<D: Disk, S: Source, W: Sink>(
+    disk: &mut D,
+    source: &mut S,
+    sink: &mut W,
+    session: &mut Session,
+) -> Turn
+    requires ready { IsReady session.old (S.left source.old) }
+    requires idle { IsIdle session.old.beat session.old.replica }
+    ensures turns { Turns session.old.pace session.old.lines.reading.bound
+        (state (record { told = D.told disk.old; left = S.left source.old; written = W.written sink.old }) session.old)
+        (state (record { told = D.told disk.new; left = S.left source.new; written = W.written sink.new }) session.new) result }
+    ensures ready { OnGoing result (IsReady session.new (S.left source.new)) }
+    ensures idle { OnGoing result (IsIdle session.new.beat session.new.replica) }
+    ensures bound { session.new.lines.reading.bound ≡ session.old.lines.reading.bound }
+    ensures budget { OnGoing result (session.new.lines.reading.budget < session.old.lines.reading.budget) }
+    ensures pace { session.new.pace ≡ session.old.pace }
+    ensures disk { BlamesIfEnds Status.DiskFault (D.faults disk.old) (D.faults disk.new) result }
+    ensures source { BlamesIfEnds Status.ReadFault (S.faults source.old) (S.faults source.new) result }
+    ensures sink { BlamesIfEnds Status.WriteFault (W.faults sink.old) (W.faults sink.new) result }
+{
+    match take_line(disk, source, sink, session) {
+        Turn::GoesOn => work(disk, sink, session),
+        Turn::Ends(status) => Turn::Ends(status),
+    }
+}
+
+/// Serves a script, line by line, to its end, and does the work that is due behind each.
 pub fn serve_script<D: Disk, S: Source, W: Sink>(
     disk: &mut D,
     source: &mut S,
@@ -145,7 +192,8 @@ pub fn serve_script<D: Disk, S: Source, W: Sink>(
     session: &mut Session,
 ) -> Status
     requires ready { IsReady session.old (S.left source.old) }
-    ensures session { Ended session.old.lines.reading.bound
+    requires idle { IsIdle session.old.beat session.old.replica }
+    ensures session { Ended session.old.pace session.old.lines.reading.bound
         (state (record { told = D.told disk.old; left = S.left source.old; written = W.written sink.old }) session.old)
         (state (record { told = D.told disk.new; left = S.left source.new; written = W.written sink.new }) session.new) result }
     ensures disk { Blames Status.DiskFault (D.faults disk.old) (D.faults disk.new) result }

@@ -10,7 +10,7 @@ use Rattle.df_layout.specs.Spans.{span_of}
 use Rattle.df_format.specs.declared.kind.Kind.{Kind}
 use Rattle.df_format.specs.declared.kind.Kind.TheVariants.{Reserved, Prepare, Reply}
 use Rattle.df_format.specs.declared.superblock.SuperCopy.{SuperCopy}
-use Rattle.df_format.specs.Rules.{ObeysKind, ObeysPrepare, ObeysReply, ObeysReserved}
+use Rattle.df_format.specs.Rules.{ObeysKind, ObeysPrepare, ObeysReply, ObeysReserved, ObeysVersion}
 use Rattle.df_format.specs.Message.{Message}
 use Rattle.df_format.specs.Own.{place_in}
 use Rattle.df_format.specs.Shown
@@ -19,14 +19,15 @@ use Rattle.df_format.specs.Copies.{Content, class_of_copy, content_at, content_o
 use Rattle.df_format.specs.Valid.{IsUnit}
 use Rattle.df_format.proofs.Laws.{read_shown, shown_belongs, shown_is_unit, header_count}
 use Rattle.df_theory.specs.Units
-use Rattle.df_theory.specs.Units.{AnyUnit, BlockPlace, CopyPlace, HeaderPlace, PreparePlace, ReplyPlace}
+use Rattle.df_theory.specs.Units.{AnyUnit, BlockPlace, CopyPlace, HeaderPlace, IsAlone, PreparePlace, PrepareUnit, ReplyPlace}
 use Rattle.df_theory.specs.Found.{IsInRange, IsOfPlace}
 use Rattle.df_units.specs.Meaning.{block_of, content_of, header_of, message_of, number_of, place_of}
 use Rattle.df_units.specs.Bytes.{copy_unit, message_unit, unit_at}
 use Rattle.df_units.specs.Format.{shape_of}
-use Rattle.df_units.specs.Shown.{CopyReadIsUnit, HeaderReadIsUnit, ReadIsUnit, UnitsAreOfPlaces, read_copy}
+use Rattle.df_units.specs.Shown.{CopyReadIsUnit, HeaderReadIsUnit, ReadIsUnit, UnbootedAreAlone, UnitsAreOfPlaces, read_copy}
 use Rattle.df_units.proofs.Chosen.{shown_checks}
 use Rattle.df_units.proofs.Numbers.{check_small, sealed_check}
+use Rattle.df_units.proofs.Versions.{first_alone, reply_alone}
 
 -- ---- reads
 
@@ -119,7 +120,7 @@ module _ (layout : Layout) (cluster : ℕ) (named : 0 < cluster) (parse : ℕ �
   of_reply k None x shown is = absurd (cc)
   of_reply k (Some u) x shown is =
       let here = (shown_belongs layout cluster image (place_in ClientReplies k) u shown).belongs in
-      (message_of u, cc, reply_range layout cluster (place_in ClientReplies k) u (unit_shown (place_in ClientReplies k) u shown) here.kind, record { first = refl; last = refl })
+      (message_of u, cc, reply_range layout cluster (place_in ClientReplies k) u (unit_shown (place_in ClientReplies k) u shown) here.kind, reply_alone u.header (subst (λ (kind : Kind). ObeysVersion kind u.header) here.kind (unit_shown (place_in ClientReplies k) u shown).sealed.rules.version))
 
   of_block : (a : ℕ) (o : Option Message) (x : AnyUnit) → Shown.unit_at layout cluster image (place_in Grid a) ≡ o → message_unit (BlockPlace a) o ≡ Some x → IsOfPlace (shape_of layout cluster named parse) (BlockPlace a) x
   of_block a None x shown is = absurd (cc)
@@ -136,3 +137,21 @@ module _ (layout : Layout) (cluster : ℕ) (named : 0 < cluster) (parse : ℕ �
 
 pub of_places : UnitsAreOfPlaces
 of_places layout cluster named parse image whole = of_place layout cluster named parse image whole
+
+-- ---- prepares without a boot
+
+shown_prepare : (o : Option Message) (s : ℕ) (p : Units.Message) → message_unit (PreparePlace s) o ≡ Some (PrepareUnit p) → (u : Message) × (o ≡ Some u) × (message_of u ≡ p)
+shown_prepare None s p is = absurd (cc)
+shown_prepare (Some u) s p is = (u, refl, cc)
+
+no_prepare : Prepare ≡ Reserved → ⊥
+no_prepare same = cc
+
+pub unbooted_alone : UnbootedAreAlone
+unbooted_alone layout cluster image whole s p shown none =
+    let there = shown_prepare (Shown.unit_at layout cluster image (place_in WalPrepares s)) s p shown in
+    let u : Message = there.0 in
+    let unit = shown_is_unit layout cluster image (place_in WalPrepares s) u whole there.1 in
+    let kind = (shown_belongs layout cluster image (place_in WalPrepares s) u there.1).belongs.kind in
+    let version = subst (λ (k : Kind). ObeysVersion k u.header) kind unit.sealed.rules.version in
+    subst (λ (m : Units.Message). IsAlone m.header) there.2 (first_alone Prepare u.header version no_prepare (ap (λ (m : Units.Message). m.header.boot) there.2 ∙ none))

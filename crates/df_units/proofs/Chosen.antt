@@ -1,6 +1,8 @@
 -- The choice among the copies is the theory's: contents are told apart by what the theory sees of them.
-use Rattle.std.proofs.Common.{◌≡◌, ◌*◌, ℕ, suc, ◌+◌, ◌≤◌, List, ◌∷◌, take, drop, Option, Some, None, refl, sym, ◌∙◌, ap, subst, arith}
-use Rattle.std.proofs.lemmas.List.{length-drop, length-take-le}
+use Rattle.std.proofs.Common.{inl, inr, ◌≡◌, ◌≢◌, ◌*◌, ℕ, suc, ◌+◌, ◌≤◌, List, [], ◌∷◌, ◌++◌, length, take, drop, Option, Some, None, refl, sym, ◌∙◌, ap, subst, arith}
+use Rattle.std.specs.Prelude.{map, slice_index}
+use Rattle.std.proofs.lemmas.Bool.{cases_eq}
+use Rattle.std.proofs.lemmas.List.{length-drop, length-map, length-take-le}
 use Rattle.std.proofs.lemmas.Option.{same_Some}
 use Rattle.df_base.specs.Image.{Image, IsImage, IsSector}
 use Rattle.df_base.proofs.Laws.{AreBytes-take, AreBytes-drop}
@@ -8,15 +10,16 @@ use Rattle.df_layout.specs.declared.layout.Layout.{Layout}
 use Rattle.df_format.specs.declared.superblock.SuperCopy.{SuperCopy}
 use Rattle.df_format.specs.Spelling.{IsCheck}
 use Rattle.df_format.specs.Copies.{Content, content_at, content_of as content_of_copy, copy_at, copy_in, if_here, super_fields_of}
-use Rattle.df_format.proofs.Laws.{is_here, read_as}
+use Rattle.df_format.proofs.Laws.{are_checks, is_here, length-checks_at, read_as}
 use Rattle.df_quorum.specs.Quorum
 use Rattle.df_theory.specs.Units
 use Rattle.df_theory.specs.Units.{CopyUnit}
 use Rattle.df_theory.specs.Copies
-use Rattle.df_units.specs.Meaning.{content_of, offset_list}
+use Rattle.df_units.specs.Meaning.{content_of, number_of, offset_list, rest_of}
 use Rattle.df_units.specs.Bytes.{copy_unit, unit_at}
 use Rattle.df_units.specs.Superblocks.{ChoiceIsChosen, ChosenIsChoice, HasChecks, ShownHasChecks, SplitIsSplit}
 use Rattle.df_units.proofs.Numbers.{one_number}
+use Rattle.df_units.proofs.Versions.{by_other, by_second, checks_same, parts_same}
 
 -- ---- contents
 
@@ -26,16 +29,49 @@ offset_is None (Some n) same = absurd (cc)
 offset_is (Some n) None same = absurd (cc)
 offset_is (Some n) (Some m) same = let both : suc n ≡ suc m = cc in let inner : n ≡ m = omega arith in ap Some inner
 
-cons_parts : (x y : ℕ) (xs ys : List ℕ) → x ∷ xs ≡ y ∷ ys → (x ≡ y) × (xs ≡ ys)
-cons_parts x y xs ys same = (cc, cc)
+-- what version 2 names, or leaves empty in another version
+named_same : (c d : Content) → HasChecks c → HasChecks d → content_of c ≡ content_of d → (c.fields.head_checksum ≡ d.fields.head_checksum) × (c.fields.reply_checksums ≡ d.fields.reply_checksums) × (c.fields.first_nonzero ≡ d.fields.first_nonzero)
+named_same c d one two same =
+    let f = c.fields in
+    let g = d.fields in
+    let version : f.version ≡ g.version = ap (λ (e : Units.Content). e.version) same in
+    let rest : rest_of f ≡ rest_of g = ap (λ (e : Units.Content). e.rest) same in
+    let size : length f.reply_checksums ≡ length g.reply_checksums = one.reply_checksums.size ∙ sym two.reply_checksums.size in
+    elim (cases_eq f.version 2) [
+      | inl second ↦
+          let other : g.version ≡ 2 = sym version ∙ second in
+          let head : number_of f.head_checksum ≡ number_of g.head_checksum =
+          ap number_of (sym (by_second f f.head_checksum f.op_checksum second)) ∙ ap (λ (e : Units.Content). e.pin_checksum) same ∙ ap number_of (by_second g g.head_checksum g.op_checksum other) in
+          let sums : map number_of f.reply_checksums ≡ map number_of g.reply_checksums =
+          sym (by_second f (map number_of f.reply_checksums) [] second) ∙ ap (λ (e : Units.Content). e.reply_checksums) same ∙ by_second g (map number_of g.reply_checksums) [] other in
+          let offsets : offset_list f.first_nonzero ≡ offset_list g.first_nonzero =
+          ap (λ (l : List ℕ). l ++ offset_list f.first_nonzero) (sym (by_second f [] (number_of f.head_checksum ∷ map number_of f.reply_checksums) second))
+          ∙ rest
+          ∙ ap (λ (l : List ℕ). l ++ offset_list g.first_nonzero) (by_second g [] (number_of g.head_checksum ∷ map number_of g.reply_checksums) other) in (
+            one_number f.head_checksum g.head_checksum one.head_checksum two.head_checksum head,
+            checks_same f.reply_checksums g.reply_checksums one.reply_checksums.each two.reply_checksums.each size sums,
+            offset_is f.first_nonzero g.first_nonzero offsets,
+          )
+      | inr differs ↦
+          let other : g.version ≢ 2 = λ second. differs (version ∙ second) in
+          let mine : List ℕ = number_of f.head_checksum ∷ map number_of f.reply_checksums in
+          let its : List ℕ = number_of g.head_checksum ∷ map number_of g.reply_checksums in
+          let all : mine ++ offset_list f.first_nonzero ≡ its ++ offset_list g.first_nonzero =
+          ap (λ (l : List ℕ). l ++ offset_list f.first_nonzero) (sym (by_other f [] mine differs)) ∙ rest ∙ ap (λ (l : List ℕ). l ++ offset_list g.first_nonzero) (by_other g [] its other) in
+          let both = parts_same mine its (offset_list f.first_nonzero) (offset_list g.first_nonzero) (omega (arith, size, length-map f.reply_checksums number_of, length-map g.reply_checksums number_of)) all in
+          let parts = parts_same (number_of f.head_checksum ∷ []) (number_of g.head_checksum ∷ []) (map number_of f.reply_checksums) (map number_of g.reply_checksums) refl both.0 in (
+            one_number f.head_checksum g.head_checksum one.head_checksum two.head_checksum (ap (λ (l : List ℕ). slice_index l 0) parts.0),
+            checks_same f.reply_checksums g.reply_checksums one.reply_checksums.each two.reply_checksums.each size parts.1,
+            offset_is f.first_nonzero g.first_nonzero both.1,
+          )
+    ]
 
-one_content : (c d : Content) → HasChecks c → HasChecks d → content_of c ≡ content_of d → c ≡ d
+pub one_content : (c d : Content) → HasChecks c → HasChecks d → content_of c ≡ content_of d → c ≡ d
 one_content c d one two same =
-    let rest = cons_parts c.fields.boot d.fields.boot (offset_list c.fields.first_nonzero) (offset_list d.fields.first_nonzero) (ap (λ (e : Units.Content). e.rest) same) in
     let checksum = one_number c.checksum d.checksum one.checksum two.checksum (ap (λ (e : Units.Content). e.checksum) same) in
     let op_checksum = one_number c.fields.op_checksum d.fields.op_checksum one.op_checksum two.op_checksum (ap (λ (e : Units.Content). e.op_checksum) same) in
     let trailer_checksum = one_number c.fields.trailer_checksum d.fields.trailer_checksum one.trailer_checksum two.trailer_checksum (ap (λ (e : Units.Content). e.trailer_checksum) same) in
-    let first_nonzero = offset_is c.fields.first_nonzero d.fields.first_nonzero rest.1 in
+    let named = named_same c d one two same in
     λ i. record {
       checksum = checksum i;
       fields = record {
@@ -54,8 +90,10 @@ one_content c d one two same =
         trailer_address = (same i).trailer;
         trailer_checksum = trailer_checksum i;
         trailer_size = (same i).trailer_size;
-        boot = rest.0 i;
-        first_nonzero = first_nonzero i;
+        boot = (same i).boot;
+        head_checksum = named.0 i;
+        reply_checksums = named.1 i;
+        first_nonzero = named.2 i;
       };
     }
 
@@ -68,7 +106,7 @@ check_in bytes at sector fits = record {
 
 read_checks : (bytes : List ℕ) → IsSector bytes → HasChecks (record { checksum = take 16 bytes; fields = super_fields_of bytes })
 unfolding super_fields_of
-read_checks bytes sector = record { checksum = check_in bytes 0 sector (omega arith); op_checksum = check_in bytes 112 sector (omega arith); trailer_checksum = check_in bytes 128 sector (omega arith) }
+read_checks bytes sector = record { checksum = check_in bytes 0 sector (omega arith); op_checksum = check_in bytes 112 sector (omega arith); trailer_checksum = check_in bytes 128 sector (omega arith); head_checksum = check_in bytes 160 sector (omega arith); reply_checksums = record { size = length-checks_at 64 192 bytes; each = are_checks 64 192 bytes sector.each (omega (arith, sector.size)) } }
 
 content_parts : (o : Option SuperCopy) (c : Content) → content_of_copy o ≡ Some c → (copy : SuperCopy) × (o ≡ Some copy) × (record { checksum = copy.checksum; fields = copy.fields } ≡ c)
 content_parts None c is = absurd (cc)
@@ -100,8 +138,8 @@ module _ (layout : Layout) (cluster : ℕ) (image : Image) (whole : IsImage imag
   agree_there : (c : Content) → Quorum.Agree (content_at image) c → Copies.Agree (unit_at layout cluster image) (content_of c)
   agree_there c agreed = record { first = agreed.first; second = agreed.second; apart = agreed.apart; inside = agreed.inside; at_first = ap copy_unit agreed.at_first; at_second = ap copy_unit agreed.at_second }
 
-  rank_back : (c : Content) (d : Units.Content) → content_of c ≡ d → 18446744073709551616 * c.fields.sequence ≡ Copies.rank_of d
-  rank_back c d same = omega (arith, ap Copies.rank_of same)
+  rank_back : (c : Content) (d : Units.Content) → content_of c ≡ d → 18446744073709551616 * c.fields.sequence + c.fields.boot ≡ Copies.rank_of d
+  rank_back c d same = ap Copies.rank_of same
 
   chosen_there : (c : Content) → Quorum.IsChosen (content_at image) c → Copies.IsChosen (unit_at layout cluster image) (content_of c)
   chosen_there c chosen = record {

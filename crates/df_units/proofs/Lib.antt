@@ -5,6 +5,7 @@ pub mod AtPlaces
 pub mod Rows
 pub mod Chosen
 pub mod Usable
+pub mod Versions
 pub mod Parts
 pub mod Told
 pub mod Classed

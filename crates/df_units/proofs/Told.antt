@@ -8,11 +8,12 @@ use Rattle.df_format.specs.declared.kind.Kind.{Kind}
 use Rattle.df_format.specs.declared.kind.Kind.TheVariants.{Block, Reserved, Trailer}
 use Rattle.df_format.specs.Message.{Message}
 use Rattle.df_format.specs.Own.{place_in}
-use Rattle.df_format.specs.Rules.{ObeysBlock, ObeysKind, ObeysReserved, ObeysTrailer}
+use Rattle.df_format.specs.Rules.{ObeysBlock, ObeysKind, ObeysReserved, ObeysTrailer, ObeysVersion}
 use Rattle.df_format.proofs.Laws.{valid_belongs}
 use Rattle.df_theory.specs.Units.{BlockPlace, CopyPlace, HeaderPlace, HeaderUnit, PreparePlace, ReplyPlace}
 use Rattle.df_units.specs.Meaning.{header_of}
 use Rattle.df_units.specs.Tells.{ReservedArePut, SectorPuts, TableIsPut, TrailersTell}
+use Rattle.df_units.proofs.Versions.{reserved_boot}
 use Rattle.df_units.proofs.Writes.{put_is}
 
 pub trailer_rules : (u : Message) → ObeysKind u.header.kind u.header → u.header.kind ≡ Trailer → ObeysTrailer u.header
@@ -44,6 +45,9 @@ sector_puts sector headers (PreparePlace n) y is = absurd (cc)
 sector_puts sector headers (ReplyPlace n) y is = absurd (cc)
 sector_puts sector headers (BlockPlace n) y is = absurd (cc)
 
+reserved_version : (h : Header) → ObeysVersion h.kind h → h.kind ≡ Reserved → ObeysVersion Reserved h
+reserved_version h rules kind = subst (λ (k : Kind). ObeysVersion k h) kind rules
+
 reserved_rules : (h : Header) → ObeysKind h.kind h → h.kind ≡ Reserved → ObeysReserved h
 reserved_rules h rules kind = subst (λ (k : Kind). ObeysKind k h) kind rules
 
@@ -51,8 +55,10 @@ pub reserved_put : ReservedArePut
 reserved_put sector headers sixteen reserved place y is =
     let put = sector_puts sector headers place y is in
     let h : Header = put.1 in
-    let rules = reserved_rules h (sixteen.each (put.0 % 16) h put.5).rules.kind (reserved (put.0 % 16) h put.5) in
-    (put.0, header_of h, put.2, put.3, record { op = rules.op; checkpoint = rules.checkpoint; boot = refl })
+    let obeys = (sixteen.each (put.0 % 16) h put.5).rules in
+    let kind = reserved (put.0 % 16) h put.5 in
+    let rules = reserved_rules h obeys.kind kind in
+    (put.0, header_of h, put.2, put.3, record { op = rules.op; checkpoint = rules.checkpoint; boot = reserved_boot h (reserved_version h obeys.version kind) })
 
 pub table_put : TableIsPut
 table_put sector headers table are place y is =

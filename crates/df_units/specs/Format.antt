@@ -16,6 +16,10 @@ format_of layout cluster = record {
   has = has layout;
 }
 
--- what is known of such a file before it is read; how the text of a trailer is read is given from outside
+-- what is known of such a file of a version before it is read; how the text of a trailer is read is given from outside
+abbrev pub shape_as : ℕ → (layout : Layout) (cluster : ℕ) → 0 < cluster → (ℕ → List ℕ → Option Units.Parts) → Shape
+shape_as version layout cluster named parse = record { version = version; cluster = cluster; layout = layout_of layout; named = named; some = some_slots layout; parse = parse }
+
+-- of a file of version 1
 abbrev pub shape_of : (layout : Layout) (cluster : ℕ) → 0 < cluster → (ℕ → List ℕ → Option Units.Parts) → Shape
-shape_of layout cluster named parse = record { version = 1; cluster = cluster; layout = layout_of layout; named = named; some = some_slots layout; parse = parse }
+shape_of layout cluster named parse = shape_as 1 layout cluster named parse

@@ -12,3 +12,4 @@ pub mod Making
 pub mod Wanted
 pub mod Within
 pub mod Sample
+pub mod Greatest

@@ -1,6 +1,6 @@
 -- The dictionary: which place, layout and unit of the theory each one of the format is. It goes one way: the bytes learn the
 -- theory's words here, once, and the theory never learns of bytes.
-use Rattle.std.specs.Prelude.{ℕ, suc, List, [], ◌∷◌, Option, Some, None}
+use Rattle.std.specs.Prelude.{◌==◌, ◌+◌, ℕ, suc, if◌then◌else◌, List, [], ◌∷◌, ◌++◌, map, Option, Some, None}
 use Rattle.df_base.specs.Fields.{field_at}
 use Rattle.df_layout.specs.declared.layout.Layout.{Layout}
 use Rattle.df_layout.specs.declared.places.Place.{Place}
@@ -25,7 +25,11 @@ place_of (BlockPlace a) = place_in Grid a
 abbrev pub number_of : List ℕ → ℕ
 number_of check = field_at 16 0 check
 
--- a header, of a file of version 1: no boot made it, and what is appended is appended alone, so it is a group by itself
+-- a number, or another one where it is 0
+abbrev pub number_or : ℕ → ℕ → ℕ
+number_or n other = if n == 0 then other else n
+
+-- a header: where it names no group, as in version 1 and in all kinds but a prepare, it is a group by itself
 abbrev pub header_of : Header → Units.Header
 header_of h = record {
   checksum = number_of h.checksum;
@@ -35,9 +39,9 @@ header_of h = record {
   request = h.request;
   mark = h.mark;
   checkpoint = h.checkpoint;
-  boot = 0;
-  group = h.op;
-  group_last = h.op;
+  boot = h.boot;
+  group = number_or h.group h.op;
+  group_last = number_or h.group_last h.op;
 }
 
 -- a prepare or a reply
@@ -53,6 +57,7 @@ block_of u = record {
   index = u.header.mark;
   before = u.header.request;
   before_checksum = number_of u.header.parent;
+  boot = u.header.boot;
   body = u.body;
 }
 
@@ -65,11 +70,31 @@ abbrev pub offset_list : Option ℕ → List ℕ
 offset_list None = []
 offset_list (Some offset) = suc offset ∷ []
 
--- what version 1 leaves zero: the number of the boot, and the offset of the first byte behind the fields that isn't, if any
-abbrev pub rest_of : SuperFields → List ℕ
-rest_of f = f.boot ∷ offset_list f.first_nonzero
+-- up to this op a copy names the prepares: version 2 up to its head, any other version up to its checkpoint's op
+abbrev pub pin_of : SuperFields → ℕ
+pin_of f = if f.version == 2 then f.head else f.op
 
--- what a copy says, of a file of version 1: it names the prepares up to its checkpoint's op, and no reply
+-- the checksum of the last of these
+abbrev pub pin_checksum_of : SuperFields → List ℕ
+pin_checksum_of f = if f.version == 2 then f.head_checksum else f.op_checksum
+
+-- it names the replies to ops below this one: version 2 those up to its number of replies, any other version none
+abbrev pub answered_of : SuperFields → ℕ
+answered_of f = if f.version == 2 then f.replies + 1 else 0
+
+-- their checksums, by place
+abbrev pub reply_checksums_of : SuperFields → List ℕ
+reply_checksums_of f = if f.version == 2 then map number_of f.reply_checksums else []
+
+-- what version 2 names, where another version leaves it empty
+abbrev pub unnamed_of : SuperFields → List ℕ
+unnamed_of f = if f.version == 2 then [] else number_of f.head_checksum ∷ map number_of f.reply_checksums
+
+-- what the version leaves zero: that, and the offset of the first byte that isn't zero where it has no fields, if any
+abbrev pub rest_of : SuperFields → List ℕ
+rest_of f = unnamed_of f ++ offset_list f.first_nonzero
+
+-- what a copy says
 abbrev pub content_of : Content → Units.Content
 content_of c = record {
   checksum = number_of c.checksum;
@@ -77,15 +102,15 @@ content_of c = record {
   cluster = c.fields.cluster;
   layout = record { slots = c.fields.slots; message_size = c.fields.message_size; clients = c.fields.clients; block_size = c.fields.block_size; blocks = c.fields.blocks };
   sequence = c.fields.sequence;
-  boot = 0;
+  boot = c.fields.boot;
   op = c.fields.op;
   op_checksum = number_of c.fields.op_checksum;
   head = c.fields.head;
   replies = c.fields.replies;
-  pin = c.fields.op;
-  pin_checksum = number_of c.fields.op_checksum;
-  answered = 0;
-  reply_checksums = [];
+  pin = pin_of c.fields;
+  pin_checksum = number_of (pin_checksum_of c.fields);
+  answered = answered_of c.fields;
+  reply_checksums = reply_checksums_of c.fields;
   trailer = c.fields.trailer_address;
   trailer_checksum = number_of c.fields.trailer_checksum;
   trailer_size = c.fields.trailer_size;

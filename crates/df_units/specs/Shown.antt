@@ -10,7 +10,7 @@ use Rattle.df_format.specs.Copies.{content_of, own_copy}
 use Rattle.df_format.specs.Own.{place_in}
 use Rattle.df_format.specs.Shown.{part_in, unit_in}
 use Rattle.df_theory.specs.Units
-use Rattle.df_theory.specs.Units.{AnyUnit, CopyPlace, HeaderPlace}
+use Rattle.df_theory.specs.Units.{AnyUnit, CopyPlace, HeaderPlace, IsAlone, PreparePlace, PrepareUnit}
 use Rattle.df_theory.specs.Found.{AreOfPlaces}
 use Rattle.df_units.specs.Meaning.{place_of}
 use Rattle.df_units.specs.Bytes.{copy_unit, message_unit, span_at, unit_at}
@@ -42,3 +42,9 @@ abbrev pub UnitsAreOfPlaces : Type 0
 UnitsAreOfPlaces =
     (layout : Layout) (cluster : ℕ) (named : 0 < cluster) (parse : ℕ → List ℕ → Option Units.Parts) (image : Image) → IsImage image
     → AreOfPlaces (shape_of layout cluster named parse) (unit_at layout cluster image)
+
+-- a prepare that an image shows and that no boot made is a group by itself
+abbrev pub UnbootedAreAlone : Type 0
+UnbootedAreAlone =
+    (layout : Layout) (cluster : ℕ) (image : Image) → IsImage image
+    → (s : ℕ) (p : Units.Message) → unit_at layout cluster image (PreparePlace s) ≡ Some (PrepareUnit p) → p.header.boot ≡ 0 → IsAlone p.header

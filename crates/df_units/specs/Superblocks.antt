@@ -1,9 +1,10 @@
 -- The choice among the four copies is the theory's, both ways, and a superblock can be used exactly where it passes the theory's tests.
-use Rattle.std.specs.Prelude.{◌≡◌, ◌↔◌, ◌<◌, ℕ, List, Option, Some}
+use Rattle.std.specs.Prelude.{◌≡◌, ◌⊎◌, ◌↔◌, ◌<◌, ℕ, List, Option, Some}
 use Rattle.df_base.specs.Image.{Image, IsImage}
 use Rattle.df_layout.specs.declared.layout.Layout.{Layout}
 use Rattle.df_format.specs.declared.superblock.SuperFields.{SuperFields}
 use Rattle.df_format.specs.Spelling.{IsCheck}
+use Rattle.df_format.specs.Super.{AreChecks}
 use Rattle.df_format.specs.SuperRules.{IsSuper}
 use Rattle.df_format.specs.Copies.{Content, content_at}
 use Rattle.df_quorum.specs.Quorum
@@ -13,7 +14,7 @@ use Rattle.df_theory.specs.Trailer.{IsReference}
 use Rattle.df_theory.specs.View.{PassesTests}
 use Rattle.df_units.specs.Meaning.{content_of, layout_of}
 use Rattle.df_units.specs.Bytes.{unit_at}
-use Rattle.df_units.specs.Format.{shape_of}
+use Rattle.df_units.specs.Format.{shape_as}
 
 -- the choice among the copies is the theory's
 abbrev pub ChoiceIsChosen : Type 0
@@ -40,24 +41,26 @@ pub record AreFieldsOf (layout : Layout) (cluster : ℕ) (f : SuperFields) : Typ
   pub blocks : f.blocks ≡ layout.blocks
   pub cluster_is : f.cluster ≡ cluster
 
--- a superblock that can be used passes the theory's tests, and so do its fields on the trailer
+-- a superblock that can be used passes the theory's tests for its version, and so do its fields on the trailer
 abbrev pub UsablePasses : Type 0
 UsablePasses =
     (layout : Layout) (cluster : ℕ) (named : 0 < cluster) (parse : ℕ → List ℕ → Option Units.Parts) (c : Content) → AreFieldsOf layout cluster c.fields → IsSuper c.fields
-    → PassesTests (shape_of layout cluster named parse) (content_of c) × IsReference (layout_of layout) (content_of c)
+    → PassesTests (shape_as c.fields.version layout cluster named parse) (content_of c) × IsReference (layout_of layout) (content_of c)
 
 -- each checksum of a content has sixteen bytes
 pub record HasChecks (c : Content) : Type 0 where
   pub checksum : IsCheck c.checksum
   pub op_checksum : IsCheck c.fields.op_checksum
   pub trailer_checksum : IsCheck c.fields.trailer_checksum
+  pub head_checksum : IsCheck c.fields.head_checksum
+  pub reply_checksums : AreChecks c.fields.reply_checksums
 
 -- as one that is shown has
 abbrev pub ShownHasChecks : Type 0
 ShownHasChecks = (image : Image) (n : ℕ) (c : Content) → IsImage image → content_at image n ≡ Some c → HasChecks c
 
--- and one that passes the theory's tests can be used
+-- and one that passes the theory's tests for one of the two versions can be used
 abbrev pub PassingIsUsable : Type 0
 PassingIsUsable =
-    (layout : Layout) (cluster : ℕ) (named : 0 < cluster) (parse : ℕ → List ℕ → Option Units.Parts) (c : Content) → HasChecks c → PassesTests (shape_of layout cluster named parse) (content_of c) → IsReference (layout_of layout) (content_of c)
+    (version : ℕ) (layout : Layout) (cluster : ℕ) (named : 0 < cluster) (parse : ℕ → List ℕ → Option Units.Parts) (c : Content) → (version ≡ 1) ⊎ (version ≡ 2) → HasChecks c → PassesTests (shape_as version layout cluster named parse) (content_of c) → IsReference (layout_of layout) (content_of c)
     → AreFieldsOf layout cluster c.fields × IsSuper c.fields

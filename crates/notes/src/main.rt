@@ -1,10 +1,19 @@
-//! Notes in a data file: each line of standard input becomes a note of FILE; its op is printed, and at the end all notes that
-//! stand there.
+//! Notes in a data file, a small program over a replica: each line of standard input becomes a note of FILE; its op is printed, and at
+//! the end all notes that stand there. Below stands its edge alone; the modules open the file, keep notes and print them.
 #![tactic(auto)]
+
+mod ended;
+mod keeping;
+mod opening;
+mod printing;
+mod staying;
 
 use df_base::ToWrite;
 use df_filedisk::FileDisk;
-use df_notes::{Ended, catch_up, keep, open_notes, print_notes};
+use ended::Ended;
+use keeping::keep;
+use opening::{catch_up, open_notes};
+use printing::print_notes;
 use std::env;
 use std::io::{self, BufRead, BufReader};
 use std::process::ExitCode;

@@ -24,4 +24,4 @@ adopt_chain-requires-clause-free c = λ a among.
 pub returns-in-Some-clause-answer : goal.returns-in-Some-clause-answer
 returns-in-Some-clause-answer c =
     subst (λ (fault : TrailerFault). AdoptAnswer c.args.grid.now c.args.grid.now c.args.reader.now c.args.blocks.now (Err fault)) (sym c.broken.ensures)
-    (refl, record { layout = refl; cluster = refl }, first_refused c.args.grid.now c.args.reader.now c.args.blocks.now c.in-Some.address c.requires.apart c.in-Some.ensures)
+    (refl, record { layout = refl; cluster = refl; boot = refl }, first_refused c.args.grid.now c.args.reader.now c.args.blocks.now c.in-Some.address c.requires.apart c.in-Some.ensures)

@@ -1,5 +1,5 @@
 use Rattle.std.proofs.Common.{arith, ◌∙◌, ap, List, ℕ, ◌++◌, refl, append_assoc}
-use Rattle.df_format.specs.Spelling.{header_version, spelling_rest, tail_of}
+use Rattle.df_format.specs.Spelling.{spelling_rest, tail_of}
 use Rattle.df_format.proofs.Behind.{number_behind, bytes_behind}
 use Rattle.df_format.proofs.codec.put_fields.Goals as goal
 
@@ -18,4 +18,4 @@ returns c =
     let s9 = number_behind 112 4 h.size c.put_u64-4.new.bytes c.put_u32.new.bytes _ (omega arith) c.put_u32.ensures s8 in
     let s10 = number_behind 116 4 h.slot c.put_u32.new.bytes c.put_u32-2.new.bytes _ (omega arith) c.put_u32-2.ensures s9 in
     let s11 = bytes_behind 120 2 _ c.put_u32-2.new.bytes c.put_kind.new.into _ c.put_kind.ensures s10 in
-    c.put_tail.ensures ∙ ap (λ (l : List ℕ). l ++ tail_of header_version) s11 ∙ simp append_assoc
+    c.put_tail.ensures ∙ ap (λ (l : List ℕ). l ++ tail_of h) s11 ∙ simp append_assoc

@@ -1,10 +1,12 @@
-use Rattle.std.proofs.Common.{arith, ◌++◌, ◌∙◌, ℕ, List, ap, replicate}
-use Rattle.df_format.specs.Super.{fields_bytes, covered_bytes}
-use Rattle.df_format.proofs.CopyParts.{behind_front}
+use Rattle.std.proofs.Common.{arith, ◌++◌, ◌∙◌, ℕ, List, ap, drop, take, append_assoc}
+use Rattle.std.proofs.lemmas.List.{drop_at, length-take-le}
+use Rattle.df_format.specs.Super.{fields_bytes, named_bytes, covered_bytes}
 use Rattle.df_format.proofs.super_codec.put_covered.Goals as goal
 
 pub returns : goal.returns
 unfolding covered_bytes
 returns c =
-    behind_front 32 4096 c.args.into.now c.put_zeros.new.into (fields_bytes c.args.fields.now) (replicate 3936 0) (omega (arith, c.requires)) (omega (arith, c.requires, c.put_fields.auto.into, c.put_zeros.auto.into))
-    (c.put_zeros.ensures.front ∙ ap (λ (l : List ℕ). l ++ replicate 3936 0) c.put_fields.ensures)
+    let f = c.args.fields.now in
+    let old : List ℕ = c.args.into.now in
+    ap (λ (l : List ℕ). drop 32 l) (c.put_named.ensures ∙ ap (λ (l : List ℕ). l ++ named_bytes f) c.put_fields.ensures ∙ append_assoc (take 32 old) (fields_bytes f) (named_bytes f))
+    ∙ drop_at (take 32 old) (fields_bytes f ++ named_bytes f) 32 (length-take-le 32 old (omega (arith, c.requires)))

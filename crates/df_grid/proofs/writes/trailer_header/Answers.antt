@@ -13,5 +13,5 @@ returns-clause-header c = search rules
 pub returns-clause-rules : goal.returns-clause-rules
 returns-clause-rules c =
     subst (λ (h : Header). ObeysRules (for_body h c.args.piece.now)) (sym (returns-clause-header c))
-    (header_obeys c.args.cluster c.args.address c.args.index c.args.sequence c.args.before c.args.piece.now (c.requires.cluster, omega (arith, c.ranges.cluster.fits)) (c.requires.address, omega (arith, c.ranges.address.fits)) (omega (arith, c.ranges.index.fits)) c.requires.sequence c.requires.before
+    (header_obeys c.args.cluster c.args.boot c.args.address c.args.index c.args.sequence c.args.before c.args.piece.now (c.requires.cluster, omega (arith, c.ranges.cluster.fits)) c.requires.boot (c.requires.address, omega (arith, c.ranges.address.fits)) (omega (arith, c.ranges.index.fits)) c.requires.sequence c.requires.before
     (subst IsCheck c.parent_of-parent.ensures.value c.parent_of-parent.ensures.check) (omega (arith, c.address_of-before.ensures, c.address_of-before.type_inv)) c.requires.size)

@@ -3,7 +3,10 @@ use Rattle.df_journal.proofs.Counted.{lost_tells}
 use Rattle.df_journal.proofs.counts.is_lost.Goals as goal
 
 pub returns-clause-lost : goal.returns-clause-lost
-returns-clause-lost c = λ image content one counts boot is. (lost_tells image content c.args.seen.now c.lost.result one c.args.superblock_head c.args.head c.lost.ensures.found c.lost.ensures.none counts boot is).yes
+returns-clause-lost c = λ image content counts alone is. (lost_tells image content c.args.own.now c.lost.result c.args.superblock_head c.args.head c.lost.ensures.found c.lost.ensures.none counts alone is).yes
 
 pub returns-clause-none : goal.returns-clause-none
-returns-clause-none c = λ image content one counts boot is. (lost_tells image content c.args.seen.now c.lost.result one c.args.superblock_head c.args.head c.lost.ensures.found c.lost.ensures.none counts boot is).no
+returns-clause-none c = λ image content counts alone is. (lost_tells image content c.args.own.now c.lost.result c.args.superblock_head c.args.head c.lost.ensures.found c.lost.ensures.none counts alone is).no
+
+pub returns-clause-counters : goal.returns-clause-counters
+returns-clause-counters c = c.lost.ensures.none

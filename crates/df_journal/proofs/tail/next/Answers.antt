@@ -2,7 +2,7 @@
 use Rattle.std.proofs.Common.{◌+◌, ◌<◌, ◌⊎◌, ℕ, length, arith, subst, sym}
 use Rattle.df_sessions.specs.Table.{IsKnown}
 use Rattle.df_journal.proofs.Asks.{asks_room}
-use Rattle.df_journal.proofs.Decisions.{slot_checks, taken_check, taken_client, taken_op, taken_parent, taken_request, taken_unit}
+use Rattle.df_journal.proofs.Decisions.{slot_checks, taken_check, taken_client, taken_group, taken_op, taken_parent, taken_request, taken_unit}
 use Rattle.df_journal.proofs.tail.next.Goals as goal
 
 pub taken-requires : goal.taken-requires
@@ -10,11 +10,15 @@ taken-requires c = slot_checks c.args.layout.now c.args.found.now.start.cluster 
 
 pub fits-requires-clause-parent : goal.fits-requires-clause-parent
 fits-requires-clause-parent c =
-    taken_parent c.args.layout.now c.args.found.now.start.cluster _ c.in_ok-header.header (taken_unit c.args.layout.now c.args.found.now.start.cluster _ (c.args.last.now.op + 1) c.args.found.now.slots c.seen-seen.result c.in_ok-header.header c.requires.table c.seen-seen.ensures c.in_ok-header.ensures)
+    taken_parent c.args.layout.now c.args.found.now.start.cluster _ c.in_ok-header.header (taken_unit c.args.layout.now c.args.found.now.start.cluster _ c.args.boot (c.args.last.now.op + 1) c.args.found.now.slots c.seen-seen.result c.in_ok-header.header c.requires.table c.seen-seen.ensures c.in_ok-header.ensures)
+
+pub fits-requires-clause-group : goal.fits-requires-clause-group
+fits-requires-clause-group c =
+    taken_group c.args.layout.now c.args.found.now.start.cluster _ c.in_ok-header.header (taken_unit c.args.layout.now c.args.found.now.start.cluster _ c.args.boot (c.args.last.now.op + 1) c.args.found.now.slots c.seen-seen.result c.in_ok-header.header c.requires.table c.seen-seen.ensures c.in_ok-header.ensures)
 
 pub returns-then-fits-clause-sound : goal.returns-then-fits-clause-sound
 returns-then-fits-clause-sound c =
-    let there = taken_unit c.args.layout.now c.args.found.now.start.cluster _ (c.args.last.now.op + 1) c.args.found.now.slots c.seen-seen.result c.in_ok-header.header c.requires.table c.seen-seen.ensures c.in_ok-header.ensures in
+    let there = taken_unit c.args.layout.now c.args.found.now.start.cluster _ c.args.boot (c.args.last.now.op + 1) c.args.found.now.slots c.seen-seen.result c.in_ok-header.header c.requires.table c.seen-seen.ensures c.in_ok-header.ensures in
     let fits = c.fits.ensures.0 c.if-fits.true in
     let client : 0 < c.in_ok-header.header.client = taken_client c.args.layout.now c.args.found.now.start.cluster _ c.in_ok-header.header there in
     record {

@@ -3,14 +3,14 @@ use Rattle.std.proofs.Common.{◌≡◌, ◌∙◌, List, Option, Some, inr, ref
 use Rattle.std.specs.Prelude.{Ok}
 use Rattle.df_base.specs.Image.{Image}
 use Rattle.df_base.specs.Log.{Event, Sync}
-use Rattle.df_disk.specs.Adds.{after_all}
+use Rattle.df_disk.specs.Adds.{AddsPart, after_all}
 use Rattle.df_disk.specs.Told.{Told, after, did}
 use Rattle.df_damage.specs.Anew.{told_after}
 use Rattle.df_damage.proofs.Laws.{added_is_told}
 use Rattle.df_units.proofs.Laws.{steps_within}
 use Rattle.df_units.specs.Bytes.{unit_at}
 use Rattle.df_model.specs.Work.{opened}
-use Rattle.df_recovery.specs.Below.{state_in, State, shape}
+use Rattle.df_damage.specs.Below.{state_in, State, shape}
 use Rattle.df_opening.specs.Mending.{live_state, mending_events, mending_steps}
 use Rattle.df_opening.specs.Opened.{MendsAll}
 use Rattle.df_opening.specs.Keeping.{IsGoodFor, StandsFor, format}
@@ -19,7 +19,7 @@ use Rattle.df_opening.specs.Surveying.{TellsSurvey}
 use Rattle.df_opening.proofs.Barriers.{barrier_rests}
 use Rattle.df_opening.proofs.Hurts.{tells_hurt}
 use Rattle.df_opening.proofs.MendShows.{front_spares, mending_spares}
-use Rattle.df_opening.proofs.Opens.{front_moments, live_kept, mend_stops, open_keeps, open_settles, planned_same, survey_opened}
+use Rattle.df_opening.proofs.Opens.{front_moments, live_kept, live_mending, mend_stops, open_keeps, open_settles, own_mending, planned_same, survey_opened}
 use Rattle.df_opening.proofs.SurveyPlans.{live_answers}
 use Rattle.df_opening.proofs.opened.open_file.Goals as goal
 
@@ -46,6 +46,7 @@ returns-in-Ok-mend_file-clause-opened g c = λ t is.
         within = steps_within s.state.file.layout s.state.file.cluster es (mending_steps s.state.file.layout s.state.headers s.mends s.state.fields s.chosen.members) c.in-Ok-mend_file.ensures.steps;
         spares = mending_spares s.state.file s.state.headers s.mends s.state.fields s.chosen.members c.in-Ok-mend_file.ensures.steps;
       };
+      own = λ whole. live_mending t s.state es (own_mending c.args.rooms.layout (g.D.Disk.told c.args.disk.now) t s is c.in-Ok.ensures.kept c.in-Ok.ensures.mends whole);
       over = λ grade view base same may stands.
           let n : Told = told_after es (did Sync base) in
           let planned = planned_same s.state.file s.state.headers s.mends s.state.fields s.chosen.members (did Sync t) (did Sync base) same plan in
@@ -78,6 +79,11 @@ returns-in-Err-mend_file-clause-stopped g c = λ t is whole fault.
         told = part.is;
         within = steps_within s.state.file.layout s.state.file.cluster part.part done.steps done.are;
         spares = front_spares s.state.file s.state.headers s.mends s.state.fields s.chosen.members part.part done;
+      };
+      own = λ image. record {
+        events = mending_events s.state.file.layout s.state.headers s.mends s.state.fields s.chosen.members;
+        own = own_mending c.args.rooms.layout (g.D.Disk.told c.args.disk.now) t s is c.in-Ok.ensures.kept c.in-Ok.ensures.mends image;
+        part = subst (λ (o : Option Told). AddsPart (mending_events s.state.file.layout s.state.headers s.mends s.state.fields s.chosen.members) o (g.D.Disk.told c.mend_file.new.disk)) synced c.in-Err-mend_file.ensures.events;
       };
       moments = λ grade view base same may stands.
           let es : List Event = mending_events s.state.file.layout s.state.headers s.mends s.state.fields s.chosen.members in

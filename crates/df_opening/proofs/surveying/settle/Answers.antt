@@ -1,6 +1,6 @@
 -- What is found of a file that was read is the answer to an open.
 use Rattle.std.proofs.Common.{◌∙◌, subst, sym}
-use Rattle.df_recovery.specs.Below.{AreAsked}
+use Rattle.df_damage.specs.Below.{AreAsked}
 use Rattle.df_theory.specs.Sessions.{Tracks}
 use Rattle.df_opening.specs.Survey.{survey_in}
 use Rattle.df_opening.proofs.SurveyPlans.{numbered_by}
@@ -10,7 +10,7 @@ use Rattle.df_opening.proofs.surveying.settle.Goals as goal
 pub surveyed-requires-clause-scanned : goal.surveyed-requires-clause-scanned
 surveyed-requires-clause-scanned c =
     let scan = c.requires.scanned in
-    record { named = scan.named; start = scan.start; slots = scan.slots; places = c.store_replies.ensures.places ∙ c.in-Ok.ensures.places ∙ scan.places; idle = scan.idle }
+    record { named = scan.named; version = scan.version; start = scan.start; slots = scan.slots; places = c.store_replies.ensures.places ∙ c.in-Ok.ensures.places ∙ scan.places; idle = scan.idle }
 
 pub surveyed-requires-clause-tail : goal.surveyed-requires-clause-tail
 surveyed-requires-clause-tail c =

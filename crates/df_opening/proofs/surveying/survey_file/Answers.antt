@@ -3,14 +3,14 @@ use Rattle.std.proofs.Common.{◌≡◌, ◌∙◌, ap}
 use Rattle.df_opening.specs.Mending.{IsPlanned, IsSettledFrom}
 use Rattle.df_opening.specs.Survey.{Survey, survey_of}
 use Rattle.df_opening.specs.Surveying.{state_of}
-use Rattle.df_recovery.specs.Below.{DataFile}
+use Rattle.df_damage.specs.Below.{DataFile}
 use Rattle.df_opening.proofs.Hurts.{read_hurt, tells_hurt}
 use Rattle.df_opening.proofs.Listed.{told_answer, told_mends}
 use Rattle.df_opening.proofs.SurveyPlans.{if_ok_more, lawful, survey_planned}
 use Rattle.df_opening.proofs.surveying.survey_file.Goals as goal
 
 pub settle-requires-clause-scanned : goal.settle-requires-clause-scanned
-settle-requires-clause-scanned g c = lawful c.args.rooms.layout (g.D.Disk.told c.args.disk.now) c.in-Ok.scanned c.in-Ok.ensures.scanned.behind
+settle-requires-clause-scanned g c = lawful c.args.rooms.layout (g.D.Disk.told c.args.disk.now) c.in-Ok.scanned c.in-Ok.ensures.scanned
 
 pub returns-in-Ok-clause-kept : goal.returns-in-Ok-clause-kept
 returns-in-Ok-clause-kept g c =

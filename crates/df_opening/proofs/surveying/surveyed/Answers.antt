@@ -1,7 +1,7 @@
 -- The parts make sense by themselves: what was found is in its ranges, and the table is one of the file.
 use Rattle.std.proofs.Common.{◌≡◌, ◌-◌, ◌∙◌, ℕ, ap, refl, sym, arith, length, ◌<◌, ◌^◌, subst}
 use Rattle.df_format.specs.SuperRules.{IsUsable}
-use Rattle.df_recovery.proofs.Laws.{waiting_count}
+use Rattle.df_damage.proofs.Laws.{plain_super, waiting_count}
 use Rattle.df_opening.proofs.surveying.surveyed.Goals as goal
 
 pub returns-clause-found : goal.returns-clause-found
@@ -15,6 +15,7 @@ returns-clause-found c =
         state = record {
           cluster = cluster;
           parent = c.requires.tail.checksum;
+          plain = plain_super c.args.scanned.copies.found.content c.requires.scanned.version usable;
           sequence = usable.rules.sequence;
           root = c.root_fits.ensures;
           order = c.requires.tail.from;
@@ -33,6 +34,7 @@ returns-clause-found c =
         rooms_fit = c.plan_rooms.ensures.layout;
         grid_fits = c.args.scanned.grid_fits;
         grid_named = c.args.scanned.grid_named;
+        grid_unbooted = c.args.scanned.grid_unbooted;
         trailer_fits = c.args.scanned.trailer_fits;
         scrub_fits = c.cleared-scrub.ensures.layout ∙ c.args.scanned.scrub_fits;
       };

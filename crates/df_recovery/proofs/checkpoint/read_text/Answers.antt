@@ -51,6 +51,7 @@ returns-in-Ok-clause-text g c =
       fits = record {
         layout_is = c.in-Ok.ensures.grid.layout ∙ layout;
         cluster_is = c.in-Ok.ensures.grid.cluster ∙ cluster;
+        boot_is = c.in-Ok.ensures.grid.boot ∙ ap (λ (x : GridState). x.boot) c.into_grid-grid.ensures;
         trailer_is = c.requires.rooms.trailer_is;
         idle = c.in-Ok.ensures.idle;
       };

@@ -33,7 +33,7 @@ returns-in-None-new_file g c =
     record {
       usage = λ nothing. absurd (nothing mode mine);
       untouched = λ nothing. absurd (nothing mode mine);
-      unread = λ no. c.run_file.ensures.unread (λ is. no (subst (Means (map string_bytes c.args.words.now)) is mine));
+      unread = λ no. c.run_file.ensures.unread (λ reads. no (mode, mine, reads));
       words = λ is. absurd (c.run_file.ensures.usage is);
       formats = λ layout cluster asks. absurd (makes_alone words layout cluster mode asks mine of);
       makes = λ layout cluster asks. absurd (makes_alone words layout cluster mode asks mine of);

@@ -1,10 +1,11 @@
 -- Each word has its own function, which does what is said of it, and of no other word.
 use Rattle.std.proofs.Common.{◌≡◌, refl, sym, ◌∙◌, subst}
-use Rattle.df_top.specs.Mode.{IsRunnable}
+use Rattle.df_pace.specs.Beats.{idle}
+use Rattle.df_top.specs.Mode.{IsRunnable, ReadsScript}
 use Rattle.df_top.specs.Outside.{Outside}
 use Rattle.df_top.specs.Run.{ServesIn}
 use Rattle.df_top.specs.declared.mode.Mode.{Mode}
-use Rattle.df_top.specs.declared.mode.Mode.TheVariants.{Run, Recover, Inspect, Scrub, Workload}
+use Rattle.df_top.specs.declared.mode.Mode.TheVariants.{Run, Recover, Inspect, Scrub, Workload, Paced}
 use Rattle.df_top.proofs.serving.carry_out.Goals as goal
 
 pub returns-in-Run : goal.returns-in-Run
@@ -12,9 +13,9 @@ returns-in-Run g c =
     let old : Outside = record { told = g.D.Disk.told c.args.disk.now; left = g.S.Source.left c.args.source.now; written = g.W.Sink.written c.args.sink.now } in
     let new : Outside = record { told = g.D.Disk.told c.serve_file.new.disk; left = g.S.Source.left c.serve_file.new.source; written = g.W.Sink.written c.serve_file.new.sink } in
     record {
-      serves = subst (λ (m : Mode). ServesIn m c.args.rooms.layout old new c.serve_file.result) (sym c.in-Run.is) c.serve_file.ensures.serves;
+      serves = subst (λ (m : Mode). ServesIn m c.args.rooms.layout old new c.serve_file.result) (sym c.in-Run.is) (c.serve_file.ensures.serves Run c.idle.ensures);
       inspects = λ is. absurd (let no : Run ≡ Inspect = sym c.in-Run.is ∙ is in cc);
-      unread = λ no. absurd (no c.in-Run.is);
+      unread = λ no. absurd (no (subst ReadsScript (sym c.in-Run.is) (idle, refl)));
       causes = c.serve_file.ensures.causes;
       memory = c.serve_file.ensures.memory;
       usage = c.serve_file.ensures.words;
@@ -79,4 +80,17 @@ returns-in-Workload g c =
       causes = c.workload_file.ensures.causes (g.S.Source.faults c.args.source.now);
       memory = c.workload_file.ensures.memory;
       usage = c.workload_file.ensures.words;
+    }
+
+pub returns-in-Paced : goal.returns-in-Paced
+returns-in-Paced g c =
+    let old : Outside = record { told = g.D.Disk.told c.args.disk.now; left = g.S.Source.left c.args.source.now; written = g.W.Sink.written c.args.sink.now } in
+    let new : Outside = record { told = g.D.Disk.told c.serve_file-in-Paced.new.disk; left = g.S.Source.left c.serve_file-in-Paced.new.source; written = g.W.Sink.written c.serve_file-in-Paced.new.sink } in
+    record {
+      serves = subst (λ (m : Mode). ServesIn m c.args.rooms.layout old new c.serve_file-in-Paced.result) (sym c.in-Paced.is) (c.serve_file-in-Paced.ensures.serves (Paced c.in-Paced.pace) refl);
+      inspects = λ is. absurd (let no : Paced c.in-Paced.pace ≡ Inspect = sym c.in-Paced.is ∙ is in cc);
+      unread = λ no. absurd (no (subst ReadsScript (sym c.in-Paced.is) (c.in-Paced.pace, refl)));
+      causes = c.serve_file-in-Paced.ensures.causes;
+      memory = c.serve_file-in-Paced.ensures.memory;
+      usage = c.serve_file-in-Paced.ensures.words;
     }

@@ -1,7 +1,6 @@
 -- The words have one meaning, so that what is said of it is said of what they ask for.
 use Rattle.std.proofs.Common.{subst}
 use Rattle.std.specs.Prelude.{map, string_bytes}
-use Rattle.df_top.specs.Mode.{Means}
 use Rattle.df_top.specs.Outside.{Outside}
 use Rattle.df_top.specs.Run.{ServesIn}
 use Rattle.df_top.specs.declared.mode.Mode.{Mode}
@@ -34,4 +33,4 @@ pub returns-clause-within : goal.returns-clause-within
 returns-clause-within g c = λ t told whole. does_within c.args.rooms.layout t _ _ _ c.in-Some.mode (c.carry_out.ensures.serves t told whole)
 
 pub returns-clause-unread : goal.returns-clause-unread
-returns-clause-unread g c = λ no. c.carry_out.ensures.unread (λ is. no (subst (Means (map string_bytes c.args.words.now)) is c.in-Some.ensures.found))
+returns-clause-unread g c = λ no. c.carry_out.ensures.unread (λ reads. no (c.in-Some.mode, c.in-Some.ensures.found, reads))

@@ -1,34 +1,38 @@
 -- The file is opened and served, or it isn't.
-use Rattle.std.proofs.Common.{ℕ, refl, inr, subst}
+use Rattle.std.proofs.Common.{◌≡◌, ℕ, None, refl, sym, ap, ◌∙◌, subst}
 use Rattle.std.specs.Prelude.{Option, Ok}
 use Rattle.df_disk.specs.Told.{Told}
 use Rattle.df_session.specs.Below.{State}
 use Rattle.df_session.specs.Surveying.{TellsSurvey}
 use Rattle.df_top.specs.Outside.{Blames, Outside}
-use Rattle.df_top.specs.declared.mode.Mode.TheVariants.{Run}
+use Rattle.df_model.specs.declared.answers.Summary.{Summary}
+use Rattle.df_pace.specs.Beats.{next_piece, started}
+use Rattle.df_pace.specs.declared.beat.Beat.{Beat}
+use Rattle.df_pace.proofs.Laws.{starts_idle}
+use Rattle.df_top.specs.Pacing.{runs}
+use Rattle.df_top.specs.declared.session.Session.{Session}
 use Rattle.df_top.specs.declared.status.Status.TheVariants.{DiskFault}
 use Rattle.df_top.specs.Session.{state}
 use Rattle.df_top.proofs.Causes.{ended_never, open_causes, refused_never}
-use Rattle.df_top.proofs.Served.{from_start, not_opened, serves}
+use Rattle.df_top.proofs.Served.{executed, from_start, not_executed, serves}
 use Rattle.df_top.proofs.serving.serve_file.Goals as goal
 
 pub returns-in-Ok-clause-serves : goal.returns-in-Ok-clause-serves
-returns-in-Ok-clause-serves g c = λ t told whole.
+returns-in-Ok-clause-serves g c = λ mode executes t told whole.
     let old : Outside = record { told = g.D.Disk.told c.args.disk.now; left = g.S.Source.left c.args.source.now; written = g.W.Sink.written c.args.sink.now } in
-    let new : Outside = record { told = g.D.Disk.told c.serve_script.new.disk; left = g.S.Source.left c.serve_script.new.source; written = g.W.Sink.written c.serve_script.new.sink } in (
-      tt,
-      inr (inr (serves c.args.rooms.layout t old new c.serve_script.result c.in-Ok.replica (g.D.Disk.told c.open.new.disk) whole told c.in-Ok.ensures.live c.in-Ok.ensures.kept
-          ((subst (λ (o : Option Told). TellsSurvey c.args.rooms.layout o (Ok c.in-Ok.replica)) told c.in-Ok.ensures.answer) whole) (c.in-Ok.ensures.opened t told)
-          (state new c.serve_script.new.session) refl (from_start (g.D.Disk.told c.open.new.disk) old _ c.args.rooms.layout (state new c.serve_script.new.session) c.serve_script.result c.requires.lines refl c.serve_script.ensures.session))),
-    )
+    let new : Outside = record { told = g.D.Disk.told c.serve_script.new.disk; left = g.S.Source.left c.serve_script.new.source; written = g.W.Sink.written c.serve_script.new.sink } in
+    let session : Session = record { replica = c.in-Ok.replica; lines = c.args.lines; count = 0; pace = c.args.pace; beat = c.start-beat.result } in
+    executed mode c.args.pace executes c.args.rooms.layout t old new c.serve_script.result
+    (serves c.args.pace c.args.rooms.layout t old new c.serve_script.result c.in-Ok.replica (g.D.Disk.told c.open.new.disk) whole told c.in-Ok.ensures.live c.in-Ok.ensures.kept
+    ((subst (λ (o : Option Told). TellsSurvey c.args.rooms.layout o (Ok c.in-Ok.replica)) told c.in-Ok.ensures.answer) whole) (c.in-Ok.ensures.opened t told)
+    (state new c.serve_script.new.session) refl
+    (from_start c.args.pace (g.D.Disk.told c.open.new.disk) old session c.args.rooms.layout (state new c.serve_script.new.session) c.serve_script.result c.requires.lines refl (c.start-beat.ensures ∙ ap (λ (s : Summary). started s.head) c.summary.ensures) c.serve_script.ensures.session))
 
 pub returns-in-Err-clause-serves : goal.returns-in-Err-clause-serves
-returns-in-Err-clause-serves g c = λ t told whole. (
-  tt,
-  not_opened Run c.args.rooms.layout t (record { told = g.D.Disk.told c.args.disk.now; left = g.S.Source.left c.args.source.now; written = g.W.Sink.written c.args.sink.now })
-      (record { told = g.D.Disk.told c.open.new.disk; left = g.S.Source.left c.args.source.now; written = g.W.Sink.written c.refuse_file.new.sink }) c.refuse_file.result c.in-Err.error whole told c.in-Err.ensures.answer refl c.in-Err.ensures.refused
-      (c.in-Err.ensures.stopped t told) c.refuse_file.ensures.prints,
-)
+returns-in-Err-clause-serves g c = λ mode executes t told whole.
+    not_executed mode c.args.pace executes c.args.rooms.layout t (record { told = g.D.Disk.told c.args.disk.now; left = g.S.Source.left c.args.source.now; written = g.W.Sink.written c.args.sink.now })
+    (record { told = g.D.Disk.told c.open.new.disk; left = g.S.Source.left c.args.source.now; written = g.W.Sink.written c.refuse_file.new.sink }) c.refuse_file.result c.in-Err.error whole told c.in-Err.ensures.answer refl c.in-Err.ensures.refused
+    (c.in-Err.ensures.stopped t told) c.refuse_file.ensures.prints
 
 pub returns-in-Err-clause-causes : goal.returns-in-Err-clause-causes
 returns-in-Err-clause-causes g c =
@@ -43,10 +47,10 @@ returns-in-Ok-clause-causes g c = record {
 }
 
 pub returns-in-Ok-clause-memory : goal.returns-in-Ok-clause-memory
-returns-in-Ok-clause-memory g c = (ended_never _ _ _ c.serve_script.result c.serve_script.ensures.session).0
+returns-in-Ok-clause-memory g c = (ended_never _ _ _ _ c.serve_script.result c.serve_script.ensures.session).0
 
 pub returns-in-Ok-clause-words : goal.returns-in-Ok-clause-words
-returns-in-Ok-clause-words g c = (ended_never _ _ _ c.serve_script.result c.serve_script.ensures.session).1
+returns-in-Ok-clause-words g c = (ended_never _ _ _ _ c.serve_script.result c.serve_script.ensures.session).1
 
 pub returns-in-Err-clause-memory : goal.returns-in-Err-clause-memory
 returns-in-Err-clause-memory g c = (refused_never c.in-Err.error (g.W.Sink.written c.args.sink.now) (g.W.Sink.written c.refuse_file.new.sink) c.refuse_file.result c.refuse_file.ensures.prints).0

@@ -1,17 +1,20 @@
--- The lines so far were executed, and nothing has failed.
+-- The lines so far were executed, with the work behind each, and nothing has failed.
 use Rattle.std.proofs.Common.{◌≡◌, List}
 use Rattle.df_top.specs.Lines.{Turned}
+use Rattle.df_top.specs.Pacing.{IsIdle}
 use Rattle.df_top.specs.Session.{Executed, state}
 use Rattle.df_top.specs.Turning.{IsReady}
 use Rattle.df_top.proofs.turns.serve_script.Given as goal
 
 abbrev pub invariant-loop-status : goal.invariant-loop-status
 invariant-loop-status g l = record {
-  so_far : (turns : List Turned) × Executed l.fn.session.lines.reading.bound
+  so_far : (turns : List Turned) × Executed l.fn.session.pace l.fn.session.lines.reading.bound
       (state (record { told = g.D.Disk.told l.initial.disk; left = g.S.Source.left l.initial.source; written = g.W.Sink.written l.initial.sink }) l.initial.session)
       (state (record { told = g.D.Disk.told l.disk; left = g.S.Source.left l.source; written = g.W.Sink.written l.sink }) l.session) turns;
   ready : IsReady l.session (g.S.Source.left l.source);
+  idle : IsIdle l.session.beat l.session.replica;
   bound : l.session.lines.reading.bound ≡ l.fn.session.lines.reading.bound;
+  pace : l.session.pace ≡ l.fn.session.pace;
   disk_faults : g.D.Disk.faults l.disk ≡ g.D.Disk.faults l.initial.disk;
   source_faults : g.S.Source.faults l.source ≡ g.S.Source.faults l.initial.source;
   sink_faults : g.W.Sink.faults l.sink ≡ g.W.Sink.faults l.initial.sink;

@@ -1,39 +1,22 @@
--- Each arm is one way in which a line ends or goes on.
-use Rattle.std.proofs.Common.{refl, subst}
-use Rattle.df_lines.specs.Reads.{GivesNext}
-use Rattle.df_top.specs.Outside.{Outside}
-use Rattle.df_top.specs.Session.{state}
-use Rattle.df_top.proofs.LineEnds.{ends_refused, held_next, line_turns, refused_next}
-use Rattle.df_top.proofs.Progress.{ends_done, ends_read}
+-- The line, and then the work behind it.
+use Rattle.std.proofs.Common.{ℕ, subst}
+use Rattle.df_pace.specs.declared.pace.Pace.{Pace}
+use Rattle.df_top.specs.Session.{State, state}
+use Rattle.df_top.specs.Step.{Turns}
+use Rattle.df_top.specs.Turning.{BlamesIfEnds}
+use Rattle.df_top.specs.declared.status.Status.TheVariants.{ReadFault}
+use Rattle.df_top.proofs.LineEnds.{then_turns}
 use Rattle.df_top.proofs.turns.take_turn.Goals as goal
 
-pub returns-in-Ok-Line-clause-turns : goal.returns-in-Ok-Line-clause-turns
-returns-in-Ok-Line-clause-turns g c =
-    let before : Outside = record { told = g.D.Disk.told c.args.disk.now; left = g.S.Source.left c.args.source.now; written = g.W.Sink.written c.args.sink.now } in
-    let after : Outside = record { told = g.D.Disk.told c.serve_line.new.disk; left = g.S.Source.left c.next.new.source; written = g.W.Sink.written c.serve_line.new.sink } in
-    line_turns before after c.args.session.now c.next.new.self c.in-Ok-Line.line c.requires.ready.at_end
-    (λ text tells. subst (GivesNext c.args.session.now.lines c.next.new.self text (g.S.Source.left c.next.new.source)) c.in-Ok-Line.field-0-is (c.in-Ok-Line.ensures.gives text tells))
-    c.serve_line.new.session c.serve_line.ensures.lines c.serve_line.result c.serve_line.ensures.answers c.serve_line.ensures.count
+pub returns-in-GoesOn-clause-turns : goal.returns-in-GoesOn-clause-turns
+returns-in-GoesOn-clause-turns g c =
+    let old : State = state (record { told = g.D.Disk.told c.args.disk.now; left = g.S.Source.left c.args.source.now; written = g.W.Sink.written c.args.sink.now }) c.args.session.now in
+    let mid : State = state (record { told = g.D.Disk.told c.take_line.new.disk; left = g.S.Source.left c.take_line.new.source; written = g.W.Sink.written c.take_line.new.sink }) c.take_line.new.session in
+    let new : State = state (record { told = g.D.Disk.told c.work.new.disk; left = g.S.Source.left c.take_line.new.source; written = g.W.Sink.written c.work.new.sink }) c.work.new.session in
+    let bound = c.args.session.now.lines.reading.bound in
+    then_turns c.args.session.now.pace bound old mid new c.in-GoesOn.ensures.turns c.work.result
+    (subst (λ (p : Pace). Turns p bound mid new c.work.result) c.take_line.ensures.pace (c.work.ensures.turns (g.S.Source.left c.take_line.new.source) bound))
 
-pub returns-in-Ok-Refused-clause-turns : goal.returns-in-Ok-Refused-clause-turns
-returns-in-Ok-Refused-clause-turns g c =
-    let before : Outside = record { told = g.D.Disk.told c.args.disk.now; left = g.S.Source.left c.args.source.now; written = g.W.Sink.written c.args.sink.now } in
-    ends_refused c.args.session.now.lines.reading.bound (state before c.args.session.now) _ refl refl
-    (refused_next before (g.S.Source.left c.next.new.source) c.args.session.now c.next.new.self c.requires.ready.at_end
-    (λ text tells. subst (GivesNext c.args.session.now.lines c.next.new.self text (g.S.Source.left c.next.new.source)) c.in-Ok-Refused.field-0-is (c.in-Ok-Refused.ensures.gives text tells)))
-    (held_next before (g.S.Source.left c.next.new.source) c.args.session.now c.next.new.self c.requires.ready.at_end c.next.ensures.bound
-    (λ text tells. subst (GivesNext c.args.session.now.lines c.next.new.self text (g.S.Source.left c.next.new.source)) c.in-Ok-Refused.field-0-is (c.in-Ok-Refused.ensures.gives text tells)))
-    c.refuse.result c.refuse.ensures.line
-
-pub returns-in-Ok-End-clause-turns : goal.returns-in-Ok-End-clause-turns
-returns-in-Ok-End-clause-turns g c =
-    let before : Outside = record { told = g.D.Disk.told c.args.disk.now; left = g.S.Source.left c.args.source.now; written = g.W.Sink.written c.args.sink.now } in
-    ends_done c.args.session.now.lines.reading.bound (state before c.args.session.now) _ refl refl refl
-    (λ rest is.
-    let ends = subst (GivesNext c.args.session.now.lines c.next.new.self rest (g.S.Source.left c.next.new.source)) c.in-Ok-End.field-0-is (c.in-Ok-End.ensures.gives rest (record { is = is; ended = c.requires.ready.at_end })) in
-    (ends.none, ends.ended))
-
-pub returns-in-Err-clause-turns : goal.returns-in-Err-clause-turns
-returns-in-Err-clause-turns g c =
-    let before : Outside = record { told = g.D.Disk.told c.args.disk.now; left = g.S.Source.left c.args.source.now; written = g.W.Sink.written c.args.sink.now } in
-    ends_read c.args.session.now.lines.reading.bound (state before c.args.session.now) _ refl refl refl
+pub returns-in-GoesOn-clause-source : goal.returns-in-GoesOn-clause-source
+returns-in-GoesOn-clause-source g c =
+    subst (λ (n : ℕ). BlamesIfEnds ReadFault n (g.S.Source.faults c.take_line.new.source) c.work.result) c.in-GoesOn.ensures.source (c.work.ensures.source (g.S.Source.faults c.take_line.new.source))

@@ -14,7 +14,7 @@ pub put_made-requires-clause-own : goal.put_made-requires-clause-own
 put_made-requires-clause-own g c =
     let s = c.self.inside in
     let has = c.in-Some.ensures.inside in
-    rw c.trailer_header-header.ensures.header (header_owns s.layout s.cluster c.in-Some.address c.args.index c.args.sequence (address_in c.last_written-before.result) (checksum_in c.last_written-before.result) (has.0, omega (arith, has.1, c.self.invariant.size_is)))
+    rw c.trailer_header-header.ensures.header (header_owns s.layout s.cluster s.boot c.in-Some.address c.args.index c.args.sequence (address_in c.last_written-before.result) (checksum_in c.last_written-before.result) (has.0, omega (arith, has.1, c.self.invariant.size_is)))
 
 pub returns-in-Ok-clause-events : goal.returns-in-Ok-clause-events
 returns-in-Ok-clause-events g c =
@@ -56,7 +56,7 @@ pub returns-in-Ok-clause-written : goal.returns-in-Ok-clause-written
 returns-in-Ok-clause-written g c =
     let s = c.self.inside in
     let header = header_next _ c.args.self.now c.args.sequence c.in-Some.address c.args.index c.trailer_header-header.result c.last_written-before.result c.self.view_is c.trailer_header-header.ensures.header c.in-Some.ensures.next c.requires.index c.last_written-before.ensures.pair c.trailer_header-header.ensures.parent in
-    let sum : c.in-Ok.checksum ≡ (made (next_header s.cluster c.args.sequence s.table.blocks) c.args.piece.now).header.checksum = c.in-Ok.ensures.checksum ∙ ap (λ (h : Header). (made h c.args.piece.now).header.checksum) header in
-    ap (λ (t : TableState). state_of s.layout s.cluster t.blocks) c.put_trailer.ensures
-    ∙ ap (λ (n : List ℕ). state_of s.layout s.cluster (next_written s.table.blocks (number_of n))) sum
+    let sum : c.in-Ok.checksum ≡ (made (next_header s.cluster s.boot c.args.sequence s.table.blocks) c.args.piece.now).header.checksum = c.in-Ok.ensures.checksum ∙ ap (λ (h : Header). (made h c.args.piece.now).header.checksum) header in
+    ap (λ (t : TableState). state_of s.layout s.cluster s.boot t.blocks) c.put_trailer.ensures
+    ∙ ap (λ (n : List ℕ). state_of s.layout s.cluster s.boot (next_written s.table.blocks (number_of n))) sum
     ∙ ap (λ (v : GridState). with_blocks v (next_written v.blocks (number_of (next_unit v c.args.sequence c.args.piece.now).header.checksum))) c.self.view_is

@@ -2,7 +2,7 @@
 use Rattle.std.proofs.Common.{◌≡◌, ◌∙◌, ap, length, subst, ℕ}
 use Rattle.df_cases.specs.Cases.{decision_of}
 use Rattle.df_journal.specs.Scan.{Scan}
-use Rattle.df_journal.specs.Seen.{IsOpOf}
+use Rattle.df_journal.specs.Seen.{IsOpOf, decision_on}
 use Rattle.df_journal.proofs.Decisions.{decided_slot}
 use Rattle.df_journal.proofs.table.SlotTable.decision.Goals as goal
 
@@ -15,4 +15,5 @@ returns c =
     subst (λ (k : ℕ). IsOpOf (length c.as_slice.result.now) c.self.inside.start.op k c.op_of-op.result) c.from.ensures c.op_of-op.ensures in
     let own : IsOpOf (length scan.slots) scan.start.op c.args.slot c.op_of-op.result =
     subst (λ (n : ℕ). IsOpOf (length scan.slots) n c.args.slot c.op_of-op.result) op (subst (λ (n : ℕ). IsOpOf n c.self.inside.start.op c.args.slot c.op_of-op.result) same slot) in
-    record { model = λ layout image o tells of. decided_slot layout image scan c.args.slot c.op_of-op.result o c.seen.result (decision_of c.decision_on.result) tells c.seen.ensures own c.decision_on.ensures of }
+    let boot : c.self.inside.start.boot ≡ scan.start.boot = ap (λ (s : Scan). s.start.boot) c.self.view_is in
+    record { model = λ layout image o tells of. decided_slot layout image scan c.args.slot c.op_of-op.result o c.seen.result (decision_of c.decision_on.result) tells c.seen.ensures own (λ checks. c.decision_on.ensures checks ∙ ap (λ (b : ℕ). decision_on b c.op_of-op.result c.seen.result) boot) of }

@@ -34,6 +34,7 @@ invariant_of-self c =
       rooms_fit = c.self.invariant.rooms_fit;
       grid_fits = ap (λ (g : GridState). g.layout) c.capture.ensures ∙ c.self.invariant.grid_fits;
       grid_named = ap (λ (g : GridState). g.cluster) c.capture.ensures ∙ c.self.invariant.grid_named;
+      grid_unbooted = ap (λ (g : GridState). g.boot) c.capture.ensures ∙ c.self.invariant.grid_unbooted;
       trailer_fits = c.self.invariant.trailer_fits;
       scrub_fits = c.self.invariant.scrub_fits;
     }

@@ -24,6 +24,7 @@ invariant_of-self c =
       state = record {
         cluster = old.cluster;
         parent = c.requires.sum;
+        plain = old.plain;
         sequence = old.sequence;
         root = old.root;
         order = omega (arith, op, old.order);
@@ -45,6 +46,7 @@ invariant_of-self c =
       rooms_fit = c.self.invariant.rooms_fit;
       grid_fits = c.self.invariant.grid_fits;
       grid_named = c.self.invariant.grid_named;
+      grid_unbooted = c.self.invariant.grid_unbooted;
       trailer_fits = c.self.invariant.trailer_fits;
       scrub_fits = c.self.invariant.scrub_fits;
     }

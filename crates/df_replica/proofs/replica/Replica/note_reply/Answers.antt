@@ -16,6 +16,7 @@ invariant_of-self c =
       state = record {
         cluster = old.cluster;
         parent = old.parent;
+        plain = old.plain;
         sequence = old.sequence;
         root = old.root;
         order = old.order;
@@ -36,6 +37,7 @@ invariant_of-self c =
       rooms_fit = c.self.invariant.rooms_fit;
       grid_fits = c.self.invariant.grid_fits;
       grid_named = c.self.invariant.grid_named;
+      grid_unbooted = c.self.invariant.grid_unbooted;
       trailer_fits = c.self.invariant.trailer_fits;
       scrub_fits = c.self.invariant.scrub_fits;
     }

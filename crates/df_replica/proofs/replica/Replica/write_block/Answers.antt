@@ -8,17 +8,17 @@ use Rattle.df_replica.proofs.replica.Replica.write_block.Goals as goal
 
 pub returns-in-Err-clause-call : goal.returns-in-Err-clause-call
 returns-in-Err-clause-call g c =
-    refusal_serves c.args.self.now c.args.kind c.args.body.now c.requires.live c.in-Err.error (refusal_given _ _ c.in-Err.error (sym c.in-Err.is ∙ c.address_for.ensures.why c.args.body.now refl)) (g.D.Disk.told c.args.disk.now)
+    refusal_serves c.args.self.now c.args.kind c.args.body.now c.address_for.ensures.state c.requires.live c.in-Err.error (refusal_given _ _ c.in-Err.error (sym c.in-Err.is ∙ c.address_for.ensures.why c.args.body.now refl)) (g.D.Disk.told c.args.disk.now)
 
 pub returns-in-Ok-write_next_block-clause-call : goal.returns-in-Ok-write_next_block-clause-call
 returns-in-Ok-write_next_block-clause-call g c =
     let here = address_given _ _ c.in-Ok.address (sym c.in-Ok.is ∙ c.address_for.ensures.why c.args.body.now refl) in
     let done = c.in-Ok-write_next_block.ensures in
     let r : Reference = record { address = c.in-Ok.address; checksum = c.in-Ok-write_next_block.made.checksum } in
-    written_serves c.args.self.now c.args.kind c.args.body.now c.requires.live here.0 c.write_next_block.ensures.made.own c.write_next_block.new.self r (g.D.Disk.told c.args.disk.now) (g.D.Disk.told c.write_next_block.new.disk)
+    written_serves c.args.self.now c.args.kind c.args.body.now c.address_for.ensures.state c.requires.live here.0 c.write_next_block.ensures.made.own c.write_next_block.new.self r (g.D.Disk.told c.args.disk.now) (g.D.Disk.told c.write_next_block.new.disk)
     (λ i. record { address = here.1 i; checksum = (done.made.header i).checksum }) done.live done.events
 
 pub returns-in-Err-write_next_block-clause-call : goal.returns-in-Err-write_next_block-clause-call
 returns-in-Err-write_next_block-clause-call g c =
     let here = address_given _ _ c.in-Ok.address (sym c.in-Ok.is ∙ c.address_for.ensures.why c.args.body.now refl) in
-    fault_serves c.args.self.now c.args.kind c.args.body.now c.requires.live here.0 c.write_next_block.ensures.made.own c.stop.new.self (g.D.Disk.told c.args.disk.now) (g.D.Disk.told c.write_next_block.new.disk) (ap (λ (s : State). s.live) c.stop.ensures) c.in-Err-write_next_block.ensures.events
+    fault_serves c.args.self.now c.args.kind c.args.body.now c.address_for.ensures.state c.requires.live here.0 c.write_next_block.ensures.made.own c.stop.new.self (g.D.Disk.told c.args.disk.now) (g.D.Disk.told c.write_next_block.new.disk) (ap (λ (s : State). s.live) c.stop.ensures) c.in-Err-write_next_block.ensures.events

@@ -1,0 +1,38 @@
+-- The first test that fails, of some tests and further ones behind them.
+use Rattle.std.proofs.Common.{◌≡◌, inl, inr, List, [], ◌∷◌, ◌++◌, Option, Some, None, refl, sym, ◌∙◌, ap}
+use Rattle.std.specs.Prelude.{Result, Err, IsErr, IsErrAnd}
+use Rattle.std.specs.Result.{result_err}
+use Rattle.std.proofs.lemmas.Result.{err_from_is_err_and}
+use Rattle.std.proofs.lemmas.Bool.{cases_Bool, cond-true, cond-false}
+use Rattle.df_format.specs.SuperRules.{Test, first_failing}
+use Rattle.df_format.specs.declared.superblock.SuperFault.{SuperFault}
+use Rattle.df_format.specs.declared.superblock.SuperFault.TheVariants.{BadField}
+
+-- the further ones aren't asked where one of the first fails
+pub failing_front : (ts more : List Test) (fault : SuperFault) → Some fault ≡ first_failing ts → Some fault ≡ first_failing (ts ++ more)
+failing_front [] more fault is = absurd (let both : Some fault ≡ None = is in cc)
+failing_front (t ∷ ts) more fault is = elim (cases_Bool t.passes) [
+  | inl good ↦
+      failing_front ts more fault (is ∙ cond-true t.passes (first_failing ts) (Some (BadField t.field t.value)) good)
+      ∙ sym (cond-true t.passes (first_failing (ts ++ more)) (Some (BadField t.field t.value)) good)
+  | inr bad ↦
+      is
+      ∙ cond-false t.passes (first_failing ts) (Some (BadField t.field t.value)) bad
+      ∙ sym (cond-false t.passes (first_failing (ts ++ more)) (Some (BadField t.field t.value)) bad)
+]
+
+-- they decide where all of the first pass
+pub passing_front : (ts more : List Test) → None ≡ first_failing ts → first_failing more ≡ first_failing (ts ++ more)
+passing_front [] more is = refl
+passing_front (t ∷ ts) more is = elim (cases_Bool t.passes) [
+  | inl good ↦
+      passing_front ts more (is ∙ cond-true t.passes (first_failing ts) (Some (BadField t.field t.value)) good)
+      ∙ sym (cond-true t.passes (first_failing (ts ++ more)) (Some (BadField t.field t.value)) good)
+  | inr bad ↦ absurd (let both : None ≡ Some (BadField t.field t.value) = is ∙ cond-false t.passes (first_failing ts) (Some (BadField t.field t.value)) bad in cc)
+]
+
+-- a fault that is handed on is the one of the part
+pub handed_on : (r : Result (Unit {0}) SuperFault) (fault : SuperFault) → IsErr r × IsErrAnd r (λ e. e ≡ fault) → result_err r ≡ Some fault
+handed_on r fault is =
+    let p = err_from_is_err_and r is.1 in
+    ap result_err p.1 ∙ ap Some p.2

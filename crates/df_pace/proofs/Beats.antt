@@ -1,0 +1,251 @@
+-- What is due is done piece by piece, and what was accepted is counted by the head.
+use Rattle.std.proofs.Common.{◌≡◌, ◌<◌, ℕ, zero, suc, ◌+◌, ◌-◌, ◌≤◌, ◌&&◌, nat_lt, Bool, true, false, if◌then◌else◌, min, List, [], ◌∷◌, ◌++◌, length, drop, Option, Some, None, Ok, Err, replicate, refl, sym, ◌∙◌, ap, subst, arith, length-append, length-drop}
+use Rattle.std.proofs.lemmas.Bool.Decides.{nat_tests}
+use Rattle.df_theory.specs.Units.{Message, Parts}
+use Rattle.df_theory.specs.Shape.{Shape}
+use Rattle.df_theory.specs.View.{View, head}
+use Rattle.df_model.specs.Work.{Running, Work}
+use Rattle.df_model.specs.Memory.{Course, course_of, memory_of}
+use Rattle.df_model.specs.Refusals.{append_refusals, begin_refusals, block_refusals, first_refusal, is_running, release_refusals, reply_refusals, steps_left}
+use Rattle.df_model.specs.Making.{needed_of, next_address, place_of_reply, prepare_of, reply_of}
+use Rattle.df_model.specs.After.{after_check, after_running, after_step_of, begun, outcome, to_check, with_live, with_prepare, with_reply, with_running}
+use Rattle.df_model.specs.Commands.{Advance, Answer, Append, Begin, Command, ReadBlock, ReadPrepare, ReadReply, Recent, Release, Reply, Scrub, ToAdvance, ToAppend, ToBegin, WriteBlock, supplied_sum, supplied_verdict}
+use Rattle.df_model.specs.Sense.{IsWork}
+use Rattle.df_model.specs.Supply.{Codec, supplied}
+use Rattle.df_model.specs.declared.answers.Verdict.{Verdict}
+use Rattle.df_model.specs.declared.answers.Verdict.TheVariants.{Sound, Failing}
+use Rattle.df_model.specs.declared.errors.AppendError.{AppendError}
+use Rattle.df_model.specs.declared.errors.BeginError.{BeginError}
+use Rattle.df_pace.specs.declared.beat.Piece.{Piece}
+use Rattle.df_pace.specs.declared.beat.Piece.TheVariants as piece
+use Rattle.df_pace.specs.declared.pace.Due.{Due}
+use Rattle.df_pace.specs.Loop.{Stand, answer_at, by_loop, by_script, counted, recounted}
+use Rattle.df_pace.specs.Beats.{FewerDue, IsCounted, LineCounts, NothingDue, PieceCounts, PieceDue, StartsIdle, WholeDue, command_of, is_begun, pieces_left, rest_due, without}
+
+-- ---- what is left
+
+pub whole_due : WholeDue
+whole_due sh codec pace x = refl
+
+-- the work that is left where no begin is, with so many steps still to come of the running checkpoint
+abbrev work_left : (steps left scrub : ℕ) → List Command
+work_left steps left scrub = replicate (min steps left) Advance ++ replicate scrub Scrub
+
+below_suc : (n : ℕ) → nat_lt 0 (suc n) ≡ true
+below_suc n = grind (arith, nat_tests)
+
+no_scrubs : (scrub : ℕ) → (if nat_lt 0 scrub then Option.Some piece.Scrub else None) ≡ None → replicate scrub Scrub ≡ []
+no_scrubs zero none = refl
+no_scrubs (suc n) none = absurd (let some = subst (λ (b : Bool). (if b then Option.Some piece.Scrub else None) ≡ None) (below_suc n) none in cc)
+
+none_min : (n : ℕ) → min 0 n ≡ 0
+none_min n = omega arith
+
+min_none : (n : ℕ) → min n 0 ≡ 0
+min_none n = omega arith
+
+-- nothing is next
+nothing : (r : Option Course) (steps scrub : ℕ) → (if (is_running r && nat_lt 0 steps) then Option.Some piece.Step else (if nat_lt 0 scrub then Some piece.Scrub else None)) ≡ None → work_left steps (steps_left r) scrub ≡ []
+nothing None steps scrub none = λ i. replicate (min_none steps i) Advance ++ no_scrubs scrub none i
+nothing (Some r) zero scrub none = λ i. replicate (none_min (length r.left + 1) i) Advance ++ no_scrubs scrub none i
+nothing (Some r) (suc n) scrub none = absurd (let some = subst (λ (b : Bool). (if b then Option.Some piece.Step else (if nat_lt 0 scrub then Some piece.Scrub else None)) ≡ None) (below_suc n) none in cc)
+
+-- a stand, and what is left there
+module _ (sh : Shape) (codec : Codec) (x : Stand) where
+  abbrev w : Work
+  w = x.work
+
+  abbrev spell : Parts → List ℕ
+  spell = codec.spell
+
+  abbrev left_now : ℕ
+  left_now = steps_left (course_of spell w.running)
+
+  abbrev due_with : (b : Bool) (steps scrub : ℕ) → Due
+  due_with b steps scrub = record { begin = b; steps = steps; scrub = scrub }
+
+  no_piece : (b : Bool) (steps scrub : ℕ) → (if b then Option.Some piece.Begin else (if (is_running (course_of spell w.running) && nat_lt 0 steps) then Some piece.Step else (if nat_lt 0 scrub then Some piece.Scrub else None))) ≡ None → rest_due sh codec (due_with b steps scrub) x ≡ []
+  no_piece true steps scrub none = absurd (cc)
+  no_piece false steps scrub none = nothing (course_of spell w.running) steps scrub none
+
+  -- ---- a step is next
+
+  -- one less is left behind it
+  run_left : (sum : ℕ) (r : Running) (l : List ℕ) → steps_left (course_of spell (after_running sh spell w sum r l).0.running) ≡ length l
+  run_left sum r [] = refl
+  run_left sum r (a ∷ more) = omega arith
+
+  step_first : (sum : ℕ) (o : Option Running) (steps scrub : ℕ) → (is_running (course_of spell o) && nat_lt 0 steps) ≡ true
+      → work_left steps (steps_left (course_of spell o)) scrub ≡ Advance ∷ work_left (steps - 1) (steps_left (course_of spell (after_step_of sh spell w sum o).0.running)) scrub
+  step_first sum None steps scrub is = absurd (cc)
+  step_first sum (Some r) zero scrub is = absurd (let no : nat_lt 0 zero ≡ false = refl in cc (no, is))
+  step_first sum (Some r) (suc n) scrub is =
+      let left = run_left sum r r.left in
+      let counts : min (suc n) (length r.left + 1) ≡ suc (min (suc n - 1) (steps_left (course_of spell (after_running sh spell w sum r r.left).0.running))) = omega (arith, left) in
+      ap (λ (k : ℕ). replicate k Advance ++ replicate scrub Scrub) counts
+
+  -- ---- a step of the scrubber is
+
+  check_running : (verdict : Verdict) (xs : List (ℕ × ℕ)) → (after_check w verdict xs).0.running ≡ w.running
+  check_running verdict [] = refl
+  check_running Sound (y ∷ more) = refl
+  check_running (Failing class) (y ∷ more) = refl
+
+  no_steps : (r : Option Course) (steps : ℕ) → (is_running r && nat_lt 0 steps) ≡ false → min steps (steps_left r) ≡ 0
+  no_steps None steps is = min_none steps
+  no_steps (Some r) zero is = none_min (length r.left + 1)
+  no_steps (Some r) (suc n) is = absurd (let one = sym (below_suc n) ∙ is in cc)
+
+  scrub_first : (verdict : Verdict) (xs : List (ℕ × ℕ)) (steps n : ℕ) → (is_running (course_of spell w.running) && nat_lt 0 steps) ≡ false
+      → work_left steps left_now (suc n) ≡ Scrub ∷ work_left steps (steps_left (course_of spell (after_check w verdict xs).0.running)) (suc n - 1)
+  scrub_first verdict xs steps n is =
+      let none : min steps left_now ≡ 0 = no_steps (course_of spell w.running) steps is in
+      let still : min steps (steps_left (course_of spell (after_check w verdict xs).0.running)) ≡ 0 = ap (λ (o : Option Running). min steps (steps_left (course_of spell o))) (check_running verdict xs) ∙ none in
+      let one : suc n - 1 ≡ n = omega arith in
+      ap (λ (k : ℕ). replicate k Advance ++ replicate (suc n) Scrub) none ∙ sym (λ i. Scrub ∷ (replicate (still i) Advance ++ replicate (one i) Scrub))
+
+  -- ---- any piece
+
+  abbrev Leaves : Due → Piece → Type 0
+  Leaves d p = let c = command_of p w.view.checkpoint.parts.root in rest_due sh codec d x ≡ c ∷ rest_due sh codec (without p d) (by_loop sh codec x c)
+
+  of_piece : (d : Due) (p q : Piece) → Option.Some q ≡ Some p → Leaves d q → Leaves d p
+  of_piece d p q is leaves = let same : q ≡ p = cc is in subst (Leaves d) same leaves
+
+  scrub_left : (steps scrub : ℕ) (p : Piece) → (is_running (course_of spell w.running) && nat_lt 0 steps) ≡ false → (if nat_lt 0 scrub then Option.Some piece.Scrub else None) ≡ Some p → Leaves (due_with false steps scrub) p
+  scrub_left steps zero p idle is = absurd (cc)
+  scrub_left steps (suc n) p idle is =
+      of_piece (due_with false steps (suc n)) p piece.Scrub (subst (λ (b : Bool). (if b then Option.Some piece.Scrub else None) ≡ Some p) (below_suc n) is) (scrub_first (supplied_verdict (supplied codec x.shown (memory_of sh spell w) Scrub)) (to_check (memory_of sh spell w)) steps n idle)
+
+  work_next : (b : Bool) (steps scrub : ℕ) (p : Piece) → (is_running (course_of spell w.running) && nat_lt 0 steps) ≡ b → (if b then Option.Some piece.Step else (if nat_lt 0 scrub then Some piece.Scrub else None)) ≡ Some p → Leaves (due_with false steps scrub) p
+  work_next true steps scrub p runs is = of_piece (due_with false steps scrub) p piece.Step is (step_first (supplied_sum (supplied codec x.shown (memory_of sh spell w) Advance)) w.running steps scrub runs)
+  work_next false steps scrub p runs is = scrub_left steps scrub p runs is
+
+  any_next : (b : Bool) (steps scrub : ℕ) (p : Piece) → (if b then Option.Some piece.Begin else (if (is_running (course_of spell w.running) && nat_lt 0 steps) then Some piece.Step else (if nat_lt 0 scrub then Some piece.Scrub else None))) ≡ Some p → Leaves (due_with b steps scrub) p
+  any_next true steps scrub p is = of_piece (due_with true steps scrub) p piece.Begin is refl
+  any_next false steps scrub p is = work_next (is_running (course_of spell w.running) && nat_lt 0 steps) steps scrub p refl is
+
+pub nothing_due : NothingDue
+nothing_due sh codec d x none = no_piece sh codec x d.begin d.steps d.scrub none
+
+pub starts_idle : StartsIdle
+starts_idle last true = refl
+starts_idle last false = refl
+
+pub piece_due : PieceDue
+piece_due sh codec d x p is = any_next sh codec x d.begin d.steps d.scrub p is
+
+-- ---- how much is left
+
+above_none : (n : ℕ) → nat_lt 0 n ≡ true → 0 < n
+above_none n is = grind (arith, nat_tests, is)
+
+fewer : (b steps_due scrub_due : Bool) (steps scrub : ℕ) (p : Piece) → (steps_due ≡ true → 0 < steps) → (scrub_due ≡ true → 0 < scrub) → (if b then Option.Some piece.Begin else (if steps_due then Some piece.Step else (if scrub_due then Some piece.Scrub else None))) ≡ Some p
+    → pieces_left (without p (record { begin = b; steps = steps; scrub = scrub })) < pieces_left (record { begin = b; steps = steps; scrub = scrub })
+fewer true steps_due scrub_due steps scrub p some_steps some_scrub is = let same : piece.Begin ≡ p = cc in subst (λ (q : Piece). pieces_left (without q (record { begin = true; steps = steps; scrub = scrub })) < 1 + steps + scrub) same (omega arith)
+fewer false true scrub_due steps scrub p some_steps some_scrub is =
+    let same : piece.Step ≡ p = cc in
+    let some = some_steps refl in
+    subst (λ (q : Piece). pieces_left (without q (record { begin = false; steps = steps; scrub = scrub })) < 0 + steps + scrub) same (omega (arith, some))
+fewer false false true steps scrub p some_steps some_scrub is =
+    let same : piece.Scrub ≡ p = cc in
+    let some = some_scrub refl in
+    subst (λ (q : Piece). pieces_left (without q (record { begin = false; steps = steps; scrub = scrub })) < 0 + steps + scrub) same (omega (arith, some))
+fewer false false false steps scrub p some_steps some_scrub is = absurd (cc)
+
+second_true : (a b : Bool) → (a && b) ≡ true → b ≡ true
+second_true true b is = is
+second_true false b is = absurd (cc)
+
+pub fewer_due : FewerDue
+fewer_due d running p is = fewer d.begin (running && nat_lt 0 d.steps) (nat_lt 0 d.scrub) d.steps d.scrub p (λ both. above_none d.steps (second_true running (nat_lt 0 d.steps) both)) (above_none d.scrub) is
+
+-- ---- what is counted
+
+outcome_head : {E A : Type 0} (o : Option E) (w u : Work) (answer : A) → head u.view ≡ head w.view → head (outcome o w u answer).0.view ≡ head w.view
+outcome_head (Some e) w u answer same = refl
+outcome_head None w u answer same = same
+
+append_counts : (o : Option AppendError) (w u : Work) (answer : ℕ × ℕ) (n since : ℕ) → n + since ≡ head w.view → head u.view ≡ head w.view + 1 → counted n (ToAppend (outcome o w u answer).1) + since ≡ head (outcome o w u answer).0.view
+append_counts (Some e) w u answer n since is longer = is
+append_counts None w u answer n since is longer = omega (arith, is, longer)
+
+begin_counts : (o : Option BeginError) (w u : Work) (blocks n since : ℕ) → n + since ≡ head w.view
+    → let answer = ToBegin (outcome o w u blocks).1 in
+    let v = (outcome o w u blocks).0.view in
+    recounted n answer + (if is_begun answer then head v else since) ≡ head v
+begin_counts (Some e) w u blocks n since is = is
+begin_counts None w u blocks n since is = omega arith
+
+module _ (sh : Shape) (codec : Codec) (x : Stand) (sense : IsWork sh codec.spell x.work) where
+  run_head : (sum : ℕ) (r : Running) (l : List ℕ) → x.work.view.checkpoint.content.op ≤ r.op → r.op ≤ head x.work.view → head (after_running sh codec.spell x.work sum r l).0.view ≡ head x.work.view
+  run_head sum r [] from to = omega (arith, from, to, length-drop (r.op - x.work.view.checkpoint.content.op) x.work.view.tail)
+  run_head sum r (a ∷ more) from to = refl
+
+  step_head : (sum : ℕ) (o : Option Running) → x.work.running ≡ o → head (after_step_of sh codec.spell x.work sum o).0.view ≡ head x.work.view
+  step_head sum None is = refl
+  step_head sum (Some r) is = let capture = sense.running r is in run_head sum r r.left capture.op_from capture.op_to
+
+  check_head : (verdict : Verdict) (xs : List (ℕ × ℕ)) → head (after_check x.work verdict xs).0.view ≡ head x.work.view
+  check_head verdict [] = refl
+  check_head Sound (y ∷ more) = refl
+  check_head (Failing class) (y ∷ more) = refl
+
+  module _ (since : ℕ) (is : IsCounted x since) where
+    abbrev sum_for : Command → ℕ
+    sum_for c = supplied_sum (supplied codec x.shown (memory_of sh codec.spell x.work) c)
+
+    abbrev verdict_now : Verdict
+    verdict_now = supplied_verdict (supplied codec x.shown (memory_of sh codec.spell x.work) Scrub)
+
+    advanced : head (after_step_of sh codec.spell x.work (sum_for Advance) x.work.running).0.view ≡ head x.work.view
+    advanced = step_head (sum_for Advance) x.work.running refl
+
+    checked : head (after_check x.work verdict_now (to_check (memory_of sh codec.spell x.work))).0.view ≡ head x.work.view
+    checked = check_head verdict_now (to_check (memory_of sh codec.spell x.work))
+
+    line : (c : Command) → IsCounted (by_script sh codec x c) since
+    line (Append client request body) =
+        let m = memory_of sh codec.spell x.work in
+        let sum = sum_for (Append client request body) in
+        let p : Message = prepare_of m sum client request body in
+        let longer : head (with_prepare x.work p).view ≡ head x.work.view + 1 = omega (arith, length-append x.work.view.tail (p ∷ [])) in
+        append_counts (first_refusal (append_refusals m client request body)) x.work (with_prepare x.work p) (p.header.op, sum) x.appended since is longer
+    line (Reply op body) =
+        let m = memory_of sh codec.spell x.work in
+        let sum = sum_for (Reply op body) in
+        is ∙ sym (outcome_head (first_refusal (reply_refusals m op body)) x.work (with_reply x.work (place_of_reply m) (reply_of m sum body)) sum refl)
+    line (WriteBlock kind body) =
+        let m = memory_of sh codec.spell x.work in
+        let sum = sum_for (WriteBlock kind body) in
+        is ∙ sym (outcome_head (first_refusal (block_refusals m kind body)) x.work (with_live x.work (next_address m) (Some sum)) (next_address m, sum) refl)
+    line (Release address) = is ∙ sym (outcome_head (first_refusal (release_refusals (memory_of sh codec.spell x.work) address)) x.work (with_live x.work address None) tt refl)
+    line (Begin root) =
+        let m = memory_of sh codec.spell x.work in
+        is ∙ sym (outcome_head (first_refusal (begin_refusals m (needed_of codec.spell m root) root)) x.work (with_running x.work (Some (begun sh codec.spell x.work root))) (needed_of codec.spell m root) refl)
+    line Advance = is ∙ sym advanced
+    line (ReadPrepare op) = is
+    line (ReadReply client) = is
+    line (ReadBlock address) = is
+    line Scrub = is ∙ sym checked
+    line Recent = is
+
+    abbrev Counts : Piece → Type 0
+    Counts p =
+        let c = command_of p x.work.view.checkpoint.parts.root in
+        let y = by_loop sh codec x c in
+        IsCounted y (if is_begun (answer_at sh codec x c) then head y.work.view else since)
+
+    piece_of : (p : Piece) → Counts p
+    piece_of piece.Begin =
+        let root = x.work.view.checkpoint.parts.root in
+        let m = memory_of sh codec.spell x.work in
+        begin_counts (first_refusal (begin_refusals m (needed_of codec.spell m root) root)) x.work (with_running x.work (Some (begun sh codec.spell x.work root))) (needed_of codec.spell m root) x.appended since is
+    piece_of piece.Step = is ∙ sym advanced
+    piece_of piece.Scrub = is ∙ sym checked
+
+pub line_counts : LineCounts
+line_counts sh codec x c since sense is = line sh codec x sense since is c
+
+pub piece_counts : PieceCounts
+piece_counts sh codec x p since sense is = piece_of sh codec x sense since is p

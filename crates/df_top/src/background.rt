@@ -1,0 +1,182 @@
+// The loop's work behind a line: each piece is one call, whose answer isn't printed, until nothing is due or something fails.
+ghost use Rattle.std.specs.Prelude.{◌≡◌, ◌<◌, Option, List, ℕ, Some, true, OnOk};
+ghost use Rattle.df_base.specs.Causes.{IsBlamed};
+ghost use Rattle.df_model.specs.Commands.{Advance, Begin, Scrub};
+ghost use Rattle.df_pace.specs.Beats.{behind_piece, command_of, is_begun, next_piece, pieces_left};
+ghost use Rattle.df_session.specs.Endings.{is_disk};
+ghost use Rattle.df_top.specs.Outside.{Blames};
+ghost use Rattle.df_top.specs.Pacing.{IsIdle, runs};
+ghost use Rattle.df_top.specs.Session.{state};
+ghost use Rattle.df_top.specs.Step.{Passes, Turns};
+ghost use Rattle.df_top.specs.Turning.{BlamesIfEnds, DoesPiece, OnGoing, begun_in};
+
+use crate::session::Session;
+use crate::status::Status;
+use crate::telling::tell_fault;
+use crate::turns::Turn;
+use arrayvec::ArrayVec;
+use df_base::Sink;
+use df_disk::Disk;
+use df_layout::ROOT;
+use df_model::{Answer, Command};
+use df_pace::Piece;
+use df_session::{Fault, Replica, make};
+
+// The durable root, in a list of its own: a call that changes the replica can't be lent what the replica has.
+fn durable_root(replica: &Replica) -> ArrayVec<u8, ROOT>
+    ensures { result.items ≡ replica.now.root }
+{
+    let mut copy = ArrayVec::new();
+    match copy.try_extend_from_slice(replica.root()) {
+        Ok(()) => copy,
+        Err(_) => unreachable!(),
+    }
+}
+
+// Whether a checkpoint was begun by a call that answered so.
+fn is_begun(answer: &Answer) -> bool
+    ensures { result ≡ begun_in answer.now }
+{
+    match answer {
+        Answer::Begin(Ok(_)) => true,
+        Answer::Begin(Err(_))
+        | Answer::Append(_)
+        | Answer::Reply(_)
+        | Answer::WriteBlock(_)
+        | Answer::Release(_)
+        | Answer::Advance(_)
+        | Answer::ReadPrepare(_)
+        | Answer::ReadReply(_)
+        | Answer::ReadBlock(_)
+        | Answer::Scrub(_)
+        | Answer::Recent => false,
+    }
+}
+
+// Begins a checkpoint with the durable root, and says whether it was begun.
+fn begin<D: Disk>(disk: &mut D, replica: &mut Replica) -> Result<bool, Fault>
+    requires live { replica.old.live ≡ true }
+    ensures does { DoesPiece (Begin replica.old.root) replica.old replica.new (D.told disk.old) (D.told disk.new) result }
+    ensures disk { IsBlamed is_disk (D.faults disk.old) (D.faults disk.new) result }
+{
+    let root = durable_root(replica);
+    let root = root.as_slice();
+    match make(disk, replica, Command::Begin { root }) {
+        Ok(answer) => Ok(is_begun(&answer)),
+        Err(fault) => Err(fault),
+    }
+}
+
+// Takes a step of the running checkpoint, which begins none.
+fn step<D: Disk>(disk: &mut D, replica: &mut Replica) -> Result<bool, Fault>
+    requires live { replica.old.live ≡ true }
+    ensures does { DoesPiece Advance replica.old replica.new (D.told disk.old) (D.told disk.new) result }
+    ensures disk { IsBlamed is_disk (D.faults disk.old) (D.faults disk.new) result }
+{
+    match make(disk, replica, Command::Advance) {
+        Ok(answer) => Ok(is_begun(&answer)),
+        Err(fault) => Err(fault),
+    }
+}
+
+// Takes a step of the scrubber, which begins none.
+fn scrub<D: Disk>(disk: &mut D, replica: &mut Replica) -> Result<bool, Fault>
+    requires live { replica.old.live ≡ true }
+    ensures does { DoesPiece Scrub replica.old replica.new (D.told disk.old) (D.told disk.new) result }
+    ensures disk { IsBlamed is_disk (D.faults disk.old) (D.faults disk.new) result }
+{
+    match replica.scrub_step(disk) {
+        Ok(_) => Ok(false),
+        Err(_) => Err(Fault::Disk),
+    }
+}
+
+// Makes the call of a piece, and says whether a checkpoint was begun by it.
+fn do_piece<D: Disk>(disk: &mut D, replica: &mut Replica, piece: Piece) -> Result<bool, Fault>
+    requires live { replica.old.live ≡ true }
+    ensures does { DoesPiece (command_of piece replica.old.root) replica.old replica.new (D.told disk.old) (D.told disk.new) result }
+    ensures disk { IsBlamed is_disk (D.faults disk.old) (D.faults disk.new) result }
+{
+    match piece {
+        Piece::Begin => begin(disk, replica),
+        Piece::Step => step(disk, replica),
+        Piece::Scrub => scrub(disk, replica),
+    }
+}
+
+// Does a piece: the session goes on, or ends with the call, by the line of a step that is damaged or by none.
+fn pass<D: Disk, W: Sink>(disk: &mut D, sink: &mut W, session: &mut Session, piece: Piece) -> Turn
+    requires live { session.old.replica.live ≡ true }
+    ensures passes { Passes piece (command_of piece session.old.replica.root) session.old.replica session.new.replica (D.told disk.old) (D.told disk.new) (W.written sink.old) (W.written sink.new) session.old.beat session.new.beat result }
+    ensures lines { session.new.lines ≡ session.old.lines }
+    ensures count { session.new.count ≡ session.old.count }
+    ensures pace { session.new.pace ≡ session.old.pace }
+    ensures live { OnGoing result (session.new.replica.live ≡ true) }
+    ensures disk { BlamesIfEnds Status.DiskFault (D.faults disk.old) (D.faults disk.new) result }
+    ensures source { (faults : ℕ) → BlamesIfEnds Status.ReadFault faults faults result }
+    ensures sink { BlamesIfEnds Status.WriteFault (W.faults sink.old) (W.faults sink.new) result }
+{
+    match do_piece(disk, &mut session.replica, piece) {
+        Ok(begun) => {
+            let head = session.replica.summary().head;
+            session.beat = session.beat.behind_piece(piece, begun, head);
+            Turn::GoesOn
+        }
+        Err(fault) => Turn::Ends(tell_fault(sink, fault)),
+    }
+}
+
+// Does the piece that is next.
+fn do_next<D: Disk, W: Sink>(
+    disk: &mut D,
+    sink: &mut W,
+    session: &mut Session,
+    piece: Piece,
+) -> Turn
+    requires live { session.old.replica.live ≡ true }
+    requires next { next_piece session.old.beat.due (runs session.old.replica) ≡ Some piece }
+    ensures turns { (left : Option (List ℕ)) (bound : ℕ) → Turns session.old.pace bound
+        (state (record { told = D.told disk.old; left = left; written = W.written sink.old }) session.old)
+        (state (record { told = D.told disk.new; left = left; written = W.written sink.new }) session.new) result }
+    ensures lines { session.new.lines ≡ session.old.lines }
+    ensures count { session.new.count ≡ session.old.count }
+    ensures pace { session.new.pace ≡ session.old.pace }
+    ensures live { OnGoing result (session.new.replica.live ≡ true) }
+    ensures fewer { OnGoing result (pieces_left session.new.beat.due < pieces_left session.old.beat.due) }
+    ensures disk { BlamesIfEnds Status.DiskFault (D.faults disk.old) (D.faults disk.new) result }
+    ensures source { (faults : ℕ) → BlamesIfEnds Status.ReadFault faults faults result }
+    ensures sink { BlamesIfEnds Status.WriteFault (W.faults sink.old) (W.faults sink.new) result }
+{
+    pass(disk, sink, session, piece)
+}
+
+// The piece that is next, None where nothing is due.
+fn next(session: &Session) -> Option<Piece>
+    ensures { result ≡ next_piece session.now.beat.due (runs session.now.replica) }
+{
+    session.beat.next(session.replica.is_running())
+}
+
+/// Does all the work that is due behind a line, piece by piece.
+pub fn work<D: Disk, W: Sink>(disk: &mut D, sink: &mut W, session: &mut Session) -> Turn
+    requires live { session.old.replica.live ≡ true }
+    ensures turns { (left : Option (List ℕ)) (bound : ℕ) → Turns session.old.pace bound
+        (state (record { told = D.told disk.old; left = left; written = W.written sink.old }) session.old)
+        (state (record { told = D.told disk.new; left = left; written = W.written sink.new }) session.new) result }
+    ensures idle { OnGoing result (IsIdle session.new.beat session.new.replica) }
+    ensures lines { session.new.lines ≡ session.old.lines }
+    ensures count { session.new.count ≡ session.old.count }
+    ensures pace { session.new.pace ≡ session.old.pace }
+    ensures live { OnGoing result (session.new.replica.live ≡ true) }
+    ensures disk { BlamesIfEnds Status.DiskFault (D.faults disk.old) (D.faults disk.new) result }
+    ensures source { (faults : ℕ) → BlamesIfEnds Status.ReadFault faults faults result }
+    ensures sink { BlamesIfEnds Status.WriteFault (W.faults sink.old) (W.faults sink.new) result }
+{
+    while let Some(piece) = next(session) {
+        match do_next(disk, sink, session, piece) {
+            Turn::GoesOn => {}
+            Turn::Ends(status) => return Turn::Ends(status),
+        }
+    }
+    Turn::GoesOn
+}

@@ -1,0 +1,107 @@
+-- What the two versions of a superblock and of a header mean, and that contents of either can be told apart.
+use Rattle.std.proofs.Common.{inl, inr, ◌≡◌, ◌≢◌, ◌≤◌, ◌+◌, ◌-◌, ◌==◌, ℕ, suc, List, [], ◌∷◌, ◌++◌, length, drop, get_or, cond, refl, sym, ◌∙◌, ap, arith}
+use Rattle.std.specs.Prelude.{All, map, slice_index}
+use Rattle.std.proofs.lemmas.Bool.{cond-true, cond-false, cases_lt, eq-eqb, ne_eqb}
+use Rattle.std.proofs.lemmas.List.{ext_get_or, get_or-drop, get_or-map, get_or_past, length-drop, length-map, length-replicate}
+use Rattle.df_format.specs.declared.header.Header.{Header}
+use Rattle.df_format.specs.declared.kind.Kind.{Kind}
+use Rattle.df_format.specs.declared.kind.Kind.TheVariants.{Reserved, Prepare, Reply, Block, Trailer}
+use Rattle.df_format.specs.declared.superblock.SuperFields.{SuperFields}
+use Rattle.df_format.specs.Spelling.{IsCheck, no_checksum}
+use Rattle.df_format.specs.Rules.{HasBoot, ObeysVersion}
+use Rattle.df_format.specs.Super.{AreNone, no_checksums}
+use Rattle.df_format.proofs.Laws.{no_names}
+use Rattle.df_theory.specs.Units.{IsAlone}
+use Rattle.df_units.specs.Meaning.{header_of, number_of, number_or}
+use Rattle.df_units.proofs.Numbers.{no_number, one_number}
+
+-- ---- headers
+
+or_other : (n other : ℕ) → n ≡ 0 → number_or n other ≡ other
+or_other n other none = cond-true (n == 0) other n (eq-eqb n 0 none)
+
+ungrouped : (h : Header) → h.group ≡ 0 → h.group_last ≡ 0 → IsAlone (header_of h)
+ungrouped h first last = record { first = or_other h.group h.op first; last = or_other h.group_last h.op last }
+
+-- without a boot a unit is a group by itself
+pub first_alone : (kind : Kind) (h : Header) → ObeysVersion kind h → (kind ≢ Reserved) → h.boot ≡ 0 → IsAlone (header_of h)
+first_alone kind h is other none = elim is [
+  | inl first ↦ ungrouped h first.group first.group_last
+  | inr second ↦ absurd (no_second kind h.boot other none second.boot)
+]
+  where
+    no_second : (kind : Kind) (boot : ℕ) → kind ≢ Reserved → boot ≡ 0 → HasBoot kind boot → ⊥
+    no_second Reserved boot other none is = other refl
+    no_second Prepare boot other none is = omega (arith, none, is.0)
+    no_second Reply boot other none is = omega (arith, none, is.0)
+    no_second Block boot other none is = omega (arith, none, is.0)
+    no_second Trailer boot other none is = omega (arith, none, is.0)
+
+-- and a reply is in either version
+pub reply_alone : (h : Header) → ObeysVersion Reply h → IsAlone (header_of h)
+reply_alone h is = elim is [ inl first ↦ ungrouped h first.group first.group_last | inr second ↦ ungrouped h second.group.none_first second.group.none_last ]
+
+-- a reserved header has no boot in either
+pub reserved_boot : (h : Header) → ObeysVersion Reserved h → h.boot ≡ 0
+reserved_boot h is = elim is [ inl first ↦ first.boot | inr second ↦ second.boot ]
+
+-- ---- superblocks
+
+-- what version 2 says
+pub by_second : {A : Type 0} (f : SuperFields) (second other : A) → f.version ≡ 2 → cond (f.version == 2) second other ≡ second
+by_second f second other is = cond-true (f.version == 2) second other (eq-eqb f.version 2 is)
+
+-- and what any other does
+pub by_other : {A : Type 0} (f : SuperFields) (second other : A) → f.version ≢ 2 → cond (f.version == 2) second other ≡ other
+by_other f second other is = cond-false (f.version == 2) second other (ne_eqb f.version 2 is)
+
+-- the numbers of checksums of which none is named
+pub none_zero : (checks : List (List ℕ)) → AreNone checks → (k : ℕ) → slice_index (map number_of checks) k ≡ 0
+none_zero checks none k = elim (cases_lt k (length checks)) [
+  | inl inside ↦ get_or-map number_of checks k [] 0 inside ∙ ap number_of (none k [] inside) ∙ no_number
+  | inr past ↦ get_or_past (map number_of checks) k 0 (omega (arith, past, length-map checks number_of))
+]
+
+-- and of those from a place on
+pub spare_zero : (checks : List (List ℕ)) (clients k : ℕ) → AreNone (drop clients checks) → clients ≤ k → slice_index (map number_of checks) k ≡ 0
+spare_zero checks clients k none from = elim (cases_lt k (length checks)) [
+  | inl inside ↦
+      let there : clients + (k - clients) ≡ k = omega (arith, from) in
+      let one : get_or checks k [] ≡ no_checksum =
+      ap (λ (m : ℕ). get_or checks m []) (sym there) ∙ sym (get_or-drop clients checks (k - clients) []) ∙ none (k - clients) [] (omega (arith, inside, from, length-drop clients checks)) in
+      get_or-map number_of checks k [] 0 inside ∙ ap number_of one ∙ no_number
+  | inr past ↦ get_or_past (map number_of checks) k 0 (omega (arith, past, length-map checks number_of))
+]
+
+-- ---- lists
+
+cons_same : (x y : ℕ) (xs ys : List ℕ) → x ∷ xs ≡ y ∷ ys → (x ≡ y) × (xs ≡ ys)
+cons_same x y xs ys same = (cc, cc)
+
+-- lists of one length with others behind them
+pub parts_same : (xs ys behind after : List ℕ) → length xs ≡ length ys → xs ++ behind ≡ ys ++ after → (xs ≡ ys) × (behind ≡ after)
+parts_same [] [] behind after size same = (refl, same)
+parts_same [] (y ∷ ys) behind after size same = absurd (omega (arith, size))
+parts_same (x ∷ xs) [] behind after size same = absurd (omega (arith, size))
+parts_same (x ∷ xs) (y ∷ ys) behind after size same =
+    let both = cons_same x y (xs ++ behind) (ys ++ after) same in
+    let rest = parts_same xs ys behind after (omega (arith, size)) both.1 in
+    ((λ i. both.0 i ∷ rest.0 i), rest.1)
+
+-- checksums are told apart by their numbers
+pub checks_same : (xs ys : List (List ℕ)) → All IsCheck xs → All IsCheck ys → length xs ≡ length ys → map number_of xs ≡ map number_of ys → xs ≡ ys
+checks_same [] [] one two size same = refl
+checks_same [] (y ∷ ys) one two size same = absurd (omega (arith, size))
+checks_same (x ∷ xs) [] one two size same = absurd (omega (arith, size))
+checks_same (x ∷ xs) (y ∷ ys) one two size same =
+    let both = cons_same (number_of x) (number_of y) (map number_of xs) (map number_of ys) same in
+    let first : x ≡ y = one_number x y (one 0 x (omega arith)) (two 0 y (omega arith)) both.0 in
+    let rest = checks_same xs ys (λ k past inside. one (suc k) past (omega arith)) (λ k past inside. two (suc k) past (omega arith)) (omega (arith, size)) both.1 in
+    λ i. first i ∷ rest i
+
+-- checksums of which none is named are zeros for each place
+pub none_are : (checks : List (List ℕ)) → length checks ≡ 64 → AreNone checks → checks ≡ no_checksums
+unfolding no_checksums
+none_are checks size none =
+    let count = length-replicate {A = List ℕ} 64 no_checksum in
+    ext_get_or [] checks no_checksums (size ∙ sym count) (λ k inside. none k [] inside ∙ sym (no_names k [] (omega (arith, inside, size, count))))
