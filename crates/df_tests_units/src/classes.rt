@@ -4,6 +4,7 @@ ghost use Rattle.std.specs.Prelude.{◌≡◌};
 use crate::examples::{BLOCK, FIRST_TRAILER, PREPARE, REPLY, RESERVED, TRAILER, changed, spelled};
 use df_format::{Header, decode_header, decode_unit};
 use df_layout::{Class, Layout, Place, Zone};
+use std::process::Abort;
 
 // A slot that begins with these bytes, nines behind them.
 fn slot_of(front: &[u8; 256]) -> [u8; 8192] {
@@ -26,12 +27,7 @@ fn place(zone: Zone, index: u64) -> Place
 
 // What a place of layout small shows whose bytes begin with these.
 #[tactic(auto, unfolding(df_layout::specs::Spans::place_sectors))]
-pub(crate) fn shown(
-    cluster: u128,
-    zone: Zone,
-    index: u64,
-    front: &[u8; 256],
-) -> Result<Header, Class> {
+fn shown(cluster: u128, zone: Zone, index: u64, front: &[u8; 256]) -> Result<Header, Class> {
     let small = Layout::small();
     match zone {
         Zone::Superblock => Err(Class::Garbled),
@@ -58,7 +54,7 @@ pub(crate) fn shown(
 
 // What is shown: the header that is there, or its class.
 #[derive(Clone, Copy)]
-enum Shows {
+pub(crate) enum Shows {
     Header,
     Other(Zone, u64),
     Garbled,
@@ -70,13 +66,13 @@ type Row = (Zone, u64, [u8; 124], (usize, u8), Shows);
 // The byte that each header has at this offset.
 const AS_IT_IS: (usize, u8) = (122, 1);
 
-const RING: Zone = Zone::WalHeaders;
+pub(crate) const RING: Zone = Zone::WalHeaders;
 
-const PREPARES: Zone = Zone::WalPrepares;
+pub(crate) const PREPARES: Zone = Zone::WalPrepares;
 
-const REPLIES: Zone = Zone::ClientReplies;
+pub(crate) const REPLIES: Zone = Zone::ClientReplies;
 
-const GRID: Zone = Zone::Grid;
+pub(crate) const GRID: Zone = Zone::Grid;
 
 const ROWS: [Row; 28] = [
     (RING, 3, RESERVED, AS_IT_IS, Shows::Header),
@@ -122,13 +118,24 @@ fn wanted(bytes: &[u8; 256], shows: Shows) -> Result<Header, Class> {
     }
 }
 
+// A row's place shows it; the first eight rows of a table are units that are valid there.
+pub(crate) fn expect_shown(
+    rt: &impl Abort,
+    row: usize,
+    zone: Zone,
+    index: u64,
+    bytes: &[u8; 256],
+    shows: Shows,
+) {
+    let is = shown(7, zone, index, bytes);
+    assert!(rt; is == wanted(bytes, shows), "row {row}");
+    assert!(rt; is.is_ok() == (row < 8), "row {row}");
+}
+
 #[test]
 fn tells_what_each_place_shows(rt: HostRuntime) {
     for (i, (zone, index, front, (at, byte), shows)) in ROWS.iter().enumerate() {
-        let bytes = changed(front, *at, *byte);
-        let is = shown(7, *zone, *index, &bytes);
-        assert!(rt; is == wanted(&bytes, *shows), "row {i}");
-        assert!(rt; is.is_ok() == (i < 8), "row {i}");
+        expect_shown(&rt, i, *zone, *index, &changed(front, *at, *byte), *shows);
     }
 }
 

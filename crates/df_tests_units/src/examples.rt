@@ -65,13 +65,18 @@ pub(crate) fn spelled(front: &[u8; 124]) -> [u8; 256] {
     bytes
 }
 
+// The header with its checksum made right.
+pub(crate) fn sealed(mut bytes: [u8; 256]) -> [u8; 256] {
+    let sum = check(&bytes[16..]);
+    bytes[..16].copy_from_slice(&sum);
+    bytes
+}
+
 // The example with one byte changed and the checksum made right again.
 pub(crate) fn changed(front: &[u8; 124], at: usize, byte: u8) -> [u8; 256] {
     let mut bytes = spelled(front);
     if at < bytes.len() {
         bytes[at] = byte;
     }
-    let sum = check(&bytes[16..]);
-    bytes[..16].copy_from_slice(&sum);
-    bytes
+    sealed(bytes)
 }

@@ -1,30 +1,14 @@
 // What each place of layout small shows with units of version 2: the unit that is valid there, or the class of what is.
-use crate::classes::shown;
+use crate::classes::{GRID, PREPARES, REPLIES, RING, Shows, expect_shown};
 use crate::examples::{BLOCK, PREPARE, REPLY, RESERVED, TRAILER};
 use crate::room_classes::{STALE, Shown, proved};
 use crate::second_headers::{Put, made};
 use df_buffers::{Block, Prepare, Reply, Trailer, Wanted};
-use df_format::{Header, decode_header};
-use df_layout::{Class, Place, Zone};
-
-// What is shown: the header that is there, or its class.
-#[derive(Clone, Copy)]
-enum Shows {
-    Header,
-    Other(Zone, u64),
-    Garbled,
-}
+use df_format::decode_header;
+use df_layout::Zone;
 
 // A place, an example, bytes that are put over it, and what is shown then.
 type Row = (Zone, u64, [u8; 124], &'static [Put], Shows);
-
-const RING: Zone = Zone::WalHeaders;
-
-const PREPARES: Zone = Zone::WalPrepares;
-
-const REPLIES: Zone = Zone::ClientReplies;
-
-const GRID: Zone = Zone::Grid;
 
 // Of version 2 and in no boot, and in boot 1.
 const UNBOOTED: &'static [Put] = &[(122, 2)];
@@ -60,22 +44,10 @@ const ROWS: [Row; 19] = [
     (GRID, 9, TRAILER, UNBOOTED, Shows::Garbled),
 ];
 
-// What a row's place is to show with its bytes.
-fn wanted(bytes: &[u8; 256], shows: Shows) -> Result<Header, Class> {
-    match shows {
-        Shows::Header => decode_header(bytes).ok_or(Class::Garbled),
-        Shows::Other(zone, index) => Err(Class::Elsewhere(Place { zone, index })),
-        Shows::Garbled => Err(Class::Garbled),
-    }
-}
-
 #[test]
 fn tells_what_each_place_shows_of_version_2(rt: HostRuntime) {
     for (i, (zone, index, front, puts, shows)) in ROWS.iter().enumerate() {
-        let bytes = made(front, puts);
-        let is = shown(7, *zone, *index, &bytes);
-        assert!(rt; is == wanted(&bytes, *shows), "row {i}");
-        assert!(rt; is.is_ok() == (i < 8), "row {i}");
+        expect_shown(&rt, i, *zone, *index, &made(front, puts), *shows);
     }
 }
 

@@ -1,6 +1,7 @@
 // Two superblocks of layout small and cluster 7, and their sectors.
 use df_base::check;
 use df_format::{NO_CHECKSUM, NO_CHECKSUMS, SuperFields, encode_copy, test_fields};
+use df_layout::{Class, Place, Zone};
 
 // What the first superblock of layout small and cluster 7 says.
 pub(crate) const FIRST: SuperFields = SuperFields {
@@ -13,16 +14,22 @@ pub(crate) const FIRST: SuperFields = SuperFields {
     cluster: 7,
     sequence: 1,
     op: 0,
-    op_checksum: [0; 16],
+    op_checksum: NO_CHECKSUM,
     head: 0,
     replies: 0,
     trailer_address: 0,
-    trailer_checksum: [0; 16],
+    trailer_checksum: NO_CHECKSUM,
     trailer_size: 0,
     boot: 0,
     head_checksum: NO_CHECKSUM,
     reply_checksums: NO_CHECKSUMS,
     first_nonzero: None,
+};
+
+// The first superblock of version 2.
+pub(crate) const NEW: SuperFields = SuperFields {
+    version: 2,
+    ..FIRST
 };
 
 // One with a checkpoint of op 100, whose trailer ends at address 9.
@@ -37,6 +44,12 @@ pub(crate) const LATER: SuperFields = SuperFields {
     trailer_size: 2192,
     ..FIRST
 };
+
+// The class of a copy that belongs to place 2, at another.
+pub(crate) const OF_PLACE_2: Class = Class::Elsewhere(Place {
+    zone: Zone::Superblock,
+    index: 2,
+});
 
 // The sector with its checksum made right.
 pub(crate) fn sealed(mut bytes: [u8; 4096]) -> [u8; 4096] {
@@ -54,4 +67,15 @@ pub(crate) fn written(fields: &SuperFields, number: u8) -> [u8; 4096] {
         encode_copy(&content, number, &mut bytes);
     }
     bytes
+}
+
+// The copies that have this letter in a picture of four copies.
+pub(crate) fn members(picture: &[u8; 4], letter: u8) -> [bool; 4] {
+    let [first, second, third, last] = *picture;
+    [
+        first == letter,
+        second == letter,
+        third == letter,
+        last == letter,
+    ]
 }
