@@ -326,10 +326,10 @@ fn assert_row(rt: &impl Abort, alloc: Global, row: &Row, start: &Start)
         _ => BASE,
     };
     let (lacking, reach, lost, decided) = found(rt, alloc, &mut disk, &layout, start, base, &head);
-    let (is_lacking, is_reach, is_lost, is_decided) = answer;
-    assert!(rt; lacking == *is_lacking, "{name}");
-    assert!(rt; (reach.0, reach.1, lost) == (is_reach.0, is_reach.1, *is_lost), "{name}");
-    assert!(rt; decided == *is_decided, "{name}");
+    let (wanted_lacking, wanted_reach, wanted_lost, wanted_decided) = answer;
+    assert!(rt; lacking == *wanted_lacking, "{name}");
+    assert!(rt; (reach.0, reach.1, lost) == (wanted_reach.0, wanted_reach.1, *wanted_lost), "{name}");
+    assert!(rt; decided == *wanted_decided, "{name}");
 }
 
 #[test]
