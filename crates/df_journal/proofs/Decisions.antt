@@ -134,7 +134,7 @@ rings_of layout image scan tells = record { table = tells.table; shows = tells.s
 
 -- the op that a slot is asked for is that op
 own_op : (layout : Layout) (scan : Scan) (slot op o : ℕ) → length scan.slots ≡ layout.slots → IsOpOf (length scan.slots) scan.start.op slot op → IsOpOf layout.slots scan.start.op slot o → op ≡ o
-own_op layout scan slot op o size own of = one_op layout.slots scan.start.op slot op o (subst (λ (n : ℕ). IsOpOf n scan.start.op slot op) size own)
+own_op layout scan slot op o size own of = one_op layout.slots scan.start.op slot op o (subst (λ (n : ℕ). IsOpOf n scan.start.op slot op) size own) of
 
 pub decided_slot : (layout : Layout) (image : Units.Units) (scan : Scan) (slot op o : ℕ) (seen : SlotSeen) (d : Cases.Decision) → TellsRings layout image scan → slice_get scan.slots slot ≡ Some seen → IsOpOf (length scan.slots) scan.start.op slot op
     → (HasChecks seen → d ≡ decision_on scan.start.boot op seen) → IsOpOf layout.slots scan.start.op slot o → d ≡ Cases.decision layout.slots scan.start.boot image o
@@ -150,8 +150,8 @@ pub same_sums : (a b : List ℕ) (told : Bool) → (told ≡ true → a ≡ b) �
 same_sums a b told to from one two = elim (cases_eq (number_of a) (number_of b)) [
   | inl same ↦ from (one_number a b one two same) ∙ sym (eq-eqb (number_of a) (number_of b) same)
   | inr other ↦ elim (cases_Bool told) [
-    | inl yes ↦ absurd (other (ap number_of (to yes)))
-    | inr no ↦ no ∙ sym (ne_eqb (number_of a) (number_of b) other)
+    | inl passes ↦ absurd (other (ap number_of (to passes)))
+    | inr fails ↦ fails ∙ sym (ne_eqb (number_of a) (number_of b) other)
   ]
 ]
 

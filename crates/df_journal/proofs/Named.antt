@@ -35,10 +35,10 @@ pub record IsRead (sh : Shape) (image : Images) (c : Content) (op : ℕ) (wanted
 pub read_none : (sh : Shape) (image : Images) (c : Content) (layout : Layout) (start : Start) (checksum : List ℕ) → NamesFrom sh c layout start checksum → IsRead sh image c start.head checksum
 read_none sh image c layout start checksum names = record { read = []; known = tt; count = omega (arith, names.pin_is); wants = sym names.checksum_is }
 
-shown_prepare : (x : Option AnyUnit) (r : Result Header Class) (h : Header) → ShowsPrepare x r → r ≡ Ok h → (p : Message) × (x ≡ Some (PrepareUnit p)) × (p.header ≡ header_of h)
+pub shown_prepare : (x : Option AnyUnit) (r : Result Header Class) (h : Header) → ShowsPrepare x r → r ≡ Ok h → (p : Message) × (x ≡ Some (PrepareUnit p)) × (p.header ≡ header_of h)
 shown_prepare x r h shows is = subst (λ (s : Result Header Class). ShowsPrepare x s) is shows
 
-seen_prepare : (x : Option AnyUnit) (r : Result Header Class) (p : Message) → ShowsPrepare x r → x ≡ Some (PrepareUnit p) → (h : Header) × (r ≡ Ok h) × (p.header ≡ header_of h)
+pub seen_prepare : (x : Option AnyUnit) (r : Result Header Class) (p : Message) → ShowsPrepare x r → x ≡ Some (PrepareUnit p) → (h : Header) × (r ≡ Ok h) × (p.header ≡ header_of h)
 seen_prepare x (Ok h) p (q, is, same) shown = let both : Some (PrepareUnit p) ≡ Some (PrepareUnit q) = sym shown ∙ is in let one : p ≡ q = cc in (h, refl, ap (λ (m : Message). m.header) one ∙ same)
 seen_prepare x (Err class) p none shown = let both : None ≡ Some (PrepareUnit p) = sym none ∙ shown in absurd (cc)
 

@@ -498,7 +498,7 @@ module _ (layout : Layout) (cluster : ℕ) (table : List SlotSeen) (image : Unit
       let at_end = chain_end (clients sh) (b.content.op + 1) b.content.op_checksum 0 b.parts.sessions all next bad.chain in
       let op : b.content.op + 1 + length all ≡ b.content.op + 1 + length w.ps + length w.more = omega (arith, size) in
       let fits = fits_same (clients sh) _ _ _ _ _ _ _ _ next.header op (last_checksum-append b.content.op_checksum w.ps w.more) (last_mark-append 0 w.ps w.more) (sessions-append b.parts.sessions w.ps w.more) at_end in
-      let split : AreGroups 0 b.content.op (b.content.op + 1) (w.ps ++ w.more ++ next ∷ []) = subst (λ (l : List Units.Message). AreGroups 0 b.content.op (b.content.op + 1) l) (append_assoc w.ps w.more (next ∷ [])) bad.grouped in
+      let split : AreGroups 0 b.content.op (b.content.op + 1) (w.ps ++ (w.more ++ next ∷ [])) = subst (λ (l : List Units.Message). AreGroups 0 b.content.op (b.content.op + 1) l) (append_assoc w.ps w.more (next ∷ [])) bad.grouped in
       let grouped = groups_split 0 b.content.op (b.content.op + 1) (b.content.op + length w.ps) w.ps (w.more ++ next ∷ []) (omega arith) (λ p there. omega (arith, w.groups p there)) (omega arith) split in
       not_next next (omega (arith, short, starts.pin_near, starts.op_is, starts.slots_are)) (record {
         shown = subst (λ (o : ℕ). image (PreparePlace (o % slots sh)) ≡ Some (PrepareUnit next)) (sym at_end.op_is) (known_here (slots sh) image (b.content.op + 1) b.content.pin_checksum all next rest shown);
