@@ -1,5 +1,5 @@
 -- Groups of prepares, one prepare longer, and of lists that follow one another.
-use Rattle.std.proofs.Common.{◌≡◌, ◌↔◌, inl, inr, ℕ, suc, ◌+◌, ◌<◌, ◌≤◌, List, [], ◌∷◌, ◌++◌, length, refl, sym, ◌∙◌, ap, subst, arith}
+use Rattle.std.proofs.Common.{◌≡◌, ◌↔◌, inl, inr, ℕ, suc, ◌+◌, ◌<◌, List, [], ◌∷◌, ◌++◌, length, refl, sym, subst, arith}
 use Rattle.df_theory.specs.Units.{Header, Message, Session}
 use Rattle.df_theory.specs.Sessions.{noted, sessions_after}
 use Rattle.df_theory.specs.Tails.{AreGroups, Chain, Fits, FitsGroup, In, last_checksum, last_mark}

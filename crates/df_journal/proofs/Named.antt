@@ -1,12 +1,9 @@
 -- The prepares that a superblock names, read down from its head, and up from its checkpoint.
-use Rattle.std.proofs.Common.{◌≡◌, inl, inr, ℕ, suc, ◌+◌, ◌-◌, ◌%◌, ◌<◌, ◌≤◌, List, [], ◌∷◌, ◌++◌, length, take, Option, Some, None, refl, sym, ◌∙◌, ap, subst, arith}
+use Rattle.std.proofs.Common.{◌≡◌, inl, inr, ℕ, suc, ◌+◌, ◌%◌, ◌<◌, ◌≤◌, List, [], ◌∷◌, ◌++◌, length, take, Option, Some, None, refl, sym, ◌∙◌, ap, subst, arith}
 use Rattle.std.specs.Prelude.{Result, Ok, Err}
 use Rattle.std.specs.List.{slice_get}
-use Rattle.std.proofs.lemmas.Option.{slice_get_cases}
-use Rattle.std.proofs.Math.Nat.{mod-lt}
 use Rattle.df_layout.specs.declared.damage.Class.{Class}
 use Rattle.df_layout.specs.declared.layout.Layout.{Layout}
-use Rattle.df_layout.proofs.Laws.{some_slots}
 use Rattle.df_format.specs.declared.header.Header.{Header}
 use Rattle.df_format.specs.Spelling.{IsCheck}
 use Rattle.df_theory.specs.Units

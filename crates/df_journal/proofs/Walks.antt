@@ -1,11 +1,10 @@
 -- The walk along the tail, prepare by prepare.
-use Rattle.std.proofs.Common.{◌≡◌, ◌↔◌, take, ◌-◌, inl, inr, ℕ, suc, ◌+◌, ◌%◌, ◌<◌, ◌^◌, ◌≤◌, List, [], ◌∷◌, ◌++◌, length, Option, Some, None, refl, sym, ◌∙◌, ap, subst, arith, length-append, append_assoc}
-use Rattle.std.specs.Prelude.{◌==◌, nat_lt, if◌then◌else◌, Result, Ok, Err}
+use Rattle.std.proofs.Common.{◌≡◌, ◌↔◌, take, ◌-◌, inl, inr, ℕ, ◌+◌, ◌%◌, ◌<◌, ◌^◌, ◌≤◌, List, [], ◌∷◌, ◌++◌, length, Some, refl, sym, ◌∙◌, ap, subst, arith, length-append, append_assoc}
+use Rattle.std.specs.Prelude.{◌==◌, nat_lt, if◌then◌else◌, Ok}
 use Rattle.std.specs.List.{slice_get}
 use Rattle.std.proofs.lemmas.Bool.{cases_eq, cases_lt, cond-true, cond-false, eq-eqb, ne_eqb}
 use Rattle.std.proofs.lemmas.Option.{slice_get_cases}
 use Rattle.std.proofs.Math.Nat.{mod-lt}
-use Rattle.df_layout.specs.declared.damage.Class.{Class}
 use Rattle.df_layout.specs.declared.layout.Layout.{Layout}
 use Rattle.df_layout.proofs.Laws.{some_slots}
 use Rattle.df_format.specs.declared.header.Header.{Header}
@@ -20,8 +19,8 @@ use Rattle.df_theory.specs.Shape.{Shape, clients, slots}
 use Rattle.df_theory.specs.View.{Checkpoint}
 use Rattle.df_theory.specs.Cases
 use Rattle.df_theory.specs.Cases.{Current, Far, Nothing, Old}
-use Rattle.df_theory.specs.Found.{IsReach, IsTail, slot_behind}
-use Rattle.df_theory.specs.Opens.{AreFitting, AreKnown, IsUnfit}
+use Rattle.df_theory.specs.Found.{IsReach, slot_behind}
+use Rattle.df_theory.specs.Opens.{AreFitting, AreKnown}
 use Rattle.df_theory.proofs.Laws.{chain_append, chain_ops, last_mark-append, sessions-append, in_either, in_single, walk_law}
 use Rattle.df_units.specs.Meaning.{header_of, number_of}
 use Rattle.df_buffers.specs.declared.slots.SlotSeen.{SlotSeen}
@@ -32,7 +31,7 @@ use Rattle.df_journal.specs.declared.reach.Reach.{Reach}
 use Rattle.df_journal.specs.Known.{AllKnown}
 use Rattle.df_journal.specs.Scan.{IsOfVersionOne}
 use Rattle.df_journal.specs.Seen.{IsTaken, decision_on, seen_in}
-use Rattle.df_journal.specs.Shows.{IsTable, ShowsPrepare, ShowsTable}
+use Rattle.df_journal.specs.Shows.{IsTable, ShowsTable}
 use Rattle.df_journal.specs.Tail.{AreNumbered, AreUnstored, BeginsAt, EndsAt, FindsTail, IsNext, IsReached, StartsAt, StopsAt, position_of, tail_to}
 use Rattle.df_journal.proofs.Asks.{noted_is}
 use Rattle.df_journal.proofs.Decisions.{decision_is, shown_unit, taken_alone}

@@ -1,5 +1,5 @@
 -- What is decided of a slot once the head is known.
-use Rattle.std.specs.Prelude.{◌≡◌, ◌==◌, ◌%◌, nat_le, nat_lt, ℕ, Bool, true, false, not, if◌then◌else◌, List, Option, Some, None, Result, Ok, Err}
+use Rattle.std.specs.Prelude.{◌==◌, ◌%◌, nat_le, nat_lt, ℕ, Bool, false, not, if◌then◌else◌, List, Option, Some, Result, Ok, Err}
 use Rattle.df_layout.specs.declared.damage.Class.{Class}
 use Rattle.df_format.specs.declared.header.Header.{Header}
 use Rattle.df_theory.specs.Units.{AnyUnit, HeaderPlace, HeaderUnit, PreparePlace, PrepareUnit, Units}

@@ -1,5 +1,5 @@
 -- One more is shown as it is named, or the next one lacks.
-use Rattle.std.proofs.Common.{◌≡◌, ◌∙◌, sym, ap, subst, ℕ, ◌%◌, ◌+◌, ◌<◌, ◌≤◌, arith}
+use Rattle.std.proofs.Common.{◌≡◌, ◌∙◌, sym, ap, subst, ℕ, ◌%◌, arith}
 use Rattle.df_theory.specs.Shape.{slots}
 use Rattle.df_journal.specs.Scan.{Scan}
 use Rattle.df_journal.proofs.Decisions.{shown_checks}

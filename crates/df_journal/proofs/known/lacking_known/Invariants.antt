@@ -1,5 +1,5 @@
 -- From the op on all are shown as they are named.
-use Rattle.std.proofs.Common.{◌≡◌, ◌-◌, ◌≤◌}
+use Rattle.std.proofs.Common.{◌≤◌}
 use Rattle.df_format.specs.Spelling.{IsCheck}
 use Rattle.df_theory.specs.Shape.{Shape}
 use Rattle.df_theory.specs.Units.{Content, Units}

@@ -1,5 +1,5 @@
 -- Of a file of version 1 the walk ends where the tail does.
-use Rattle.std.proofs.Common.{◌≡◌, ◌≤◌, ◌+◌, arith}
+use Rattle.std.proofs.Common.{arith}
 use Rattle.df_journal.specs.Shows.{TellsRings}
 use Rattle.df_journal.specs.Tail.{BeginsAt, FindsReach}
 use Rattle.df_journal.proofs.Decisions.{rings_of}
