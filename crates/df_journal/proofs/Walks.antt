@@ -209,7 +209,7 @@ walk_begins image sh b layout start checksum sessions starts tail at ahead tail_
     let here : IsWalk layout.clients layout.slots image b end sessions begin sessions = walk_none image sh b layout start checksum sessions starts in
     subst (λ (t : Tail). IsWalk layout.clients layout.slots image b t sessions at ahead) (sym tail_is)
     (subst (λ (p : Position). IsWalk layout.clients layout.slots image b end sessions p ahead) (sym there)
-        (subst (λ (ss : List Session). IsWalk layout.clients layout.slots image b end sessions begin ss) (sym ahead_is) here))
+    (subst (λ (ss : List Session). IsWalk layout.clients layout.slots image b end sessions begin ss) (sym ahead_is) here))
 
 -- what fits by the words of the end fits behind the prepares
 fits_behind : (places : ℕ) (b : Checkpoint) (ps more : List Units.Message) (last : Tail) (sessions : List Session) (k : Units.Header) → ReachesTo b ps more last sessions
@@ -225,33 +225,36 @@ fits_behind places b ps more last sessions k ends =
 walk_more : (places n : ℕ) (image : Units.Units) (b : Checkpoint) (tail : Tail) (kept : List Session) (at : Position) (ahead : List Session) (h : Header) (p : Units.Message) → IsWalk places n image b tail kept at ahead → Cases.Takes n image b.content p → p.header ≡ header_of h
     → h.op ≡ at.last.op + 1 → Fits places (at.last.op + 1) (number_of at.last.checksum) at.last.mark (sessions_of ahead) (header_of h) → FitsGroup at.group at.group_last (at.last.op + 1) (header_of h) → (h.op ≡ b.content.pin → (header_of h).group_last ≤ b.content.pin)
     → (next : IsAhead places n image b tail kept (position_of h) (with_request h.client h.request h.op ahead)) × (0 < length next.more)
-walk_more places n image b tail kept at ahead h p walk taken same op_is fits group pin = (record {
-  ps = w.ps;
-  more = w.more ++ p ∷ [];
-  chain = w.chain;
-  grouped = w.grouped;
-  groups = w.groups;
-  pin_ends = w.pin_ends;
-  takes = w.takes;
-  ends = w.ends;
-  chain_on = chain_append places (b.content.op + 1 + length w.ps) (last_checksum b.content.op_checksum w.ps) (last_mark 0 w.ps) (sessions_after b.parts.sessions w.ps) w.more (p ∷ []) w.chain_on (own_fits, tt);
-  grouped_on = grouped;
-  takes_on = λ q there. elim (in_either q w.more (p ∷ []) there) [ inl old ↦ w.takes_on q old | inr new ↦ subst (λ (m : Units.Message). Cases.Takes n image b.content m) (sym (in_single q p new)) taken ];
-  ends_on = record {
-    op = omega (arith, op_is, w.ends_on.op, length-append w.more (p ∷ []));
-    checksum = sym (ap (λ (k : Units.Header). k.checksum) same) ∙ sym (last_checksum-append (last_checksum b.content.op_checksum w.ps) w.more (p ∷ []));
-    mark = sym (ap (λ (k : Units.Header). k.mark) same) ∙ sym (last_mark-append (last_mark 0 w.ps) w.more (p ∷ []));
-    sessions_are =
-        noted_is h ahead
-        ∙ ap (noted (header_of h)) w.ends_on.sessions_are
-        ∙ ap (λ (k : Units.Header). noted k (sessions_after (sessions_after b.parts.sessions w.ps) w.more)) (sym same)
-        ∙ sym (sessions-append (sessions_after b.parts.sessions w.ps) w.more (p ∷ []));
-  };
-  in_group = λ q there. elim (in_either q w.more (p ∷ []) there) [ inl old ↦ w.in_group q old ∙ sym (goes q old) | inr new ↦ ap (λ (m : Units.Message). m.header.group_last) (in_single q p new) ∙ own_last ];
-  in_pin = pinned;
-  from = omega (arith, op_is, fits.group);
-  next_group = λ q. following q;
-}, omega (arith, length-append w.more (p ∷ [])))
+walk_more places n image b tail kept at ahead h p walk taken same op_is fits group pin = (
+  record {
+    ps = w.ps;
+    more = w.more ++ p ∷ [];
+    chain = w.chain;
+    grouped = w.grouped;
+    groups = w.groups;
+    pin_ends = w.pin_ends;
+    takes = w.takes;
+    ends = w.ends;
+    chain_on = chain_append places (b.content.op + 1 + length w.ps) (last_checksum b.content.op_checksum w.ps) (last_mark 0 w.ps) (sessions_after b.parts.sessions w.ps) w.more (p ∷ []) w.chain_on (own_fits, tt);
+    grouped_on = grouped;
+    takes_on = λ q there. elim (in_either q w.more (p ∷ []) there) [ inl old ↦ w.takes_on q old | inr new ↦ subst (λ (m : Units.Message). Cases.Takes n image b.content m) (sym (in_single q p new)) taken ];
+    ends_on = record {
+      op = omega (arith, op_is, w.ends_on.op, length-append w.more (p ∷ []));
+      checksum = sym (ap (λ (k : Units.Header). k.checksum) same) ∙ sym (last_checksum-append (last_checksum b.content.op_checksum w.ps) w.more (p ∷ []));
+      mark = sym (ap (λ (k : Units.Header). k.mark) same) ∙ sym (last_mark-append (last_mark 0 w.ps) w.more (p ∷ []));
+      sessions_are =
+          noted_is h ahead
+          ∙ ap (noted (header_of h)) w.ends_on.sessions_are
+          ∙ ap (λ (k : Units.Header). noted k (sessions_after (sessions_after b.parts.sessions w.ps) w.more)) (sym same)
+          ∙ sym (sessions-append (sessions_after b.parts.sessions w.ps) w.more (p ∷ []));
+    };
+    in_group = λ q there. elim (in_either q w.more (p ∷ []) there) [ inl old ↦ w.in_group q old ∙ sym (goes q old) | inr new ↦ ap (λ (m : Units.Message). m.header.group_last) (in_single q p new) ∙ own_last ];
+    in_pin = pinned;
+    from = omega (arith, op_is, fits.group);
+    next_group = λ q. following q;
+  },
+  omega (arith, length-append w.more (p ∷ [])),
+)
   where
     w : IsAhead places n image b tail kept at ahead
     w = walk.ahead_is

@@ -106,7 +106,13 @@ fn bound_op(seen: &Result<Header, Class>, boot: u64, top: u64) -> u64
     ensures { result ≡ bound_op boot top seen.now }
 {
     match seen {
-        Ok(header) => { if header.boot != boot || is_cut_off(header, top) { 0 } else { header.op } }
+        Ok(header) => {
+            if header.boot != boot || is_cut_off(header, top) {
+                0
+            } else {
+                header.op
+            }
+        }
         Err(_) => 0,
     }
 }

@@ -24,7 +24,13 @@ fn with_sum(seen: &SlotSeen, checksum: &Check) -> Option<Header>
     ensures { HasSum seen.now checksum.now result }
 {
     match &seen.prepare {
-        Ok(header) => { if header.checksum == *checksum { Some(*header) } else { None } }
+        Ok(header) => {
+            if header.checksum == *checksum {
+                Some(*header)
+            } else {
+                None
+            }
+        }
         Err(_) => None,
     }
 }

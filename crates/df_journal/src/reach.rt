@@ -34,13 +34,7 @@ fn position_of(header: &Header) -> Position
 
 // Whether the prepare with this header, which has the next op, fits there, and so does its group: where it has the op of the head
 // that the superblock names, its group ends with it.
-fn goes_on(
-    head: u64,
-    at: &Position,
-    sessions: &SessionTable,
-    clients: u32,
-    header: &Header,
-) -> bool
+fn goes_on(head: u64, at: &Position, sessions: &SessionTable, clients: u32, header: &Header) -> bool
     requires places { sessions.now.max ≡ clients }
     requires op { header.now.op ≡ at.now.last.op + 1 }
     requires parent { IsCheck header.now.parent }
@@ -78,12 +72,7 @@ fn next(
 }
 
 // Ends the tail where the walk stands, if a group is over there; the sessions of the tail are then those that are ahead.
-fn keep_whole(
-    at: &Position,
-    ahead: &SessionTable,
-    tail: &mut Tail,
-    sessions: &mut SessionTable,
-)
+fn keep_whole(at: &Position, ahead: &SessionTable, tail: &mut Tail, sessions: &mut SessionTable)
     ensures over { at.now.group_last ≤ at.now.last.op → (tail.new ≡ at.now.last) × (sessions.new ≡ ahead.now) }
     ensures open { at.now.last.op < at.now.group_last → (tail.new ≡ tail.old) × (sessions.new ≡ sessions.old) }
 {

@@ -66,7 +66,11 @@ pub(crate) fn grouped_header(op: u64, boot: u8, is_paired: bool, parent: Check) 
     ensures own { (layout : AnyLayout) → layout.slots ≡ 32 → IsSome (own_place layout Zone.WalPrepares result) }
 {
     let first = if op % 2 == 0 { op - 1 } else { op };
-    let (group, group_last) = if is_paired { (first, first + 1) } else { (op, op) };
+    let (group, group_last) = if is_paired {
+        (first, first + 1)
+    } else {
+        (op, op)
+    };
     let is_second = boot > 0;
     Header {
         checksum_body: check(&[]),

@@ -67,13 +67,15 @@ fn write(
     );
     let unit = room.make(grouped_header(op, boot, is_paired, parent), &[]);
     match left {
-        Left::All | Left::Header => append(disk, layout, &unit, &mut tables.shown, &mut sector).expect(
-            rt,
-            "an append",
-        ),
+        Left::All | Left::Header => append(
+            disk,
+            layout,
+            &unit,
+            &mut tables.shown,
+            &mut sector,
+        ).expect(rt, "an append"),
         Left::Prepare | Left::Nothing => put(disk, layout, &unit, &mut tables.unshown).expect(
-            rt,
-            "a put",
+            rt, "a put",
         ),
     }
     match left {
@@ -316,10 +318,46 @@ fn assert_row(rt: &impl Abort, alloc: Global, row: &Row, start: &Start)
     };
     let mut sector = Raw::reserve(alloc, &layout).expect(rt, "memory of a sector");
     write_ring(&mut disk, &layout, &tables.shown, &mut sector).expect(rt, "a new ring");
-    let five = write(&mut disk, &layout, &mut tables, rt, alloc, 5, &written[0], BASE);
-    let six = write(&mut disk, &layout, &mut tables, rt, alloc, 6, &written[1], five);
-    let seven = write(&mut disk, &layout, &mut tables, rt, alloc, 7, &written[2], six);
-    write(&mut disk, &layout, &mut tables, rt, alloc, 8, &written[3], seven);
+    let five = write(
+        &mut disk,
+        &layout,
+        &mut tables,
+        rt,
+        alloc,
+        5,
+        &written[0],
+        BASE,
+    );
+    let six = write(
+        &mut disk,
+        &layout,
+        &mut tables,
+        rt,
+        alloc,
+        6,
+        &written[1],
+        five,
+    );
+    let seven = write(
+        &mut disk,
+        &layout,
+        &mut tables,
+        rt,
+        alloc,
+        7,
+        &written[2],
+        six,
+    );
+    write(
+        &mut disk,
+        &layout,
+        &mut tables,
+        rt,
+        alloc,
+        8,
+        &written[3],
+        seven,
+    );
     let head = match start.head {
         5 => five,
         6 => six,
@@ -328,7 +366,10 @@ fn assert_row(rt: &impl Abort, alloc: Global, row: &Row, start: &Start)
     let (lacking, reach, lost, decided) = found(rt, alloc, &mut disk, &layout, start, base, &head);
     let (wanted_lacking, wanted_reach, wanted_lost, wanted_decided) = answer;
     assert!(rt; lacking == *wanted_lacking, "{name}");
-    assert!(rt; (reach.0, reach.1, lost) == (wanted_reach.0, wanted_reach.1, *wanted_lost), "{name}");
+    assert!(rt;
+        (reach.0, reach.1, lost) == (wanted_reach.0, wanted_reach.1, *wanted_lost),
+        "{name}"
+    );
     assert!(rt; decided == *wanted_decided, "{name}");
 }
 
@@ -343,10 +384,7 @@ fn named_prepares_and_groups_are_found(rt: HostRuntime) {
     for row in &ROWS {
         assert_row(&rt, rt.alloc(), row, &start);
     }
-    let within = Start {
-        head: 5,
-        ..start
-    };
+    let within = Start { head: 5, ..start };
     assert_row(&rt, rt.alloc(), &WITHIN, &within);
 }
 

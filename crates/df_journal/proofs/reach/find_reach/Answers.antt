@@ -52,7 +52,7 @@ loop-at-preserved c =
     let over = c.keep_whole.ensures.over in
     let open_yet = c.keep_whole.ensures.open in
     let either = λ (Q : Tail → Table → Type 0) (old : Q c.loop-at.tail c.loop-at.sessions) (new : Q c.position_of-at.result.last c.apply.new.self).
-        either_kept Q c.loop-at.tail c.keep_whole.new.tail c.loop-at.sessions c.keep_whole.new.sessions c.apply.new.self c.position_of-at.result old new over open_yet in
+    either_kept Q c.loop-at.tail c.keep_whole.new.tail c.loop-at.sessions c.keep_whole.new.sessions c.apply.new.self c.position_of-at.result old new over open_yet in
     record {
       from = either (λ t s. c.args.found.now.start.op ≤ t.op) inv.from (omega (arith, op, inv.from, inv.order));
       order = either (λ t s. t.op ≤ c.position_of-at.result.last.op) (omega (arith, op, inv.order)) (omega arith);

@@ -19,8 +19,8 @@ goes_on-requires-clause-group c =
 pub returns-in_err-header-clause-next : goal.returns-in_err-header-clause-next
 returns-in_err-header-clause-next c =
     rw c.from_residual.ensures (λ h next.
-        not_taken c.args.start.now (c.args.at.now.last.op + 1) c.args.found.now.slots ((c.args.at.now.last.op + 1) % c.from.result) ((c.args.at.now.last.op + 1) % c.args.layout.now.slots) c.seen-seen.result next.seen h
-        (ap (λ (n : ℕ). (c.args.at.now.last.op + 1) % n) c.from.ensures) c.seen-seen.ensures next.there c.in_err-header.ensures next.taken)
+    not_taken c.args.start.now (c.args.at.now.last.op + 1) c.args.found.now.slots ((c.args.at.now.last.op + 1) % c.from.result) ((c.args.at.now.last.op + 1) % c.args.layout.now.slots) c.seen-seen.result next.seen h
+    (ap (λ (n : ℕ). (c.args.at.now.last.op + 1) % n) c.from.ensures) c.seen-seen.ensures next.there c.in_err-header.ensures next.taken)
 
 pub returns-then-goes_on-clause-sound : goal.returns-then-goes_on-clause-sound
 returns-then-goes_on-clause-sound c =

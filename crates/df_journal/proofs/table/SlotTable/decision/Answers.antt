@@ -20,5 +20,5 @@ returns c =
     subst (λ (n : ℕ). IsOpOf (length scan.slots) n c.args.slot c.op_of-op.result) op (subst (λ (n : ℕ). IsOpOf n c.self.inside.start.op c.args.slot c.op_of-op.result) same slot) in
     let boot : c.self.inside.start.boot ≡ scan.start.boot = ap (λ (s : Scan). s.start.boot) c.self.view_is in
     let given = λ (layout : Layout) (image : Units) (o : ℕ) (tells : TellsRings layout image scan) (of : IsOpOf layout.slots scan.start.op c.args.slot o).
-        decided_slot layout image scan c.args.slot c.op_of-op.result o c.seen.result (decision_of c.decision_on.result) tells c.seen.ensures own (λ checks. c.decision_on.ensures checks ∙ ap (λ (b : ℕ). decision_on b c.op_of-op.result c.seen.result) boot) of in
+    decided_slot layout image scan c.args.slot c.op_of-op.result o c.seen.result (decision_of c.decision_on.result) tells c.seen.ensures own (λ checks. c.decision_on.ensures checks ∙ ap (λ (b : ℕ). decision_on b c.op_of-op.result c.seen.result) boot) of in
     record { model = λ layout image o tells of. given layout image o (rings_of layout image scan tells) of; rings = given }
