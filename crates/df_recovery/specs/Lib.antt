@@ -5,6 +5,7 @@ pub mod Checkpoints
 pub mod Waiting
 pub mod Surveys
 pub mod Starting
+pub mod Known
 pub mod SurveyLaws
 pub mod Scanning
 pub mod Finding

@@ -4,6 +4,7 @@
 mod answers;
 mod checkpoint;
 mod finding;
+mod known;
 mod opening;
 mod planning;
 mod scanned;
@@ -17,7 +18,7 @@ pub use answers::{one_answer, one_refusal_is_given, super_is_written};
 pub use df_model::OpenError;
 pub use df_rooms::{DataFile, LogRooms, Parts, Rooms, RunningCheckpoint, rooms_of};
 pub use finding::{Traces, file_is_read, find_state, found_is_answer, state_is_opened};
-pub use opening::{probe, read_superblock, survey_superblock};
+pub use opening::{probe, probe_version, read_superblock, survey_superblock};
 pub use planning::plan;
 pub use scanned::Scanned;
 pub use scanning::{Copies, scan_file};

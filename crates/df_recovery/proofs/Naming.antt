@@ -1,0 +1,81 @@
+-- What a superblock of either version names: how the search for named prepares and the walk behind its checkpoint begin, and which of them is blamed.
+use Rattle.std.proofs.Common.{inl, inr, ◌≡◌, ◌≢◌, ℕ, ◌+◌, ◌<◌, ◌≤◌, ◌%◌, List, length, refl, sym, ◌∙◌, ap, subst, arith}
+use Rattle.std.proofs.lemmas.Bool.{cases_eq}
+use Rattle.df_layout.specs.declared.layout.Layout.{Layout}
+use Rattle.df_format.specs.Copies.{content_with}
+use Rattle.df_format.specs.SuperRules.{IsSuper}
+use Rattle.df_format.specs.declared.superblock.SuperFields.{SuperFields}
+use Rattle.df_sessions.specs.declared.session.Session.{Session}
+use Rattle.df_theory.specs.Units.{Content, Units}
+use Rattle.df_theory.specs.Shape.{Shape, slots}
+use Rattle.df_theory.specs.Opens.{LacksKnown}
+use Rattle.df_theory.specs.View.{Checkpoint}
+use Rattle.df_units.specs.Meaning.{content_of, number_of, pin_checksum_of, pin_of}
+use Rattle.df_units.proofs.Laws.{by_other, by_second}
+use Rattle.df_journal.specs.Known.{NamesFrom}
+use Rattle.df_journal.specs.Tail.{BeginsAt, StopsAt}
+use Rattle.df_journal.specs.declared.table.Start.{Start}
+use Rattle.df_recovery.specs.Known.{BlamesKnown, IsBaseOf}
+use Rattle.df_recovery.specs.Starting.{start_of}
+
+-- the prepares up to the pin: those of the checkpoint, or in version 2 those up to the head
+pub pin_from : (f : SuperFields) → IsSuper f → f.op ≤ pin_of f
+pin_from f rules = elim (cases_eq f.version 2) [
+  | inl second ↦ omega (arith, by_second f f.head f.op second, rules.head.0)
+  | inr other ↦ omega (arith, by_other f f.head f.op other)
+]
+
+pub pin_near : (f : SuperFields) → IsSuper f → pin_of f ≤ f.op + f.slots
+pin_near f rules = elim (cases_eq f.version 2) [
+  | inl second ↦ omega (arith, by_second f f.head f.op second, rules.head.1)
+  | inr other ↦ omega (arith, by_other f f.head f.op other)
+]
+
+-- where it names none behind the checkpoint, its last one is the checkpoint's
+pub pin_checksum : (f : SuperFields) → IsSuper f → pin_of f ≡ f.op → pin_checksum_of f ≡ f.op_checksum
+pin_checksum f rules level = elim rules.version [
+  | inl first ↦ by_other f f.head_checksum f.op_checksum (λ second. omega (arith, second, first.version))
+  | inr second ↦ by_second f f.head_checksum f.op_checksum second.version ∙ second.head_is_op (sym (by_second f f.head f.op second.version) ∙ level)
+]
+
+module _ (sh : Shape) (b : Checkpoint) (layout : Layout) (f : SuperFields) (start : Start) (sessions : List Session) (is : IsBaseOf sh b layout f sessions) (from : start ≡ start_of f) (rules : IsSuper f) (size : f.slots ≡ layout.slots) where
+  pin_is : b.content.pin ≡ start.head
+  pin_is = ap (λ (c : Content). c.pin) is.content_is ∙ sym (ap (λ (x : Start). x.head) from)
+
+  op_is : b.content.op ≡ start.op
+  op_is = ap (λ (c : Content). c.op) is.content_is ∙ sym (ap (λ (x : Start). x.op) from)
+
+  pub names_from : (checksum : List ℕ) → checksum ≡ pin_checksum_of f → NamesFrom sh b.content layout start checksum
+  names_from checksum same = record {
+    slots_are = is.slots_are;
+    op_is = op_is;
+    pin_is = pin_is;
+    from = omega (arith, ap (λ (c : Content). c.op) is.content_is, ap (λ (c : Content). c.pin) is.content_is, pin_from f rules);
+    checksum_is = ap (λ (c : Content). c.pin_checksum) is.content_is ∙ ap number_of (sym same);
+  }
+
+  pub begins_at : BeginsAt sh b layout start f.op_checksum sessions
+  begins_at = record {
+    slots_are = is.slots_are;
+    clients_are = is.clients_are;
+    op_is = op_is;
+    checksum_is = ap (λ (c : Content). c.op_checksum) is.content_is;
+    boot = ap (λ (c : Content). c.boot) is.content_is ∙ sym (ap (λ (x : Start). x.boot) from);
+    pin = pin_is;
+    pin_near = omega (arith, ap (λ (c : Content). c.op) is.content_is, ap (λ (c : Content). c.pin) is.content_is, pin_near f rules, size, is.slots_are);
+    pin_checksum = λ level.
+        ap (λ (c : Content). c.pin_checksum) is.content_is
+        ∙ ap number_of (pin_checksum f rules (sym (ap (λ (c : Content). c.pin) is.content_is) ∙ level ∙ ap (λ (c : Content). c.op) is.content_is))
+        ∙ sym (ap (λ (c : Content). c.op_checksum) is.content_is);
+    sessions_are = is.sessions_are;
+  }
+
+  -- the slot of an op, by the layout and by the shape
+  slot_same : (op slot : ℕ) → slot ≡ op % layout.slots → slot ≡ op % slots sh
+  slot_same op slot at = at ∙ ap (λ (n : ℕ). op % n) (sym is.slots_are)
+
+  pub blames_unfit : (image : Units) (op slot : ℕ) → slot ≡ (op + 1) % layout.slots → StopsAt sh image b op → BlamesKnown sh image b slot
+  blames_unfit image op slot at stops = inr (stops.front, slot_same (op + 1) slot at ∙ ap (λ (o : ℕ). (o + 1) % slots sh) stops.op_is, stops.unfit)
+
+  pub blames_lacking : (image : Units) (op slot : ℕ) → slot ≡ op % layout.slots → LacksKnown sh image b.content op → BlamesKnown sh image b slot
+  blames_lacking image op slot at lacks = inl (op, slot_same op slot at, lacks)
