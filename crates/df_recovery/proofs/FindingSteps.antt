@@ -1,7 +1,9 @@
 -- Each step of what an open finds is the theory's.
-use Rattle.std.proofs.Common.{inl, inr, ◌≡◌, ◌↔◌, ℕ, ◌+◌, ◌<◌, ◌≤◌, ◌%◌, ◌^◌, List, [], length, Some, refl, sym, ◌∙◌, ap, subst, arith}
+use Rattle.std.proofs.Common.{inl, inr, ◌≡◌, ◌≢◌, ◌↔◌, ℕ, ◌+◌, ◌<◌, ◌≤◌, ◌%◌, ◌^◌, List, [], length, Some, refl, sym, ◌∙◌, ap, subst, arith}
 use Rattle.std.specs.Prelude.{Result}
 use Rattle.std.specs.List.{slice_get}
+use Rattle.std.proofs.lemmas.Bool.{cases_lt}
+use Rattle.df_disk.specs.Told.{Told}
 use Rattle.df_layout.specs.declared.damage.Class.{Class}
 use Rattle.df_layout.specs.declared.layout.Layout.{Layout}
 use Rattle.df_format.specs.Copies.{content_with}
@@ -18,6 +20,7 @@ use Rattle.df_theory.specs.Opens.{Behind, BootSpent as NoBoot, Damaged as Damage
 use Rattle.df_theory.specs.Sessions.{sessions_after}
 use Rattle.df_theory.specs.Shape.{Shape, slots}
 use Rattle.df_theory.specs.View.{Checkpoint, View}
+use Rattle.df_model.specs.declared.errors.OpenError.{OpenError}
 use Rattle.df_units.specs.Meaning.{content_of}
 use Rattle.df_journal.specs.Counts.{CountsAll, CountsBound, CountsReplies, CountsRings, RepliesWithin, RingsWithin, in_boot}
 use Rattle.df_journal.specs.declared.reach.Reach.{Reach}
@@ -25,7 +28,8 @@ use Rattle.df_journal.specs.Tail.{IsReached}
 use Rattle.df_journal.specs.declared.tail.Tail.{Tail}
 use Rattle.df_replies.specs.Answers.{AllAnswered, StoredAreFound, stored_by}
 use Rattle.df_replies.specs.Shown.{ShowsReplies}
-use Rattle.df_recovery.specs.Finding.{FindsView, IsReadFrom, Read, lowest_of}
+use Rattle.df_recovery.specs.Finding.{EachOpens, FindsView, IsReadFrom, IsRefused, IsScannedFrom, Read, damage, lowest_of}
+use Rattle.df_recovery.specs.Surveys.{class_there}
 use Rattle.df_recovery.specs.Known.{BlamesKnown, IsBaseOf}
 
 -- ---- the counters
@@ -57,6 +61,10 @@ counts_replies boot image rings seen none top n = (
 
 -- ---- the steps
 
+-- the refusal that names a place
+pub at_place : (read : Read) (at : Units.Place) (class : Class) (e : OpenError) → e ≡ damage at class → EachOpens read (Damages at) → ((t : Told) → IsScannedFrom t read → class ≡ class_there read.layout read.slots.start.cluster t.shown at) → IsRefused read e
+at_place read at class e is opens class_is = subst (IsRefused read) (sym is) (record { at = at; place_is = refl; opens = opens; class_is = class_is })
+
 -- the slot of an op, by the layout and by the shape
 slot_same : (sh : Shape) (layout : Layout) (op slot : ℕ) → slots sh ≡ layout.slots → slot ≡ op % layout.slots → slot ≡ op % slots sh
 slot_same sh layout op slot same at = at ∙ ap (λ (n : ℕ). op % n) (sym same)
@@ -68,6 +76,12 @@ module _ (sh : Shape) (image : Units.Units) (b : Checkpoint) (read : Read) (is :
 
   pub boot_is : (fields : SuperFields) → fields ≡ read.found.content → b.content.boot ≡ fields.boot
   boot_is fields same = ap (λ (c : Content). c.boot) (content_same fields same)
+
+  -- a boot that isn't the greatest is below it
+  pub below_spent : (fields : SuperFields) → fields ≡ read.found.content → fields.boot ≢ 2 ^ 62 → b.content.boot < 2 ^ 62
+  below_spent fields same other =
+      let most = is.readable.sound.tests.boot in
+      elim (cases_lt b.content.boot (2 ^ 62)) [ inl less ↦ less | inr from ↦ absurd (other (omega (arith, most, from, boot_is fields same))) ]
 
   pub is_base : (fields : SuperFields) → fields ≡ read.found.content → IsBaseOf sh b read.layout fields read.sessions
   is_base fields same = record { slots_are = is.slots_are; clients_are = is.clients_are; content_is = content_same fields same; sessions_are = is.sessions_are }

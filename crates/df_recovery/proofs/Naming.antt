@@ -1,5 +1,6 @@
 -- What a superblock of either version names: how the search for named prepares and the walk behind its checkpoint begin, and which of them is blamed.
 use Rattle.std.proofs.Common.{inl, inr, ◌≡◌, ◌≢◌, ℕ, ◌+◌, ◌<◌, ◌≤◌, ◌%◌, List, length, refl, sym, ◌∙◌, ap, subst, arith}
+use Rattle.std.specs.Prelude.{Result, Ok, Err, IfErr, IfOk}
 use Rattle.std.proofs.lemmas.Bool.{cases_eq}
 use Rattle.df_layout.specs.declared.layout.Layout.{Layout}
 use Rattle.df_format.specs.Copies.{content_with}
@@ -12,8 +13,11 @@ use Rattle.df_theory.specs.Opens.{LacksKnown}
 use Rattle.df_theory.specs.View.{Checkpoint}
 use Rattle.df_units.specs.Meaning.{content_of, number_of, pin_checksum_of, pin_of}
 use Rattle.df_units.proofs.Laws.{by_other, by_second}
-use Rattle.df_journal.specs.Known.{NamesFrom}
-use Rattle.df_journal.specs.Tail.{BeginsAt, StopsAt}
+use Rattle.df_journal.specs.Known.{AllKnown, NamesFrom}
+use Rattle.df_journal.specs.Scan.{Scan}
+use Rattle.df_journal.specs.Shows.{TellsRings}
+use Rattle.df_journal.specs.Tail.{BeginsAt, IsReached, StopsAt}
+use Rattle.df_journal.specs.declared.reach.Reach.{Reach}
 use Rattle.df_journal.specs.declared.table.Start.{Start}
 use Rattle.df_recovery.specs.Known.{BlamesKnown, IsBaseOf}
 use Rattle.df_recovery.specs.Starting.{start_of}
@@ -79,3 +83,25 @@ module _ (sh : Shape) (b : Checkpoint) (layout : Layout) (f : SuperFields) (star
 
   pub blames_lacking : (image : Units) (op slot : ℕ) → slot ≡ op % layout.slots → LacksKnown sh image b.content op → BlamesKnown sh image b slot
   blames_lacking image op slot at lacks = inl (op, slot_same op slot at, lacks)
+
+-- the greatest op that the content names is that of the fields
+pub content_pin : (sh : Shape) (b : Checkpoint) (layout : Layout) (f : SuperFields) (sessions : List Session) → IsBaseOf sh b layout f sessions → b.content.pin ≡ pin_of f
+content_pin sh b layout f sessions is = ap (λ (c : Content). c.pin) is.content_is
+
+-- ---- where each named prepare is shown
+
+module _ (layout : Layout) (scan : Scan) (f : SuperFields) (old new : List Session) where
+  abbrev AreShown : Type 0
+  AreShown = (sh : Shape) (image : Units) (b : Checkpoint) → TellsRings layout image scan → IsBaseOf sh b layout f old → AllKnown sh image b.content
+
+  pub all_known : (result : Result Reach ℕ) → AreShown
+      → IfOk result (λ reach. (sh : Shape) (image : Units) (b : Checkpoint) → TellsRings layout image scan → IsBaseOf sh b layout f old → AllKnown sh image b.content → IsReached sh image b reach new)
+      → IfOk result (λ reach. (sh : Shape) (image : Units) (b : Checkpoint) → TellsRings layout image scan → IsBaseOf sh b layout f old → IsReached sh image b reach new)
+  all_known (Ok reach) shown is = λ sh image b tells of. is sh image b tells of (shown sh image b tells of)
+  all_known (Err slot) shown is = is
+
+  pub none_lacking : (result : Result Reach ℕ) → AreShown
+      → IfErr result (λ slot. (sh : Shape) (image : Units) (b : Checkpoint) → TellsRings layout image scan → IsBaseOf sh b layout f old → AllKnown sh image b.content → BlamesKnown sh image b slot)
+      → IfErr result (λ slot. (sh : Shape) (image : Units) (b : Checkpoint) → TellsRings layout image scan → IsBaseOf sh b layout f old → BlamesKnown sh image b slot)
+  none_lacking (Ok reach) shown is = is
+  none_lacking (Err slot) shown is = λ sh image b tells of. is sh image b tells of (shown sh image b tells of)

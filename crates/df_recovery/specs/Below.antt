@@ -3,7 +3,8 @@ pub use Rattle.df_format.specs.Spelling.{no_checksum}
 pub use Rattle.df_format.specs.SuperRules.{fault_of}
 pub use Rattle.df_theory.specs.Sessions.{Tracks}
 pub use Rattle.df_theory.specs.Units.{CopyPlace, PreparePlace, ReplyPlace}
-pub use Rattle.df_theory.specs.View.{View}
+pub use Rattle.df_theory.specs.View.{Checkpoint, View}
+pub use Rattle.df_units.specs.Meaning.{pin_checksum_of, pin_of}
 pub use Rattle.df_model.specs.Faults.{is_open_fault}
 pub use Rattle.df_replies.specs.Shown.{ShowsReplies}
 pub use Rattle.df_superblock.specs.Calls.{ShowsCopies, ShowsSlots}

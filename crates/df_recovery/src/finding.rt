@@ -94,7 +94,7 @@ fn bound_of(seen: &Counters, slots: &SlotTable, boot: u64, head: u64) -> Counter
     }
 }
 
-// The greatest boot; a superblock that has it can't be told apart from a later one.
+// The greatest boot, above which none can be raised.
 const GREATEST_BOOT: u64 = 1 << 62;
 
 /// The state behind the checkpoint of a superblock, which the table of slots and the replies show; the sessions, at first
@@ -149,16 +149,19 @@ pub fn find_state(
         return Err(lost_damage(slots, slot_of(layout, reach.op + 1)));
     }
     let stored = replies.replies(content.replies, tail.mark, content.boot);
-    if let Some(lacking) = replies.first_lacking(sessions, stored, content) {
-        return Err(reply_damage(&lacking));
+    match replies.first_lacking(sessions, stored, content) {
+        Some(lacking) => Err(reply_damage(&lacking)),
+        None => {
+            if content.boot == GREATEST_BOOT {
+                Err(OpenError::BootSpent)
+            } else {
+                Ok(Traces {
+                    tail,
+                    replies: stored,
+                })
+            }
+        }
     }
-    if content.boot == GREATEST_BOOT {
-        return Err(OpenError::BootSpent);
-    }
-    Ok(Traces {
-        tail,
-        replies: stored,
-    })
 }
 
 /// What a state keeps of the view that an open finds stands for what the machine begins with.

@@ -6,6 +6,7 @@ ghost use Rattle.df_recovery.specs.Starting.{start_of};
 ghost use Rattle.df_recovery.specs.Scanning.{AreCopies, IsCheckpoint, IsFileOf, IsReadBehind, IsScanAs, IsServed, IsUnserved, RefusesBase, TellsReadAs, found_in, without_rooms};
 
 use crate::checkpoint::{Checkpoint, Unread, read_checkpoint};
+use crate::known::pin_of;
 use crate::superblock::superblock_of;
 use crate::zones::scan_zones;
 use crate::{Found, OpenError, Scanned};
@@ -99,19 +100,14 @@ fn find_served<D: Disk>(
     }
 }
 
-// Where the scan of a file starts: version 2 alone names prepares above its checkpoint's, up to its head.
+// Where the scan of a file starts.
 fn start_of(fields: &SuperFields) -> Start
     ensures { result ≡ start_of fields.now }
 {
-    let head = if fields.version == 2 {
-        fields.head
-    } else {
-        fields.op
-    };
     Start {
         cluster: fields.cluster,
         op: fields.op,
-        head,
+        head: pin_of(fields),
         boot: fields.boot,
     }
 }

@@ -11,7 +11,7 @@ mod files;
 #[cfg(test)]
 mod headers;
 #[cfg(test)]
-mod named;
+mod recorded;
 #[cfg(test)]
 mod replies;
 #[cfg(test)]
