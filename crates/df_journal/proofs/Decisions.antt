@@ -1,9 +1,7 @@
 -- What the table decides of a slot is what the theory decides of the image.
 use Rattle.std.proofs.Common.{◌≡◌, ◌==◌, inl, inr, ℕ, ◌%◌, ◌<◌, ◌^◌, ◌≤◌, length, List, Option, Some, sym, ◌∙◌, ap, subst, arith}
-use Rattle.std.specs.Prelude.{Result, Ok, Err, Bool, not, nat_le, nat_lt, if◌then◌else◌}
+use Rattle.std.specs.Prelude.{Result, Ok, Err, Bool, true, not, nat_le, nat_lt, if◌then◌else◌}
 use Rattle.std.specs.List.{slice_get}
-use Rattle.core.specs.Str.{bytes_eq}
-use Rattle.std.proofs.lemmas.Slice.Eq.{bytes_eq-Decides}
 use Rattle.std.proofs.lemmas.Bool.{cases_Bool, cases_eq, cond-true, cond-false, eq-eqb, ne_eqb}
 use Rattle.df_base.proofs.Laws.{length-check_of, AreBytes-check_of}
 use Rattle.df_layout.specs.declared.damage.Class.{Class}
@@ -140,11 +138,12 @@ decided_slot layout image scan slot op o seen d tells at own is of =
 
 -- ---- and once the head is known
 
-pub same_sums : (a b : List ℕ) → IsCheck a → IsCheck b → bytes_eq a b ≡ (number_of a == number_of b)
-same_sums a b one two = elim (cases_eq (number_of a) (number_of b)) [
-  | inl same ↦ (bytes_eq-Decides a b).1 (one_number a b one two same) ∙ sym (eq-eqb (number_of a) (number_of b) same)
-  | inr other ↦ elim (cases_Bool (bytes_eq a b)) [
-    | inl yes ↦ absurd (other (ap number_of ((bytes_eq-Decides a b).0 yes)))
+-- what tells two checksums apart tells their numbers apart
+pub same_sums : (a b : List ℕ) (told : Bool) → (told ≡ true → a ≡ b) → (a ≡ b → told ≡ true) → IsCheck a → IsCheck b → told ≡ (number_of a == number_of b)
+same_sums a b told to from one two = elim (cases_eq (number_of a) (number_of b)) [
+  | inl same ↦ from (one_number a b one two same) ∙ sym (eq-eqb (number_of a) (number_of b) same)
+  | inr other ↦ elim (cases_Bool told) [
+    | inl yes ↦ absurd (other (ap number_of (to yes)))
     | inr no ↦ no ∙ sym (ne_eqb (number_of a) (number_of b) other)
   ]
 ]

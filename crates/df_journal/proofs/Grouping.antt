@@ -35,7 +35,7 @@ groups_split f l op low (p ∷ ps) qs ends each below groups =
 pub groups_next : (f l op : ℕ) (xs : List Message) (p q : Message) → AreGroups f l op (xs ++ p ∷ []) → FitsGroup p.header.group p.header.group_last (op + length xs + 1) q.header ↔ AreGroups f l op ((xs ++ p ∷ []) ++ q ∷ [])
 groups_next f l op [] p q groups =
     let same : op + 0 + 1 ≡ op + 1 = omega arith in (
-      λ fits. (groups.0, subst (λ (n : ℕ). FitsGroup p.header.group p.header.group_last n q.header) same fits, tt),
+      λ fits. (groups.0, (subst (λ (n : ℕ). FitsGroup p.header.group p.header.group_last n q.header) same fits, tt)),
       λ all. subst (λ (n : ℕ). FitsGroup p.header.group p.header.group_last n q.header) (sym same) all.1.0,
     )
 groups_next f l op (x ∷ xs) p q groups =

@@ -161,7 +161,7 @@ pub record IsWalk (places n : ℕ) (image : Units.Units) (b : Checkpoint) (tail 
   pub closed : length ahead_is.more ≡ 0 → at.group_last ≡ at.last.op
   pub opened : 0 < length ahead_is.more → at.last.op < at.group_last
 
-pub walk_none : (image : Units.Units) (sh : Shape) (b : Checkpoint) (layout : Layout) (start : Start) (checksum : List ℕ) (sessions : List Session) → BeginsAt sh b layout start checksum sessions
+walk_none : (image : Units.Units) (sh : Shape) (b : Checkpoint) (layout : Layout) (start : Start) (checksum : List ℕ) (sessions : List Session) → BeginsAt sh b layout start checksum sessions
     → IsWalk layout.clients layout.slots image b (record { op = start.op; checksum = checksum; mark = 0 }) sessions (record { last = record { op = start.op; checksum = checksum; mark = 0 }; group = 0; group_last = start.op }) sessions
 walk_none image sh b layout start checksum sessions starts = record {
   ahead_is = record {
@@ -193,6 +193,18 @@ walk_none image sh b layout start checksum sessions starts = record {
           λ fits. (subst (λ (l : ℕ). FitsGroup 0 l (b.content.op + 1 + 0) h) last (subst (λ (o : ℕ). FitsGroup 0 start.op o h) next fits), tt),
           λ fits. subst (λ (l : ℕ). FitsGroup 0 l (start.op + 1) h) (sym last) (subst (λ (o : ℕ). FitsGroup 0 (b.content.op + 0) o h) (sym next) fits.0),
         )
+
+-- the same by what the loop begins with
+pub walk_begins : (image : Units.Units) (sh : Shape) (b : Checkpoint) (layout : Layout) (start : Start) (checksum : List ℕ) (sessions : List Session) → BeginsAt sh b layout start checksum sessions → (tail : Tail) (at : Position) (ahead : List Session)
+    → tail ≡ record { op = start.op; checksum = checksum; mark = 0 } → at ≡ record { last = tail; group = 0; group_last = tail.op } → ahead ≡ sessions → IsWalk layout.clients layout.slots image b tail sessions at ahead
+walk_begins image sh b layout start checksum sessions starts tail at ahead tail_is at_is ahead_is =
+    let end : Tail = record { op = start.op; checksum = checksum; mark = 0 } in
+    let begin : Position = record { last = end; group = 0; group_last = start.op } in
+    let there : at ≡ begin = at_is ∙ (λ i. record { last = tail_is i; group = 0; group_last = (tail_is i).op }) in
+    let here : IsWalk layout.clients layout.slots image b end sessions begin sessions = walk_none image sh b layout start checksum sessions starts in
+    subst (λ (t : Tail). IsWalk layout.clients layout.slots image b t sessions at ahead) (sym tail_is)
+    (subst (λ (p : Position). IsWalk layout.clients layout.slots image b end sessions p ahead) (sym there)
+        (subst (λ (ss : List Session). IsWalk layout.clients layout.slots image b end sessions begin ss) (sym ahead_is) here))
 
 -- what fits by the words of the end fits behind the prepares
 fits_behind : (places : ℕ) (b : Checkpoint) (ps more : List Units.Message) (last : Tail) (sessions : List Session) (k : Units.Header) → ReachesTo b ps more last sessions

@@ -43,7 +43,7 @@ fn append_next(
 }
 
 // Writes both sectors of the header ring.
-fn write_ring(
+pub(crate) fn write_ring(
     disk: &mut MemoryDisk,
     layout: &Layout,
     table: &HeaderTable,
