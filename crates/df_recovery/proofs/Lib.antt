@@ -20,4 +20,5 @@ pub mod Naming
 pub mod OneSurvey
 pub mod Waits
 pub mod Scans
+pub mod Settled
 pub mod Laws

@@ -18,7 +18,7 @@ use Rattle.df_cases.specs.declared.cases.Decision.TheVariants.{Behind, Empty, Lo
 use Rattle.df_theory.specs.Units
 use Rattle.df_theory.specs.Units.{AnyUnit, BlockUnit, CopyUnit, HeaderPlace, HeaderUnit, Message, PreparePlace, PrepareUnit, ReplyUnit}
 use Rattle.df_theory.specs.Cases
-use Rattle.df_theory.specs.Cases.{IsNow, SaysOfSlot, cut, decided, decision, is_nothing, seen_header}
+use Rattle.df_theory.specs.Cases.{IsNow, SaysOfSlot, cut, decision, is_nothing, seen_header}
 use Rattle.df_theory.specs.MendLaws.{IsFromSlot, IsSlotHeader, IsTable}
 use Rattle.df_theory.specs.Shape.{Shape, clients, slots}
 use Rattle.df_theory.specs.Tails.{Chain, In}

@@ -10,4 +10,5 @@ pub mod SurveyLaws
 pub mod Scanning
 pub mod Finding
 pub mod Plan
+pub mod Surveying
 pub mod Below

@@ -11,6 +11,7 @@ mod scanned;
 mod scanning;
 mod stored;
 mod superblock;
+mod surveying;
 mod waiting;
 mod zones;
 
@@ -24,4 +25,5 @@ pub use scanned::Scanned;
 pub use scanning::{Copies, scan_file};
 pub use stored::{store_replies, stored_is_kept};
 pub use superblock::Found;
+pub use surveying::{Surveyed, survey_version};
 pub use waiting::waiting_of;
