@@ -25,12 +25,12 @@ pub struct SurveyedFile {
     pub chosen: Chosen,
 }
 
-// Plans the mending in the rooms: the header that each slot is to have, and the list.
-fn plan_rooms(file: &DataFile, copies: &Copies, rooms: &mut LogRooms)
+// Plans the mending in the rooms, with the head that was found: the header that each slot is to have, and the list.
+fn plan_rooms(file: &DataFile, copies: &Copies, head: u64, rooms: &mut LogRooms)
     requires layout { rooms.old.layout ≡ file.now.layout }
     requires cluster { rooms.old.slots.start.cluster ≡ file.now.cluster }
     requires slots { AreSlots file.now.layout file.now.cluster rooms.old.slots.slots }
-    ensures planned { ArePlannedFrom file.now.layout file.now.cluster rooms.old.slots copies.now.slots copies.now.found.chosen.members rooms.new.headers rooms.new.mends.items }
+    ensures planned { ArePlannedFrom file.now.layout file.now.cluster rooms.old.slots head copies.now.slots copies.now.found.chosen.members rooms.new.headers rooms.new.mends.items }
     ensures layout { rooms.new.layout ≡ file.now.layout }
     ensures slots { rooms.new.slots ≡ rooms.old.slots }
 {
@@ -40,6 +40,7 @@ fn plan_rooms(file: &DataFile, copies: &Copies, rooms: &mut LogRooms)
         &layout,
         file.cluster,
         &rooms.slots,
+        head,
         &copies.slots,
         &members,
         &mut rooms.headers,
@@ -97,11 +98,11 @@ fn surveyed(traces: &Traces, scanned: Scanned) -> SurveyedFile
         root,
         sessions,
     } = scanned;
-    plan_rooms(&file, &copies, &mut rooms);
+    let head = traces.tail.op;
+    plan_rooms(&file, &copies, head, &mut rooms);
     let scrub = scrub.cleared();
     let content = copies.found.content;
     let chosen = copies.found.chosen;
-    let head = traces.tail.op;
     let head_checksum = traces.tail.checksum;
     let waiting = waiting_in(&file, &rooms, content.fields().op, traces.replies, head);
     root_fits(&root);
@@ -186,7 +187,7 @@ pub fn survey_file<D: Disk>(disk: &mut D, rooms: Rooms) -> Result<SurveyedFile, 
     ensures planned { (t : Told) → D.told disk.new ≡ Some t → IfOk (survey_of result) (λ survey. IsPlanned survey.state.file survey.state.headers survey.mends survey.state.fields survey.chosen.members t) }
     ensures cause { IsBlamed is_open_fault (D.faults disk.old) (D.faults disk.new) (state_of (survey_of result)) }
 {
-    match scan_file(disk, rooms) {
+    match scan_file(disk, rooms, 1) {
         Ok(scanned) => settle(scanned),
         Err(refused) => Err(refused),
     }
