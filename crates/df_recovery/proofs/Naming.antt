@@ -25,14 +25,14 @@ use Rattle.df_recovery.specs.Starting.{start_of}
 -- the prepares up to the pin: those of the checkpoint, or in version 2 those up to the head
 pub pin_from : (f : SuperFields) → IsSuper f → f.op ≤ pin_of f
 pin_from f rules = elim (cases_eq f.version 2) [
-  | inl second ↦ omega (arith, by_second f f.head f.op second, rules.head.0)
-  | inr other ↦ omega (arith, by_other f f.head f.op other)
+  | inl second ↦ let pin : pin_of f ≡ f.head = by_second f f.head f.op second in omega (arith, pin, rules.head.0)
+  | inr other ↦ let pin : pin_of f ≡ f.op = by_other f f.head f.op other in omega (arith, pin)
 ]
 
 pub pin_near : (f : SuperFields) → IsSuper f → pin_of f ≤ f.op + f.slots
 pin_near f rules = elim (cases_eq f.version 2) [
-  | inl second ↦ omega (arith, by_second f f.head f.op second, rules.head.1)
-  | inr other ↦ omega (arith, by_other f f.head f.op other)
+  | inl second ↦ let pin : pin_of f ≡ f.head = by_second f f.head f.op second in omega (arith, pin, rules.head.1.0)
+  | inr other ↦ let pin : pin_of f ≡ f.op = by_other f f.head f.op other in omega (arith, pin)
 ]
 
 -- where it names none behind the checkpoint, its last one is the checkpoint's
@@ -43,18 +43,27 @@ pin_checksum f rules level = elim rules.version [
 ]
 
 module _ (sh : Shape) (b : Checkpoint) (layout : Layout) (f : SuperFields) (start : Start) (sessions : List Session) (is : IsBaseOf sh b layout f sessions) (from : start ≡ start_of f) (rules : IsSuper f) (size : f.slots ≡ layout.slots) where
+  of_pin : b.content.pin ≡ pin_of f
+  of_pin = ap (λ (c : Content). c.pin) is.content_is
+
+  of_op : b.content.op ≡ f.op
+  of_op = ap (λ (c : Content). c.op) is.content_is
+
   pin_is : b.content.pin ≡ start.head
-  pin_is = ap (λ (c : Content). c.pin) is.content_is ∙ sym (ap (λ (x : Start). x.head) from)
+  pin_is = of_pin ∙ sym (ap (λ (x : Start). x.head) from)
 
   op_is : b.content.op ≡ start.op
-  op_is = ap (λ (c : Content). c.op) is.content_is ∙ sym (ap (λ (x : Start). x.op) from)
+  op_is = of_op ∙ sym (ap (λ (x : Start). x.op) from)
+
+  of_checksum : b.content.op_checksum ≡ number_of f.op_checksum
+  of_checksum = ap (λ (c : Content). c.op_checksum) is.content_is
 
   pub names_from : (checksum : List ℕ) → checksum ≡ pin_checksum_of f → NamesFrom sh b.content layout start checksum
   names_from checksum same = record {
     slots_are = is.slots_are;
     op_is = op_is;
     pin_is = pin_is;
-    from = omega (arith, ap (λ (c : Content). c.op) is.content_is, ap (λ (c : Content). c.pin) is.content_is, pin_from f rules);
+    from = omega (arith, of_op, of_pin, pin_from f rules);
     checksum_is = ap (λ (c : Content). c.pin_checksum) is.content_is ∙ ap number_of (sym same);
   }
 
@@ -63,14 +72,14 @@ module _ (sh : Shape) (b : Checkpoint) (layout : Layout) (f : SuperFields) (star
     slots_are = is.slots_are;
     clients_are = is.clients_are;
     op_is = op_is;
-    checksum_is = ap (λ (c : Content). c.op_checksum) is.content_is;
+    checksum_is = of_checksum;
     boot = ap (λ (c : Content). c.boot) is.content_is ∙ sym (ap (λ (x : Start). x.boot) from);
     pin = pin_is;
-    pin_near = omega (arith, ap (λ (c : Content). c.op) is.content_is, ap (λ (c : Content). c.pin) is.content_is, pin_near f rules, size, is.slots_are);
+    pin_near = omega (arith, of_op, of_pin, pin_near f rules, size, is.slots_are);
     pin_checksum = λ level.
         ap (λ (c : Content). c.pin_checksum) is.content_is
-        ∙ ap number_of (pin_checksum f rules (sym (ap (λ (c : Content). c.pin) is.content_is) ∙ level ∙ ap (λ (c : Content). c.op) is.content_is))
-        ∙ sym (ap (λ (c : Content). c.op_checksum) is.content_is);
+        ∙ ap number_of (pin_checksum f rules (sym of_pin ∙ level ∙ of_op))
+        ∙ sym of_checksum;
     sessions_are = is.sessions_are;
   }
 
