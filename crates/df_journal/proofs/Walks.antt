@@ -20,9 +20,7 @@ use Rattle.df_theory.specs.Shape.{Shape, clients, slots}
 use Rattle.df_theory.specs.View.{Checkpoint}
 use Rattle.df_theory.specs.Cases
 use Rattle.df_theory.specs.Cases.{Current, Far, Nothing, Old}
-use Rattle.df_theory.specs.Groups.{AreBehind}
 use Rattle.df_theory.specs.Found.{IsReach, IsTail, slot_behind}
-use Rattle.df_theory.specs.GroupLaws.{Walks}
 use Rattle.df_theory.specs.Opens.{AreFitting, AreKnown, IsUnfit}
 use Rattle.df_theory.proofs.Laws.{chain_append, chain_ops, last_mark-append, sessions-append, in_either, in_single, walk_law}
 use Rattle.df_units.specs.Meaning.{header_of, number_of}
@@ -161,8 +159,16 @@ pub record IsWalk (places n : ℕ) (image : Units.Units) (b : Checkpoint) (tail 
   pub closed : length ahead_is.more ≡ 0 → at.group_last ≡ at.last.op
   pub opened : 0 < length ahead_is.more → at.last.op < at.group_last
 
+-- behind a checkpoint with this op and checksum, without prepares
+abbrev pub end_at : ℕ → List ℕ → Tail
+end_at op checksum = record { op = op; checksum = checksum; mark = 0 }
+
+-- and where a walk stands there
+abbrev pub behind : Tail → Position
+behind end = record { last = end; group = 0; group_last = end.op }
+
 walk_none : (image : Units.Units) (sh : Shape) (b : Checkpoint) (layout : Layout) (start : Start) (checksum : List ℕ) (sessions : List Session) → BeginsAt sh b layout start checksum sessions
-    → IsWalk layout.clients layout.slots image b (record { op = start.op; checksum = checksum; mark = 0 }) sessions (record { last = record { op = start.op; checksum = checksum; mark = 0 }; group = 0; group_last = start.op }) sessions
+    → IsWalk layout.clients layout.slots image b (end_at start.op checksum) sessions (behind (end_at start.op checksum)) sessions
 walk_none image sh b layout start checksum sessions starts = record {
   ahead_is = record {
     ps = [];
@@ -196,11 +202,11 @@ walk_none image sh b layout start checksum sessions starts = record {
 
 -- the same by what the loop begins with
 pub walk_begins : (image : Units.Units) (sh : Shape) (b : Checkpoint) (layout : Layout) (start : Start) (checksum : List ℕ) (sessions : List Session) → BeginsAt sh b layout start checksum sessions → (tail : Tail) (at : Position) (ahead : List Session)
-    → tail ≡ record { op = start.op; checksum = checksum; mark = 0 } → at ≡ record { last = tail; group = 0; group_last = tail.op } → ahead ≡ sessions → IsWalk layout.clients layout.slots image b tail sessions at ahead
+    → tail ≡ end_at start.op checksum → at ≡ behind tail → ahead ≡ sessions → IsWalk layout.clients layout.slots image b tail sessions at ahead
 walk_begins image sh b layout start checksum sessions starts tail at ahead tail_is at_is ahead_is =
-    let end : Tail = record { op = start.op; checksum = checksum; mark = 0 } in
-    let begin : Position = record { last = end; group = 0; group_last = start.op } in
-    let there : at ≡ begin = at_is ∙ (λ i. record { last = tail_is i; group = 0; group_last = (tail_is i).op }) in
+    let end : Tail = end_at start.op checksum in
+    let begin : Position = behind end in
+    let there : at ≡ begin = at_is ∙ ap behind tail_is in
     let here : IsWalk layout.clients layout.slots image b end sessions begin sessions = walk_none image sh b layout start checksum sessions starts in
     subst (λ (t : Tail). IsWalk layout.clients layout.slots image b t sessions at ahead) (sym tail_is)
     (subst (λ (p : Position). IsWalk layout.clients layout.slots image b end sessions p ahead) (sym there)
@@ -358,7 +364,7 @@ pub walk_on : (layout : Layout) (cluster : ℕ) (table : List SlotSeen) (image :
     → IsWalk layout.clients layout.slots image b end new (position_of h) (with_request h.client h.request h.op ahead)
 walk_on layout cluster table image b start tail end kept new at ahead h is shows of walk next over opened =
     let found = taken_shown layout cluster table image is shows b.content start of (at.last.op + 1) next.seen h next.there next.taken in
-    let more = walk_more layout.clients layout.slots image b tail kept at ahead h found.0 walk found.1 found.2 next.taken.op_is next.fits next.group (λ at_pin. omega (arith, of.pin, next.ends (omega (arith, at_pin, of.pin)))) in
+    let more = walk_more layout.clients layout.slots image b tail kept at ahead h found.0 walk found.1 found.2 next.taken.op_is next.fits.0 next.fits.1.0 (λ at_pin. omega (arith, of.pin, next.fits.1.1 (omega (arith, at_pin, of.pin)))) in
     let sessions : List Session = with_request h.client h.request h.op ahead in
     elim (cases_lt h.op (header_of h).group_last) [
       | inl goes ↦
@@ -373,24 +379,26 @@ walk_on layout cluster table image b start tail end kept new at ahead h is shows
 
 -- ---- its end
 
+-- the walk in the shape's words
+pub shape_walk : (sh : Shape) (image : Units.Units) (b : Checkpoint) (layout : Layout) (tail : Tail) (kept : List Session) (at : Position) (ahead : List Session) → slots sh ≡ layout.slots → clients sh ≡ layout.clients
+    → IsWalk layout.clients layout.slots image b tail kept at ahead → IsWalk (clients sh) (slots sh) image b tail kept at ahead
+shape_walk sh image b layout tail kept at ahead slots_are clients_are walk =
+    subst (λ (m : ℕ). IsWalk (clients sh) m image b tail kept at ahead) (sym slots_are) (subst (λ (m : ℕ). IsWalk m layout.slots image b tail kept at ahead) (sym clients_are) walk)
+
 -- no prepare comes next, where the ring has room for one
 abbrev pub EndsThere : Layout → Start → List SlotSeen → Position → List Session → Type 0
 EndsThere layout start table at ahead = (h : Header) → at.last.op < start.op + layout.slots → IsNext layout start table at ahead h → ⊥
 
 module _ (layout : Layout) (cluster : ℕ) (table : List SlotSeen) (image : Units.Units) (is : IsTable layout cluster table) (shows : ShowsTable image table)
     (sh : Shape) (b : Checkpoint) (start : Start) (checksum : List ℕ) (first : List Session) (starts : BeginsAt sh b layout start checksum first) (known : AllKnown sh image b.content)
-    (tail : Tail) (kept : List Session) (at : Position) (ahead : List Session) (walk : IsWalk layout.clients layout.slots image b tail kept at ahead) (within : at.last.op ≤ start.op + layout.slots) (none : EndsThere layout start table at ahead) where
+    (tail : Tail) (kept : List Session) (at : Position) (ahead : List Session) (walk : IsWalk (clients sh) (slots sh) image b tail kept at ahead) (within : at.last.op ≤ start.op + layout.slots) (none : EndsThere layout start table at ahead) where
   of_start : IsStartOf b.content start
   of_start = record { boot = starts.boot; pin = starts.pin }
 
-  -- the same in the shape's words
-  own : IsWalk (clients sh) (slots sh) image b tail kept at ahead
-  own = subst (λ (m : ℕ). IsWalk (clients sh) m image b tail kept at ahead) (sym starts.slots_are) (subst (λ (m : ℕ). IsWalk m layout.slots image b tail kept at ahead) (sym starts.clients_are) walk)
+  abbrev w : IsAhead (clients sh) (slots sh) image b tail kept at ahead
+  w = walk.ahead_is
 
-  w : IsAhead (clients sh) (slots sh) image b tail kept at ahead
-  w = own.ahead_is
-
-  all : List Units.Message
+  abbrev all : List Units.Message
   all = w.ps ++ w.more
 
   size : length all ≡ length w.ps + length w.more
@@ -415,19 +423,21 @@ module _ (layout : Layout) (cluster : ℕ) (table : List SlotSeen) (image : Unit
       let here : Fits layout.clients (at.last.op + 1) (number_of at.last.checksum) at.last.mark (sessions_of ahead) p.header =
       subst (λ (m : ℕ). Fits m (at.last.op + 1) (number_of at.last.checksum) at.last.mark (sessions_of ahead) p.header) starts.clients_are ((fits_behind (clients sh) b w.ps w.more at.last ahead p.header w.ends_on).1 fits) in
       let own_op : p.header.op ≡ taken.header.op = ap (λ (k : Units.Header). k.op) taken.same in
+      let own_last : p.header.group_last ≡ (header_of taken.header).group_last = ap (λ (k : Units.Header). k.group_last) taken.same in
       none taken.header left (record {
         seen = taken.seen;
         there = taken.at;
         taken = taken.taken;
-        fits = subst (λ (k : Units.Header). Fits layout.clients (at.last.op + 1) (number_of at.last.checksum) at.last.mark (sessions_of ahead) k) taken.same here;
-        group = subst (λ (k : Units.Header). FitsGroup at.group at.group_last (at.last.op + 1) k) taken.same group;
-        ends = λ at_head. omega (arith, ap (λ (k : Units.Header). k.group_last) taken.same, starts.pin, pin (omega (arith, own_op, at_head, starts.pin)));
+        fits = (
+          subst (λ (k : Units.Header). Fits layout.clients (at.last.op + 1) (number_of at.last.checksum) at.last.mark (sessions_of ahead) k) taken.same here,
+          (subst (λ (k : Units.Header). FitsGroup at.group at.group_last (at.last.op + 1) k) taken.same group, λ at_head. omega (arith, own_last, starts.pin, pin (omega (arith, own_op, at_head, starts.pin)))),
+        );
       })
 
   -- ---- where all that are named fit
 
   open_more : (p : Units.Message) → In p w.more → at.last.op < p.header.group_last
-  open_more p there = omega (arith, w.in_group p there, own.opened (in_some p w.more there))
+  open_more p there = omega (arith, w.in_group p there, walk.opened (in_some p w.more there))
 
   -- a group that isn't over is above the head that is named
   past_tail : b.content.pin ≤ at.last.op → b.content.pin ≤ b.content.op + length w.ps

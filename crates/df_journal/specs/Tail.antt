@@ -86,14 +86,20 @@ pub record FindsReach (sh : Shape) (image : Units.Units) (b : Checkpoint) (reach
   pub stops : reach.op < b.content.pin → StopsAt sh image b reach.op
   pub reached : b.content.pin ≤ reach.op → IsReached sh image b reach sessions
 
--- the header of the prepare that comes next: it is taken from the slot of its op, it fits what precedes it, and so does its group, which ends at the head that the superblock names, if it comes to that
+-- the group of the prepare with this header fits where a walk stands, and it ends at the head that the superblock names, if the prepare has that op
+abbrev pub GroupFitsAt : ℕ → Position → Header → Type 0
+GroupFitsAt head at h = FitsGroup at.group at.group_last (at.last.op + 1) (header_of h) × (h.op ≡ head → (header_of h).group_last ≤ head)
+
+-- the prepare fits there, and its group does
+abbrev pub FitsAt : ℕ → ℕ → Position → List Session → Header → Type 0
+FitsAt clients head at sessions h = Fits clients (at.last.op + 1) (number_of at.last.checksum) at.last.mark (sessions_of sessions) (header_of h) × GroupFitsAt head at h
+
+-- the header of the prepare that comes next: it is taken from the slot of its op, and fits
 pub record IsNext (layout : Layout) (start : Start) (table : List SlotSeen) (at : Position) (sessions : List Session) (h : Header) : Type 0 where
   pub seen : SlotSeen
   pub there : slice_get table ((at.last.op + 1) % layout.slots) ≡ Some seen
   pub taken : IsTaken start (at.last.op + 1) seen h
-  pub fits : Fits layout.clients (at.last.op + 1) (number_of at.last.checksum) at.last.mark (sessions_of sessions) (header_of h)
-  pub group : FitsGroup at.group at.group_last (at.last.op + 1) (header_of h)
-  pub ends : h.op ≡ start.head → (header_of h).group_last ≤ start.head
+  pub fits : FitsAt layout.clients start.head at sessions h
 
 -- no session's reply is stored in the table
 abbrev pub AreUnstored : List Session → Type 0

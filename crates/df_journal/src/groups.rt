@@ -1,7 +1,7 @@
 // Groups of prepares as a walk along the tail comes to them: one is begun where the group before it is over, and counts as a whole.
 ghost use Rattle.std.specs.Prelude.{◌≡◌, ◌↔◌, ◌≤◌, ◌+◌, IsTrue};
 ghost use Rattle.df_journal.specs.Below.{FitsGroup, header_of};
-ghost use Rattle.df_journal.specs.Tail.{position_of};
+ghost use Rattle.df_journal.specs.Tail.{GroupFitsAt};
 
 use crate::Tail;
 use df_format::Header;
@@ -66,9 +66,9 @@ pub(crate) fn is_over(at: &Position) -> bool
     at.group_last <= at.last.op
 }
 
-/// Whether the prepare with this header, which has the next op, begins a group where one is over, or goes on with it. Its group
-/// ends there or later.
-pub(crate) fn fits_group(at: &Position, header: &Header) -> bool
+// Whether the prepare with this header, which has the next op, begins a group where one is over, or goes on with it. Its group
+// ends there or later.
+fn follows(at: &Position, header: &Header) -> bool
     requires op { header.now.op ≡ at.now.last.op + 1 }
     requires ends { header.now.op ≤ (header_of header.now).group_last }
     ensures { IsTrue result ↔ FitsGroup at.now.group at.now.group_last (at.now.last.op + 1) (header_of header.now) }
@@ -80,9 +80,19 @@ pub(crate) fn fits_group(at: &Position, header: &Header) -> bool
     }
 }
 
-/// Whether a prepare's group is over at this head, if the prepare has that op.
-pub(crate) fn ends_at(head: u64, header: &Header) -> bool
+// Whether a prepare's group is over at this head, if the prepare has that op.
+fn ends_at(head: u64, header: &Header) -> bool
     ensures { IsTrue result ↔ (header.now.op ≡ head → (header_of header.now).group_last ≤ head) }
 {
     header.op != head || group_last(header) <= head
+}
+
+/// Whether the group of the prepare with this header, which has the next op, fits there: it follows what is over or goes on with
+/// what isn't, and no group goes on past this head. The group ends at that op or later.
+pub(crate) fn fits_group(head: u64, at: &Position, header: &Header) -> bool
+    requires op { header.now.op ≡ at.now.last.op + 1 }
+    requires ends { header.now.op ≤ (header_of header.now).group_last }
+    ensures { IsTrue result ↔ GroupFitsAt head at.now header.now }
+{
+    follows(at, header) && ends_at(head, header)
 }

@@ -1,16 +1,16 @@
 // The walk of an open: from the checkpoint on, the prepares that the superblock names and then those that are taken, as long as each
 // fits what precedes it. The tail ends where the last whole group does.
-ghost use Rattle.std.specs.Prelude.{◌≡◌, ◌≤◌, ◌<◌, ◌+◌, ◌%◌, ◌^◌, IfSome};
-ghost use Rattle.df_journal.specs.Below.{IsCheck, Units, Shape, Checkpoint};
+ghost use Rattle.std.specs.Prelude.{◌≡◌, ◌↔◌, ◌≤◌, ◌<◌, ◌+◌, ◌^◌, IfSome, IsTrue};
+ghost use Rattle.df_journal.specs.Below.{IsCheck, Units, Shape, Checkpoint, header_of};
 ghost use Rattle.df_journal.specs.Known.{AllKnown};
 ghost use Rattle.df_journal.specs.Shows.{IsTable, TellsRings};
-ghost use Rattle.df_journal.specs.Tail.{AreNumbered, AreUnstored, BeginsAt, FindsReach, GoesOn, IsSound, position_of};
+ghost use Rattle.df_journal.specs.Tail.{AreNumbered, AreUnstored, BeginsAt, FindsReach, FitsAt, GoesOn, IsSound, position_of};
 
 use crate::fits::fits;
-use crate::groups::{Position, ends_at, fits_group, is_over, position_at, position_behind};
+use crate::groups::{Position, fits_group, is_over, position_at, position_behind};
 use crate::seen::taken;
 use crate::tail::{empty_tail, tail_to};
-use crate::{SlotTable, Tail};
+use crate::{SlotTable, Start, Tail};
 use df_base::Check;
 use df_format::Header;
 use df_layout::Layout;
@@ -32,10 +32,30 @@ fn position_of(header: &Header) -> Position
     position_at(header, &tail_to(header))
 }
 
+// Whether the prepare with this header, which has the next op, fits there, and so does its group: where it has the op of the head
+// that the superblock names, its group ends with it.
+fn goes_on(
+    head: u64,
+    at: &Position,
+    sessions: &SessionTable,
+    clients: u32,
+    header: &Header,
+) -> bool
+    requires places { sessions.now.max ≡ clients }
+    requires op { header.now.op ≡ at.now.last.op + 1 }
+    requires parent { IsCheck header.now.parent }
+    requires checksum { IsCheck at.now.last.checksum }
+    requires group { header.now.op ≤ (header_of header.now).group_last }
+    ensures { IsTrue result ↔ FitsAt clients head at.now sessions.now.sessions header.now }
+{
+    fits(&at.last, sessions, clients, header) && fits_group(head, at, header)
+}
+
 // The header of the prepare that comes next, if there is one.
 fn next(
     layout: &Layout,
     found: &SlotTable,
+    start: &Start,
     at: &Position,
     sessions: &SessionTable,
 ) -> Option<Header>
@@ -43,17 +63,14 @@ fn next(
     requires op { at.now.last.op < 2 ^ 63 }
     requires checksum { IsCheck at.now.last.checksum }
     requires places { sessions.now.max ≡ layout.now.clients }
-    ensures next { GoesOn layout.now found.now.start found.now.slots at.now sessions.now.sessions result }
+    ensures next { GoesOn layout.now start.now found.now.slots at.now sessions.now.sessions result }
     ensures op { IfSome result (λ h. h.op ≡ at.now.last.op + 1) }
     ensures sound { IfSome result (IsSound sessions.now) }
 {
     let op = at.last.op + 1;
     let seen = found.seen((op % u64::from(layout.slots)) as u32);
-    let header = taken(&seen, &found.start, op)?;
-    if fits(&at.last, sessions, layout.clients, &header)
-        && fits_group(at, &header)
-        && ends_at(found.start.head, &header)
-    {
+    let header = taken(&seen, start, op)?;
+    if goes_on(start.head, at, sessions, layout.clients, &header) {
         Some(header)
     } else {
         None
@@ -102,12 +119,13 @@ pub fn find_reach(
     ensures unstored { AreUnstored sessions.old.sessions → AreUnstored sessions.new.sessions }
     ensures numbered { AreNumbered sessions.old.sessions → AreNumbered sessions.new.sessions }
 {
-    let first = found.start.op;
+    let start = found.start;
+    let first = start.op;
     let mut tail = empty_tail(first, checksum);
     let mut at = position_behind(&tail);
     let mut ahead = sessions.copied();
     while at.last.op - first < u64::from(layout.slots) {
-        match next(layout, found, &at, &ahead) {
+        match next(layout, found, &start, &at, &ahead) {
             Some(header) => {
                 ahead.apply(header.client, header.request, header.op);
                 at = position_of(&header);

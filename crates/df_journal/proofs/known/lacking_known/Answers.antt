@@ -3,7 +3,7 @@ use Rattle.std.proofs.Common.{◌≡◌, ◌∙◌, sym, ap, subst, ℕ, ◌%◌
 use Rattle.df_theory.specs.Shape.{slots}
 use Rattle.df_journal.specs.Scan.{Scan}
 use Rattle.df_journal.proofs.Decisions.{shown_checks}
-use Rattle.df_journal.proofs.Named.{read_all, read_lacks, read_more, read_none}
+use Rattle.df_journal.proofs.Named.{IsRead, read_all, read_lacks, read_more, read_none}
 use Rattle.df_journal.proofs.known.lacking_known.Goals as goal
 
 pub loop-op-init : goal.loop-op-init
@@ -13,7 +13,7 @@ loop-op-init c =
       from = λ within. omega (arith, within, head);
       named = omega (arith, head);
       checksum = c.requires.checksum;
-      read = λ sh image content tells names. ?;
+      read = λ sh image content tells names. subst (λ (o : ℕ). IsRead sh image content o c.args.checksum.now) (sym head) (read_none sh image content c.args.layout.now c.args.found.now.start c.args.checksum.now names);
     }
 
 pub loop-op-preserved : goal.loop-op-preserved

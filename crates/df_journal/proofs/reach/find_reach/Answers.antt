@@ -5,16 +5,17 @@ use Rattle.df_format.specs.Spelling.{IsCheck}
 use Rattle.df_sessions.specs.declared.session.Session.{Session}
 use Rattle.df_sessions.specs.Table.{Table, with_request}
 use Rattle.df_journal.specs.Scan.{Scan}
+use Rattle.df_journal.specs.declared.table.Start.{Start}
 use Rattle.df_journal.specs.declared.tail.Tail.{Tail}
 use Rattle.df_journal.specs.declared.groups.Position.{Position}
 use Rattle.df_journal.specs.Tail.{AreNumbered, AreUnstored, GoesOn, IsNext, position_of, tail_to}
-use Rattle.df_journal.proofs.Walks.{IsWalk, either_kept, still_numbered, still_unstored, walk_begins, walk_on, walk_reaches, walk_stops}
+use Rattle.df_journal.proofs.Walks.{EndsThere, IsWalk, either_kept, end_at, shape_walk, still_numbered, still_unstored, walk_begins, walk_on, walk_reaches, walk_stops}
 use Rattle.df_journal.proofs.reach.find_reach.Goals as goal
 
 pub loop-at-init : goal.loop-at-init
 loop-at-init c =
     let first : c.found.inside.start.op ≡ c.args.found.now.start.op = ap (λ (s : Scan). s.start.op) c.found.view_is in
-    let tail : c.empty_tail-tail.result ≡ record { op = c.args.found.now.start.op; checksum = c.args.checksum.now; mark = 0 } = c.empty_tail-tail.ensures ∙ (λ i. record { op = first i; checksum = c.args.checksum.now; mark = 0 }) in
+    let tail : c.empty_tail-tail.result ≡ end_at c.args.found.now.start.op c.args.checksum.now = c.empty_tail-tail.ensures ∙ ap (λ (n : ℕ). end_at n c.args.checksum.now) first in
     let tail_op : c.empty_tail-tail.result.op ≡ c.args.found.now.start.op = ap (λ (t : Tail). t.op) tail in
     let tail_sum : c.empty_tail-tail.result.checksum ≡ c.args.checksum.now = ap (λ (t : Tail). t.checksum) tail in
     let last : c.position_behind-at.result.last ≡ c.empty_tail-tail.result = ap (λ (p : Position). p.last) c.position_behind-at.ensures in
@@ -43,7 +44,8 @@ loop-at-preserved c =
     let first : c.found.inside.start.op ≡ c.args.found.now.start.op = ap (λ (s : Scan). s.start.op) c.found.view_is in
     let h : Header = c.in-Some.header in
     let inv = c.loop-at.invariant in
-    let next : IsNext c.args.layout.now c.args.found.now.start c.args.found.now.slots c.loop-at.at c.loop-at.ahead.sessions h = c.in-Some.ensures.next in
+    let start : c.found.inside.start ≡ c.args.found.now.start = ap (λ (s : Scan). s.start) c.found.view_is in
+    let next : IsNext c.args.layout.now c.args.found.now.start c.args.found.now.slots c.loop-at.at c.loop-at.ahead.sessions h = subst (λ (s : Start). IsNext c.args.layout.now s c.args.found.now.slots c.loop-at.at c.loop-at.ahead.sessions h) start c.in-Some.ensures.next in
     let at_is : position_of h ≡ c.position_of-at.result = sym c.position_of-at.ensures in
     let last_is : tail_to h ≡ c.position_of-at.result.last = ap (λ (p : Position). p.last) at_is in
     let op : c.position_of-at.result.last.op ≡ c.loop-at.at.last.op + 1 = sym (ap (λ (t : Tail). t.op) last_is) ∙ next.taken.op_is in
@@ -76,8 +78,10 @@ loop-at-preserved c =
 
 pub returns-in-None-clause-reach : goal.returns-in-None-clause-reach
 returns-in-None-clause-reach c = λ sh image b tells starts known.
-    let walk = c.loop-at.invariant.walk sh image b tells starts in
-    let none = λ (h : Header) (room : c.loop-at.at.last.op < c.args.found.now.start.op + c.args.layout.now.slots) (next : IsNext c.args.layout.now c.args.found.now.start c.args.found.now.slots c.loop-at.at c.loop-at.ahead.sessions h). c.in-None.ensures.next h next in
+    let start : c.found.inside.start ≡ c.args.found.now.start = ap (λ (s : Scan). s.start) c.found.view_is in
+    let ends : GoesOn c.args.layout.now c.args.found.now.start c.args.found.now.slots c.loop-at.at c.loop-at.ahead.sessions None = subst (λ (s : Start). GoesOn c.args.layout.now s c.args.found.now.slots c.loop-at.at c.loop-at.ahead.sessions None) start c.in-None.ensures.next in
+    let walk = shape_walk sh image b c.args.layout.now c.loop-at.tail c.loop-at.sessions.sessions c.loop-at.at c.loop-at.ahead.sessions starts.slots_are starts.clients_are (c.loop-at.invariant.walk sh image b tells starts) in
+    let none : EndsThere c.args.layout.now c.args.found.now.start c.args.found.now.slots c.loop-at.at c.loop-at.ahead.sessions = λ h room next. ends h next in
     record {
       stops = λ short. walk_stops c.args.layout.now c.args.found.now.start.cluster c.args.found.now.slots image c.requires.table tells.shows sh b c.args.found.now.start c.args.checksum.now c.args.sessions.now.sessions starts known c.loop-at.tail c.loop-at.sessions.sessions c.loop-at.at c.loop-at.ahead.sessions walk c.loop-at.invariant.within none short;
       reached = λ past. walk_reaches c.args.layout.now c.args.found.now.start.cluster c.args.found.now.slots image c.requires.table tells.shows sh b c.args.found.now.start c.args.checksum.now c.args.sessions.now.sessions starts known c.loop-at.tail c.loop-at.sessions.sessions c.loop-at.at c.loop-at.ahead.sessions walk c.loop-at.invariant.within none past;
@@ -86,8 +90,8 @@ returns-in-None-clause-reach c = λ sh image b tells starts known.
 pub returns-clause-reach : goal.returns-clause-reach
 returns-clause-reach c = λ sh image b tells starts known.
     let first : c.found.inside.start.op ≡ c.args.found.now.start.op = ap (λ (s : Scan). s.start.op) c.found.view_is in
-    let walk = c.loop-at.invariant.walk sh image b tells starts in
-    let none = λ (h : Header) (room : c.loop-at.at.last.op < c.args.found.now.start.op + c.args.layout.now.slots) (next : IsNext c.args.layout.now c.args.found.now.start c.args.found.now.slots c.loop-at.at c.loop-at.ahead.sessions h). omega (arith, room, first, c.loop-at-test.false, c.from.ensures, c.loop-at.invariant.from, c.loop-at.invariant.order) in
+    let walk = shape_walk sh image b c.args.layout.now c.loop-at.tail c.loop-at.sessions.sessions c.loop-at.at c.loop-at.ahead.sessions starts.slots_are starts.clients_are (c.loop-at.invariant.walk sh image b tells starts) in
+    let none : EndsThere c.args.layout.now c.args.found.now.start c.args.found.now.slots c.loop-at.at c.loop-at.ahead.sessions = λ h room next. omega (arith, room, first, c.loop-at-test.false, c.from.ensures, c.loop-at.invariant.from, c.loop-at.invariant.order) in
     record {
       stops = λ short. walk_stops c.args.layout.now c.args.found.now.start.cluster c.args.found.now.slots image c.requires.table tells.shows sh b c.args.found.now.start c.args.checksum.now c.args.sessions.now.sessions starts known c.loop-at.tail c.loop-at.sessions.sessions c.loop-at.at c.loop-at.ahead.sessions walk c.loop-at.invariant.within none short;
       reached = λ past. walk_reaches c.args.layout.now c.args.found.now.start.cluster c.args.found.now.slots image c.requires.table tells.shows sh b c.args.found.now.start c.args.checksum.now c.args.sessions.now.sessions starts known c.loop-at.tail c.loop-at.sessions.sessions c.loop-at.at c.loop-at.ahead.sessions walk c.loop-at.invariant.within none past;

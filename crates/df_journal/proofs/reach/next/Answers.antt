@@ -8,10 +8,23 @@ use Rattle.df_journal.proofs.reach.next.Goals as goal
 pub taken-requires : goal.taken-requires
 taken-requires c = slot_checks c.args.layout.now c.args.found.now.start.cluster _ c.args.found.now.slots c.seen-seen.result c.requires.table c.seen-seen.ensures
 
-pub fits-requires-clause-parent : goal.fits-requires-clause-parent
-fits-requires-clause-parent c =
+pub goes_on-requires-clause-parent : goal.goes_on-requires-clause-parent
+goes_on-requires-clause-parent c =
     taken_parent c.args.layout.now c.args.found.now.start.cluster _ c.in_ok-header.header (shown_unit c.args.layout.now c.args.found.now.start.cluster _ c.args.found.now.slots c.seen-seen.result c.in_ok-header.header c.requires.table c.seen-seen.ensures c.in_ok-header.ensures.shown)
 
-pub fits-requires-clause-group : goal.fits-requires-clause-group
-fits-requires-clause-group c =
+pub goes_on-requires-clause-group : goal.goes_on-requires-clause-group
+goes_on-requires-clause-group c =
     taken_group c.args.layout.now c.args.found.now.start.cluster _ c.in_ok-header.header (shown_unit c.args.layout.now c.args.found.now.start.cluster _ c.args.found.now.slots c.seen-seen.result c.in_ok-header.header c.requires.table c.seen-seen.ensures c.in_ok-header.ensures.shown)
+
+pub returns-then-goes_on-clause-sound : goal.returns-then-goes_on-clause-sound
+returns-then-goes_on-clause-sound c =
+    let there = shown_unit c.args.layout.now c.args.found.now.start.cluster _ c.args.found.now.slots c.seen-seen.result c.in_ok-header.header c.requires.table c.seen-seen.ensures c.in_ok-header.ensures.shown in
+    let fits = (c.goes_on.ensures.0 c.if-goes_on.true).0 in
+    let client : 0 < c.in_ok-header.header.client = taken_client c.args.layout.now c.args.found.now.start.cluster _ c.in_ok-header.header there in
+    record {
+      client = λ none. omega (arith, client, none);
+      room = subst (λ (n : ℕ). IsKnown c.in_ok-header.header.client c.args.sessions.now.sessions ⊎ (length c.args.sessions.now.sessions < n)) (sym c.requires.places) (asks_room c.args.layout.now.clients c.in_ok-header.header c.args.sessions.now.sessions fits.asks);
+      checksum = taken_check c.args.layout.now c.args.found.now.start.cluster _ c.in_ok-header.header there;
+      request = taken_request c.args.layout.now c.args.found.now.start.cluster _ c.in_ok-header.header there;
+      op = taken_op c.args.layout.now c.args.found.now.start.cluster _ c.in_ok-header.header there;
+    }
