@@ -207,6 +207,8 @@ planned_same file table mends f members t base same plan =
       members_are = plan.members_are;
       start = plan.start;
       scanned = plan.scanned;
+      top = plan.top;
+      top_is = plan.top_is;
       planned = plan.planned;
     } in
     subst (λ (m : Image). IsPlanned file table mends f members (record { log = base.log; shown = m })) (sym same) there
@@ -242,7 +244,7 @@ own_mending layout told t s is of tells whole =
       choice = may.choice;
       are =
           ap (λ (list : List Mend). mending_events s.state.file.layout s.state.headers list s.state.fields s.chosen.members)
-          (may.mends ∙ ap (λ (l : Layout). mends_of l t.shown s.state.fields s.chosen.members) (sym of));
+          (may.mends ∙ ap (λ (l : Layout). mends_of l t.shown s.state.fields s.state.head s.chosen.members) (sym of));
     }
 
 pub live_mending : (t : Told) (s : State) (events : List Event) → AreMending t s events → AreMending t (live_state s) events

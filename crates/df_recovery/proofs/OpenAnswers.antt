@@ -7,9 +7,11 @@ use Rattle.df_format.specs.declared.superblock.SuperFields.{SuperFields}
 use Rattle.df_sessions.specs.declared.session.Session.{Session}
 use Rattle.df_theory.specs.Units
 use Rattle.df_theory.specs.Found.{IsFound}
-use Rattle.df_theory.specs.View.{Checkpoint, View}
+use Rattle.df_theory.specs.View.{Checkpoint, View, head}
+use Rattle.df_theory.proofs.Laws.{one_found_law}
 use Rattle.df_theory.specs.Opens.{BootSpent as NoBoot, Damaged as Damages, Opens, Refusal, Refused}
 use Rattle.df_model.specs.declared.errors.OpenError.TheVariants.{NotFormatted, NoQuorum, Version, BadField, LayoutDiffers, Damaged, DiskFault, BootSpent}
+use Rattle.df_model.specs.Memory.{Memory}
 use Rattle.df_units.specs.Bytes.{unit_at}
 use Rattle.df_units.specs.Meaning.{content_of, layout_of, number_of}
 use Rattle.df_checkpoint.specs.Reads.{blocks_read}
@@ -20,7 +22,9 @@ use Rattle.df_recovery.specs.Waiting.{waiting_sum}
 use Rattle.df_recovery.specs.Finding.{Answers, EachOpens, HasHeaders, IsKept, IsOfFile, IsReadFrom, Keeps, KeptIsAnswer, Read, RefusedIsAnswer, StoresTo, base_with}
 use Rattle.df_rooms.specs.State.{State, shape}
 use Rattle.df_recovery.specs.declared.finding.Traces.{Traces}
+use Rattle.df_base.specs.Image.{Image}
 use Rattle.df_disk.specs.Told.{Told}
+use Rattle.df_layout.specs.declared.layout.Layout.{Layout}
 use Rattle.df_recovery.specs.Surveys.{HasFile, SurveysAs, class_there}
 use Rattle.df_rooms.specs.declared.file.DataFile.{DataFile}
 use Rattle.df_recovery.proofs.KeptReplies.{stored_kept}
@@ -106,3 +110,9 @@ module _ (t : Told) (read : Read) (traces : Traces) (after : List Session) (s : 
 
 pub kept_is_answer : KeptIsAnswer
 kept_is_answer t read traces after s is answers kept headers = kept_answer t read traces after s is kept headers answers
+
+-- and the state's head is that of whatever view is found
+pub head_found : (version : ℕ) (layout : Layout) (image : Image) (s : State) → SurveysAs version layout image (Ok s) → (v : View) → IsFound (shape s.file) (unit_at s.file.layout s.file.cluster image) v → head v ≡ s.head
+head_found version layout image s is v found =
+    let here : IsFound (shape s.file) (unit_at layout s.file.cluster image) v = subst (λ (l : Layout). IsFound (shape s.file) (unit_at l s.file.cluster image) v) is.of.layout_is found in
+    ap head (one_found_law (shape s.file) (unit_at layout s.file.cluster image) v is.view here is.found) ∙ sym (ap (λ (m : Memory). m.head) is.stands)

@@ -12,6 +12,7 @@ use Rattle.df_format.specs.Own.{place_in}
 use Rattle.df_format.specs.Shown.{class_at}
 use Rattle.df_format.specs.declared.superblock.SuperFields.{SuperFields}
 use Rattle.df_journal.specs.Scan.{Scan}
+use Rattle.df_journal.specs.Scanned as rings
 use Rattle.df_journal.specs.Shows.{IsTable as AreSlots, TellsRings}
 use Rattle.df_journal.specs.Tail.{AreNumbered, AreUnstored}
 use Rattle.df_journal.specs.declared.table.Start.{Start}
@@ -32,11 +33,11 @@ use Rattle.df_rooms.specs.State.{State, shape}
 use Rattle.df_rooms.specs.declared.file.DataFile.{DataFile}
 use Rattle.df_recovery.specs.Checkpoints.{Base, base_of}
 use Rattle.df_recovery.specs.Finding.{Answers, HasHeaders, IsKept, IsOfFile, IsRefused, StoresTo, base_with, read_of}
-use Rattle.df_recovery.specs.Found.{IsChoiceOf}
+use Rattle.df_recovery.specs.Found.{IsChoiceOf, TellsFoundAs}
 use Rattle.df_recovery.specs.Plan.{class_of_slot, copy_mend, copy_mends, header_or_none, needs_header, shown_class, slot_mend, slot_mends}
-use Rattle.df_recovery.specs.Scanning.{IsScanAs, TellsReadAs, base_scanned}
+use Rattle.df_recovery.specs.Scanning.{AreCopies, IsFileOf, IsScanAs, TellsReadAs, base_scanned}
 use Rattle.df_recovery.specs.Starting.{start_of}
-use Rattle.df_recovery.specs.Surveying.{ArePlannedFrom, IsLawful, IsMendable, IsPlannedFor, KeepsFile, KeepsRead, TellsMends, TellsSurveyAs, copy_mend_at, mends_of, state_found}
+use Rattle.df_recovery.specs.Surveying.{ArePlannedFrom, IsLawful, IsMendable, IsPlannedFor, IsReadOf, KeepsFile, KeepsRead, TellsMends, TellsSurveyAs, copy_mend_at, mends_of, state_found}
 use Rattle.df_recovery.specs.Surveys.{SurveysAs}
 use Rattle.df_recovery.specs.Waiting.{waiting_in}
 use Rattle.df_recovery.specs.declared.finding.Traces.{Traces}
@@ -220,3 +221,18 @@ module _ (version : ℕ) (x : Scanned) (layout : Layout) where
   told_answer r None reads scan law = tt
   told_answer r (Some t) reads scan law =
       λ image. subst (λ (l : Layout). SurveysAs version l t.shown r) scan.behind.file.layout_is (subst (λ (v : ℕ). SurveysAs v x.file.layout t.shown r) (version_is (Some t) scan) (law t (scanned_as version t layout x image reads scan)))
+
+-- ---- what was read, of a file of which the sessions may differ
+
+told_found : (version : ℕ) (layout : Layout) (told : Option Told) (x : Scanned) → TellsReadAs version (λ (y : Scanned). y.copies.found) layout told (Ok x) → TellsFoundAs version told (Ok x.copies.found)
+told_found version layout None x reads = tt
+told_found version layout (Some t) x reads = reads
+
+pub read_kept : (version : ℕ) (layout : Layout) (told : Option Told) (x y : Scanned) → TellsReadAs version (λ (z : Scanned). z.copies.found) layout told (Ok x) → IsScanAs version layout told x → KeepsFile x y → IsReadOf version layout told y
+read_kept version layout told x y reads scan of = record {
+  file = subst (λ (c : Copies). IsFileOf layout c.found.content y.file) (sym of.copies) (subst (IsFileOf layout x.copies.found.content) (sym of.file) scan.behind.file);
+  copies = subst (AreCopies version told) (sym of.copies) scan.copies;
+  found = subst (λ (c : Copies). TellsFoundAs version told (Ok c.found)) (sym of.copies) (told_found version layout told x reads);
+  start = ap (λ (r : Scan). r.start) of.slots ∙ scan.behind.start ∙ ap (λ (c : Copies). start_of c.found.content) (sym of.copies);
+  rings_are = subst (rings.IsScanned layout told) (sym of.slots) scan.behind.tables.rings;
+}

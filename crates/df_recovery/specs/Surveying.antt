@@ -14,6 +14,7 @@ use Rattle.df_format.specs.Spelling.{IsCheck}
 use Rattle.df_quorum.specs.declared.slot.Slot.{Slot}
 use Rattle.df_headers.specs.Ring.{IsTable}
 use Rattle.df_journal.specs.Scan.{Scan}
+use Rattle.df_journal.specs.Scanned as rings
 use Rattle.df_journal.specs.Shows.{IsTable as AreSlots, TellsRings}
 use Rattle.df_journal.specs.Tail.{AreNumbered}
 use Rattle.df_grid.specs.Table.{IsIdle}
@@ -29,8 +30,9 @@ use Rattle.df_theory.specs.Units.{Units}
 use Rattle.df_theory.specs.View.{View}
 use Rattle.df_units.specs.Bytes.{unit_at}
 use Rattle.df_rooms.specs.State.{AreAsked, State}
-use Rattle.df_recovery.specs.Found.{IsChoiceOf}
+use Rattle.df_recovery.specs.Found.{IsChoiceOf, TellsFoundAs}
 use Rattle.df_recovery.specs.Plan.{AreDistinct, IsScanOf, OthersAreShown, class_of_slot, headers_in, mend_list, needs_header, slot_mends}
+use Rattle.df_recovery.specs.Scanning.{AreCopies, IsFileOf}
 use Rattle.df_recovery.specs.Starting.{start_of}
 use Rattle.df_recovery.specs.Surveys.{SurveysAs}
 use Rattle.df_recovery.specs.declared.finding.Traces.{Traces}
@@ -101,6 +103,19 @@ pub record KeepsFile (before after : Scanned) : Type 0 where
   pub file : after.file ≡ before.file
   pub copies : after.copies ≡ before.copies
   pub slots : after.log.slots ≡ before.log.slots
+
+-- of a disk, what was read of the copies and of the rings, whatever sessions are kept
+pub record IsReadOf (version : ℕ) (layout : Layout) (told : Option Told) (s : Scanned) : Type 0 where
+  -- the file has the layout, and its superblock's cluster and version
+  pub file : IsFileOf layout s.copies.found.content s.file
+  -- the places of its superblock were read
+  pub copies : AreCopies version told s.copies
+  -- which is the one that the disk shows
+  pub found : TellsFoundAs version told (Ok s.copies.found)
+  -- the scan started behind it
+  pub start : s.log.slots.start ≡ start_of s.copies.found.content
+  -- the table has what the rings show
+  pub rings_are : rings.IsScanned layout told s.log.slots
 
 -- ---- the answer
 

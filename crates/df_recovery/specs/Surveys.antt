@@ -81,7 +81,7 @@ pub record IsSpent (version : ℕ) (layout : Layout) (image : Image) : Type 0 wh
   pub opens : Opens (shape file) (unit_at layout file.cluster image) (Refused NoBoot)
 
 -- an open finds a view whose boot can be raised, and the state stands for what the machine begins with from it
-pub record IsOpened (version : ℕ) (layout : Layout) (image : Image) (s : State) : Type 0 where
+pub record IsOpenedAs (version : ℕ) (layout : Layout) (image : Image) (s : State) : Type 0 where
   pub has : HasFile image s.file s.fields
   pub of : IsAsked version layout s.file
   pub view : View
@@ -91,7 +91,7 @@ pub record IsOpened (version : ℕ) (layout : Layout) (image : Image) (s : State
 
 -- the answer, where this version is asked for; none where the disk failed
 abbrev pub SurveysAs : ℕ → Layout → Image → Result State OpenError → Type 0
-SurveysAs version layout image (Ok s) = IsOpened version layout image s
+SurveysAs version layout image (Ok s) = IsOpenedAs version layout image s
 SurveysAs version layout image (Err NotFormatted) = IsUnformatted image
 SurveysAs version layout image (Err (NoQuorum classes)) = HasNoQuorum image classes
 SurveysAs version layout image (Err (Version found)) = RefusesAs version image (Version found)
@@ -102,5 +102,8 @@ SurveysAs version layout image (Err BootSpent) = IsSpent version layout image
 SurveysAs version layout image (Err DiskFault) = Unit {0}
 
 -- where version 1 is asked for, as an open does
+abbrev pub IsOpened : Layout → Image → State → Type 0
+IsOpened layout image s = IsOpenedAs 1 layout image s
+
 abbrev pub Surveys : Layout → Image → Result State OpenError → Type 0
 Surveys layout image result = SurveysAs 1 layout image result

@@ -7,7 +7,7 @@ ghost use Rattle.df_recovery.specs.Checkpoints.{AreOfCheckpoint};
 ghost use Rattle.df_recovery.specs.Finding.{IsDamage, IsOfFile, read_of};
 ghost use Rattle.df_recovery.specs.Found.{Syncs};
 ghost use Rattle.df_recovery.specs.Scanning.{base_scanned, without_rooms};
-ghost use Rattle.df_recovery.specs.Surveying.{AreAfter, ArePlannedFrom, EndsBehind, IsLawful, IsPlannedFor, IsWellFound, KeepsFile, KeepsRead, TellsMends, TellsSurveyAs, answer_of};
+ghost use Rattle.df_recovery.specs.Surveying.{AreAfter, ArePlannedFrom, EndsBehind, IsLawful, IsPlannedFor, IsReadOf, IsWellFound, KeepsFile, KeepsRead, TellsMends, TellsSurveyAs, answer_of};
 ghost use Rattle.df_recovery.specs.Surveys.{SurveysAs};
 ghost use Rattle.df_recovery.specs.Waiting.{waiting_in};
 
@@ -164,6 +164,7 @@ pub fn survey_version<D: Disk>(
     ensures version { IfOk result (λ s. s.scanned.file.version ≡ version) }
     ensures given_back { IfErr result (λ refused. refused.0.layout ≡ rooms.layout) }
     ensures answer { TellsSurveyAs version rooms.layout (D.told disk.old) (answer_of result) }
+    ensures read { IfOk result (λ s. IsReadOf version rooms.layout (D.told disk.old) s.scanned) }
     ensures mends { IfOk result (TellsMends rooms.layout (D.told disk.old)) }
     ensures planned { IfOk result IsPlannedFor }
     ensures barrier { Syncs (D.told disk.old) (D.told disk.new) (without_rooms result) }

@@ -1,9 +1,9 @@
 -- What was settled is of what the disk tells.
 use Rattle.std.proofs.Common.{◌≡◌, ◌∙◌, ap}
 use Rattle.df_rooms.specs.declared.file.DataFile.{DataFile}
-use Rattle.df_recovery.specs.Surveying.{KeepsFile, answer_of}
+use Rattle.df_recovery.specs.Surveying.{IsReadOf, KeepsFile, answer_of}
 use Rattle.df_recovery.specs.declared.surveying.Surveyed.{Surveyed}
-use Rattle.df_recovery.proofs.Settled.{if_ok_more, lawful, told_answer, told_mends, version_is}
+use Rattle.df_recovery.proofs.Settled.{if_ok_more, lawful, read_kept, told_answer, told_mends, version_is}
 use Rattle.df_recovery.proofs.surveying.survey_version.Goals as goal
 
 pub settle-requires-clause-scanned : goal.settle-requires-clause-scanned
@@ -21,6 +21,11 @@ returns-in-Ok-clause-version g c =
 pub returns-in-Ok-clause-answer : goal.returns-in-Ok-clause-answer
 returns-in-Ok-clause-answer g c =
     told_answer c.args.version c.in-Ok.scanned c.args.rooms.layout (answer_of c.settle.result) (g.D.Disk.told c.args.disk.now) c.in-Ok.ensures.answer c.in-Ok.ensures.scanned c.settle.ensures.answer
+
+pub returns-in-Ok-clause-read : goal.returns-in-Ok-clause-read
+returns-in-Ok-clause-read g c =
+    if_ok_more (λ (y : Surveyed). KeepsFile c.in-Ok.scanned y.scanned) (λ (y : Surveyed). IsReadOf c.args.version c.args.rooms.layout (g.D.Disk.told c.args.disk.now) y.scanned) c.settle.result
+    (λ y of. read_kept c.args.version c.args.rooms.layout (g.D.Disk.told c.args.disk.now) c.in-Ok.scanned y.scanned c.in-Ok.ensures.answer c.in-Ok.ensures.scanned of) c.settle.ensures.kept
 
 pub returns-in-Ok-clause-mends : goal.returns-in-Ok-clause-mends
 returns-in-Ok-clause-mends g c =
