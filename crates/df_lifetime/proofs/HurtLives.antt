@@ -22,5 +22,5 @@ life_may_be_hurt file t chapters shown life began chance whole none =
     let opens : MayBeOpened file chapters t = every_life_goes_on file t chapters life chance in (
       opens.view,
       opens.had,
-      record { safe = opens.may.safe; empty = start_stays file t chapters life ∙ began; found = opens.may.found; whole = whole; no_chance = none },
+      record { version = opens.may.version; safe = opens.may.safe; empty = start_stays file t chapters life ∙ began; found = opens.may.found; whole = whole; no_chance = none },
     )

@@ -88,8 +88,9 @@ sector_puts table sectors = map (sector_put table) sectors
 abbrev pub mending_steps : Layout → List Header → List Mend → SuperFields → List Bool → List Step
 mending_steps layout table mends f members = mend_steps (sector_puts table (sectors_of layout mends)) (repaired f 0 members)
 
--- the log rests on a view, and with this table and this list it may be mended
+-- the file is of version 1, the log rests on a view, and with this table and this list it may be mended
 pub record MayMendOn (file : DataFile) (table : List Header) (mends : List Mend) (f : SuperFields) (members : List Bool) (t : Told) : Type 0 where
+  pub version : file.version ≡ 1
   pub grade : Grade
   pub view : View
   pub is_log : IsLog t.log
@@ -116,8 +117,9 @@ pub record IsPlanned (file : DataFile) (table : List Header) (mends : List Mend)
   pub top_is : IsImage t.shown → (v : View) → IsFound (shape file) (unit_at file.layout file.cluster t.shown) v → head v ≡ top
   pub planned : ArePlannedFrom file.layout file.cluster scan top copies members table mends
 
--- an honest disk whose log rests on a view and is quiet, where no unit came about by chance: what holds of it behind the barrier of an open
+-- an honest disk with a file of version 1, whose log rests on a view and is quiet, where no unit came about by chance: what holds of it behind the barrier of an open
 pub record RestsOnDisk (g : Grade) (file : DataFile) (view : View) (t : Told) : Type 0 where
+  pub version : file.version ≡ 1
   pub is_log : IsLog t.log
   pub honest : IsHonest t
   pub rests : RestsOn (shape file) (units_log (format file) t.log) view

@@ -3,7 +3,8 @@ pub use Rattle.df_recovery.proofs.Asked.{asked_none, plain_super}
 pub use Rattle.df_recovery.proofs.Firsts.{one_refusal, one_super, super_is_written, super_or_refusal, written_is}
 pub use Rattle.df_recovery.proofs.FilesRead.{file_is_read}
 pub use Rattle.df_recovery.proofs.OpenAnswers.{head_found, kept_is_answer, refused_is_answer}
--- ---- a file is its layout and its cluster, and a state that goes on
+pub use Rattle.df_recovery.proofs.OneAnswer.{one_super_as}
+-- ---- a file is its layout, its cluster and its version, and a state that goes on
 pub use Rattle.df_rooms.proofs.Laws.{asked_noted, course_on, same_file}
 -- ---- the mends of the slots, one slot more
 pub use Rattle.df_recovery.proofs.Plans.{filter_more, slot_mends_more}
