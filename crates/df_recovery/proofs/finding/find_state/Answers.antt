@@ -63,8 +63,8 @@ returns-in-Some-clause-answer c = at_place _ (ReplyPlace c.in-Some.lacking.place
     (λ t scanned. c.in-Some.ensures.class c.args.layout.now c.args.slots.now.start.cluster t scanned.replies)
 
 -- no step before the last refuses
-pub returns-then-content-GREATEST_BOOT-clause-answer : goal.returns-then-content-GREATEST_BOOT-clause-answer
-returns-then-content-GREATEST_BOOT-clause-answer c = λ sh image b is.
+pub returns-then-content-eq-GREATEST_BOOT-clause-answer : goal.returns-then-content-eq-GREATEST_BOOT-clause-answer
+returns-then-content-eq-GREATEST_BOOT-clause-answer c = λ sh image b is.
     let content = content_same sh image b _ is c.fields-content.result.now c.fields-content.ensures.value in
     let counts = c.count_all-seen.ensures.all image is.tells.shows is.shows in
     let early = (c.is_behind.ensures.none sh image b.content counts (boot_is sh image b _ is c.fields-content.result.now c.fields-content.ensures.value) (ap (λ (x : Content). x.sequence) content) (ap (λ (x : Content). x.op) content) is.slots_are).0 c.if-is_behind.false in
@@ -72,11 +72,11 @@ returns-then-content-GREATEST_BOOT-clause-answer c = λ sh image b is.
     let bound = counts_bound sh image b _ is c.fields-content.result.now c.in-Ok.reach.tail.op c.bound_of-bound.result c.fields-content.ensures.value (c.bound_of-bound.ensures image is.tells.shows (c.count_all-seen.ensures.own image is.tells.shows is.shows)) in
     let kept = (c.is_lost.ensures.unbound image b.content bound (ap (λ (x : Content). x.head) content)).0 c.if-is_lost.false in
     let number = c.replies-stored.ensures image b.content found.tail is.shows (boot_is sh image b _ is c.fields-content.result.now c.fields-content.ensures.value) (ap (λ (x : Content). x.replies) content) (sym found.ends.mark) in
-    opens_spent sh image b _ is c.in-Ok.reach c.find_known.new.sessions.sessions early found c.replies-stored.result (boot_is sh image b _ is c.fields-content.result.now c.fields-content.ensures.value ∙ c.if-content-GREATEST_BOOT.true) stored_found kept number
+    opens_spent sh image b _ is c.in-Ok.reach c.find_known.new.sessions.sessions early found c.replies-stored.result (boot_is sh image b _ is c.fields-content.result.now c.fields-content.ensures.value ∙ c.if-content-eq-GREATEST_BOOT.true) stored_found kept number
     (subst (λ (x : Content). AllAnswered image x (sessions_of c.find_known.new.sessions.sessions) c.replies-stored.result) (sym content) (c.in-None.ensures.lacks image is.shows))
 
-pub returns-else-content-GREATEST_BOOT-clause-answer : goal.returns-else-content-GREATEST_BOOT-clause-answer
-returns-else-content-GREATEST_BOOT-clause-answer c = λ sh image b is.
+pub returns-else-content-eq-GREATEST_BOOT-clause-answer : goal.returns-else-content-eq-GREATEST_BOOT-clause-answer
+returns-else-content-eq-GREATEST_BOOT-clause-answer c = λ sh image b is.
     let content = content_same sh image b _ is c.fields-content.result.now c.fields-content.ensures.value in
     let counts = c.count_all-seen.ensures.all image is.tells.shows is.shows in
     let early = (c.is_behind.ensures.none sh image b.content counts (boot_is sh image b _ is c.fields-content.result.now c.fields-content.ensures.value) (ap (λ (x : Content). x.sequence) content) (ap (λ (x : Content). x.op) content) is.slots_are).0 c.if-is_behind.false in
@@ -84,13 +84,13 @@ returns-else-content-GREATEST_BOOT-clause-answer c = λ sh image b is.
     let bound = counts_bound sh image b _ is c.fields-content.result.now c.in-Ok.reach.tail.op c.bound_of-bound.result c.fields-content.ensures.value (c.bound_of-bound.ensures image is.tells.shows (c.count_all-seen.ensures.own image is.tells.shows is.shows)) in
     let kept = (c.is_lost.ensures.unbound image b.content bound (ap (λ (x : Content). x.head) content)).0 c.if-is_lost.false in
     let number = c.replies-stored.ensures image b.content found.tail is.shows (boot_is sh image b _ is c.fields-content.result.now c.fields-content.ensures.value) (ap (λ (x : Content). x.replies) content) (sym found.ends.mark) in
-    finds sh image b _ is c.in-Ok.reach c.find_known.new.sessions.sessions early found c.replies-stored.result (below_spent sh image b _ is c.fields-content.result.now c.fields-content.ensures.value c.if-content-GREATEST_BOOT.false) stored_found kept number
+    finds sh image b _ is c.in-Ok.reach c.find_known.new.sessions.sessions early found c.replies-stored.result (below_spent sh image b _ is c.fields-content.result.now c.fields-content.ensures.value c.if-content-eq-GREATEST_BOOT.false) stored_found kept number
     (subst (λ (x : Content). AllAnswered image x (sessions_of c.find_known.new.sessions.sessions) c.replies-stored.result) (sym content) (c.in-None.ensures.lacks image is.shows))
 
 -- ---- the bounds, of an image that shows what the tables say
 
-pub returns-else-content-GREATEST_BOOT-clause-few : goal.returns-else-content-GREATEST_BOOT-clause-few
-returns-else-content-GREATEST_BOOT-clause-few c =
+pub returns-else-content-eq-GREATEST_BOOT-clause-few : goal.returns-else-content-eq-GREATEST_BOOT-clause-few
+returns-else-content-eq-GREATEST_BOOT-clause-few c =
     let slots = c.args.slots.now.slots in
     let f = c.fields-content.result.now in
     let image = image_of slots c.args.replies.now in
@@ -98,8 +98,8 @@ returns-else-content-GREATEST_BOOT-clause-few c =
     let number = c.replies-stored.ensures image (any_base f c.args.sessions.now.sessions).content found.tail (shows_replies slots c.args.replies.now) refl refl (sym found.ends.mark) in
     few_wait (any_shape c.args.layout.now) image f c.args.sessions.now.sessions c.find_known.new.sessions.sessions c.in-Ok.reach c.replies-stored.result (subst IsSuper (sym c.fields-content.ensures.value) c.fields-content.ensures.usable.rules) found number
 
-pub returns-else-content-GREATEST_BOOT-clause-order : goal.returns-else-content-GREATEST_BOOT-clause-order
-returns-else-content-GREATEST_BOOT-clause-order c =
+pub returns-else-content-eq-GREATEST_BOOT-clause-order : goal.returns-else-content-eq-GREATEST_BOOT-clause-order
+returns-else-content-eq-GREATEST_BOOT-clause-order c =
     let slots = c.args.slots.now.slots in
     let f = c.fields-content.result.now in
     let image = image_of slots c.args.replies.now in
@@ -111,8 +111,8 @@ returns-else-content-GREATEST_BOOT-clause-order c =
     let complete : IsComplete c.bound_of-bound.result f.head c.in-Ok.reach.tail.op = subst (λ (b : Bool). OnFalse b (IsComplete c.bound_of-bound.result f.head c.in-Ok.reach.tail.op)) c.if-is_lost.false c.is_lost.ensures.counters in
     not_above (any_shape c.args.layout.now) image f c.args.sessions.now.sessions c.find_known.new.sessions.sessions c.in-Ok.reach c.replies-stored.result (subst IsSuper (sym c.fields-content.ensures.value) c.fields-content.ensures.usable.rules) found number c.bound_of-bound.result bound.replies complete
 
-pub returns-else-content-GREATEST_BOOT-clause-asked : goal.returns-else-content-GREATEST_BOOT-clause-asked
-returns-else-content-GREATEST_BOOT-clause-asked c =
+pub returns-else-content-eq-GREATEST_BOOT-clause-asked : goal.returns-else-content-eq-GREATEST_BOOT-clause-asked
+returns-else-content-eq-GREATEST_BOOT-clause-asked c =
     let slots = c.args.slots.now.slots in
     let f = c.fields-content.result.now in
     let image = image_of slots c.args.replies.now in
@@ -120,8 +120,8 @@ returns-else-content-GREATEST_BOOT-clause-asked c =
     let number = c.replies-stored.ensures image (any_base f c.args.sessions.now.sessions).content found.tail (shows_replies slots c.args.replies.now) refl refl (sym found.ends.mark) in
     asked_on (any_shape c.args.layout.now) image f c.args.sessions.now.sessions c.find_known.new.sessions.sessions c.in-Ok.reach c.replies-stored.result (subst IsSuper (sym c.fields-content.ensures.value) c.fields-content.ensures.usable.rules) found number
 
-pub returns-else-content-GREATEST_BOOT-clause-tracks : goal.returns-else-content-GREATEST_BOOT-clause-tracks
-returns-else-content-GREATEST_BOOT-clause-tracks c =
+pub returns-else-content-eq-GREATEST_BOOT-clause-tracks : goal.returns-else-content-eq-GREATEST_BOOT-clause-tracks
+returns-else-content-eq-GREATEST_BOOT-clause-tracks c =
     let slots = c.args.slots.now.slots in
     let f = c.fields-content.result.now in
     let image = image_of slots c.args.replies.now in
