@@ -37,7 +37,7 @@ fn plan_log(file: &DataFile, copies: &Copies, head: u64, rooms: &mut LogRooms)
     requires layout { rooms.old.layout ≡ file.now.layout }
     requires cluster { rooms.old.slots.start.cluster ≡ file.now.cluster }
     requires slots { AreSlots file.now.layout file.now.cluster rooms.old.slots.slots }
-    ensures planned { ArePlannedFrom file.now.layout file.now.cluster rooms.old.slots head copies.now.slots copies.now.found.chosen.members rooms.new.headers rooms.new.mends.items }
+    ensures planned { ArePlannedFrom file.now.layout file.now.cluster rooms.new.slots head copies.now.slots copies.now.found.chosen.members rooms.new.headers rooms.new.mends.items }
     ensures layout { rooms.new.layout ≡ file.now.layout }
     ensures slots { rooms.new.slots ≡ rooms.old.slots }
     ensures replies { rooms.new.replies ≡ rooms.old.replies }
@@ -54,6 +54,30 @@ fn plan_log(file: &DataFile, copies: &Copies, head: u64, rooms: &mut LogRooms)
         &mut rooms.headers,
         &mut rooms.mends,
     );
+}
+
+// The checksums of the prepares that wait, by the tables of the rooms.
+fn waits_in(
+    file: &DataFile,
+    rooms: &LogRooms,
+    base: u64,
+    replies: u64,
+    head: u64,
+) -> ArrayVec<Check, 8>
+    requires layout { rooms.now.layout ≡ file.now.layout }
+    requires base { base ≡ rooms.now.slots.start.op }
+    requires order { replies ≤ head }
+    requires few { head ≤ replies + 8 }
+    ensures { result.items ≡ waiting_in file.now.layout.slots rooms.now.slots rooms.now.headers replies head }
+{
+    waiting_of(
+        &file.layout,
+        &rooms.slots,
+        &rooms.headers,
+        base,
+        replies,
+        head,
+    )
 }
 
 // The survey of a file whose state was found: of what was read, with the sessions after the tail and their stored replies.
@@ -78,13 +102,13 @@ fn surveyed(traces: &Traces, scanned: Scanned) -> Surveyed
         sessions,
     } = scanned;
     plan_log(&file, &copies, traces.tail.op, &mut log);
-    let waiting = waiting_of(
-        &file.layout,
-        &log.slots,
-        &log.headers,
+    let head = traces.tail.op;
+    let waiting = waits_in(
+        &file,
+        &log,
         copies.found.content.fields().op,
         traces.replies,
-        traces.tail.op,
+        head,
     );
     let scanned = Scanned {
         file,
