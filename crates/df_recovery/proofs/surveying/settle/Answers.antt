@@ -2,6 +2,7 @@
 use Rattle.std.proofs.Common.{refl, ◌∙◌, subst, sym}
 use Rattle.df_theory.specs.Sessions.{Tracks}
 use Rattle.df_recovery.specs.Below.{AreAsked}
+use Rattle.df_recovery.specs.declared.scanned.Scanned.{Scanned}
 use Rattle.df_recovery.proofs.Settled.{numbered_by, opened, refused}
 use Rattle.df_recovery.proofs.surveying.settle.Goals as goal
 
@@ -38,7 +39,8 @@ returns-in-Ok-clause-kept c = let keeps = c.surveyed.ensures.kept in record { fi
 pub returns-in-Ok-clause-answer : goal.returns-in-Ok-clause-answer
 returns-in-Ok-clause-answer c = λ t is.
     let keeps = c.surveyed.ensures.kept in
-    opened t c.args.scanned is c.in-Ok.traces c.find_state-found.new.sessions.sessions _ c.surveyed.result c.in-Ok.ensures.answer (c.in-Ok.ensures.unstored c.requires.sessions.unstored) c.store_replies.ensures.stored
+    let settled : Scanned = record c.args.scanned { sessions = c.store_replies.new.sessions } in
+    opened t c.args.scanned is c.in-Ok.traces c.find_state-found.new.sessions.sessions settled c.surveyed.result c.in-Ok.ensures.answer (c.in-Ok.ensures.unstored c.requires.sessions.unstored) c.store_replies.ensures.stored
     (record { file = refl; copies = refl; slots = refl }) refl refl
     (record { file = keeps.file; copies = keeps.copies; root = keeps.root; blocks = keeps.blocks; slots = keeps.slots; sessions = keeps.sessions })
     c.surveyed.ensures.traces c.surveyed.ensures.waiting c.surveyed.ensures.planned
