@@ -2,7 +2,7 @@
 use Rattle.std.proofs.Common.{◌≡◌, ◌∙◌, ℕ, ap, refl, sym, arith, ◌<◌, ◌^◌, subst}
 use Rattle.std.specs.Prelude.{None, false}
 use Rattle.df_format.specs.SuperRules.{IsUsable}
-use Rattle.df_scrub.specs.Scrubber.{ScrubState}
+use Rattle.df_damage.specs.Below.{ScrubState}
 use Rattle.df_damage.proofs.Laws.{plain_super}
 use Rattle.df_opening.proofs.surveying.parts_of.Goals as goal
 
