@@ -1,5 +1,5 @@
 -- What the table decides of a slot is what the theory decides of the image.
-use Rattle.std.proofs.Common.{◌≡◌, ◌==◌, inl, inr, ℕ, ◌%◌, ◌<◌, ◌^◌, ◌≤◌, length, List, Option, Some, sym, ◌∙◌, ap, subst, arith}
+use Rattle.std.proofs.Common.{◌≡◌, ◌==◌, inl, inr, ℕ, ◌%◌, ◌<◌, ◌^◌, ◌≤◌, length, List, Option, Some, None, sym, ◌∙◌, ap, subst, arith}
 use Rattle.std.specs.Prelude.{Result, Ok, Err, Bool, true, not, nat_le, nat_lt, if◌then◌else◌}
 use Rattle.std.specs.List.{slice_get}
 use Rattle.std.proofs.lemmas.Bool.{cases_Bool, cases_eq, cond-true, cond-false, eq-eqb, ne_eqb}
@@ -28,7 +28,7 @@ use Rattle.df_journal.specs.Scan.{Scan}
 use Rattle.df_journal.proofs.Ops.{one_op}
 use Rattle.df_journal.specs.declared.table.Start.{Start}
 use Rattle.df_journal.specs.Planned.{has_header_of, named, named_by, named_on, planned, planned_on, shows_header}
-use Rattle.df_journal.specs.Seen.{HasChecks, IsOfCheck, IsOpOf, decision_on, seen_in}
+use Rattle.df_journal.specs.Seen.{HasChecks, IsOfCheck, IsOpOf, IsTaken, TakesNow, decision_on, seen_in}
 use Rattle.df_journal.specs.Shows.{IsHeaderThere, IsTable, ShowsHeader, ShowsPrepare, ShowsSlot, Tells, TellsRings}
 
 header_seen : (b o : ℕ) (x : Option AnyUnit) (r : Result Header Class) → ShowsHeader x r → Cases.seen_header b o x ≡ seen_in b o r
@@ -119,6 +119,13 @@ pub shown_checks : (layout : Layout) (cluster s : ℕ) (table : List SlotSeen) (
 shown_checks layout cluster s table seen h is at shown =
     let there = shown_unit layout cluster s table seen h is at shown in
     (taken_check layout cluster s h there, taken_parent layout cluster s h there)
+
+-- what isn't taken from the entry of a slot isn't taken from that slot
+pub not_taken : (start : Start) (op : ℕ) (table : List SlotSeen) (s t : ℕ) (seen other : SlotSeen) (h : Header) → s ≡ t → slice_get table s ≡ Some seen → slice_get table t ≡ Some other → TakesNow start op seen None → IsTaken start op other h → ⊥
+not_taken start op table s t seen other h same here there none taken =
+    let both : Some other ≡ Some seen = sym there ∙ ap (slice_get table) (sym same) ∙ here in
+    let one : other ≡ seen = cc in
+    none h (subst (λ (x : SlotSeen). IsTaken start op x h) one taken)
 
 -- ---- the decision that is given on a slot
 

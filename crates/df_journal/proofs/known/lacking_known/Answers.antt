@@ -35,6 +35,11 @@ returns-in-None-clause-tells c = λ sh image content tells names.
     read_lacks sh image content c.args.layout.now c.args.found.now.start.cluster c.args.found.now.slots c.slot_of.result c.loop-op.op c.seen.result c.loop-op.wanted c.requires.table tells.shows c.seen.ensures slot c.loop-op.invariant.checksum c.in-None.ensures
     (omega (arith, names.op_is, first, c.loop-op-test.true)) (c.loop-op.invariant.read sh image content tells names)
 
+pub returns-in-None-clause-above : goal.returns-in-None-clause-above
+returns-in-None-clause-above c =
+    let first : c.found.inside.start.op ≡ c.args.found.now.start.op = ap (λ (s : Scan). s.start.op) c.found.view_is in
+    omega (arith, first, c.loop-op-test.true)
+
 pub returns-clause-tells : goal.returns-clause-tells
 returns-clause-tells c = λ sh image content tells names.
     let first : c.found.inside.start.op ≡ c.args.found.now.start.op = ap (λ (s : Scan). s.start.op) c.found.view_is in

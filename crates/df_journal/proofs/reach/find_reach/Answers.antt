@@ -76,6 +76,13 @@ loop-at-preserved c =
           (subst (λ (ss : List Session). IsWalk c.args.layout.now.clients c.args.layout.now.slots image b c.keep_whole.new.tail c.keep_whole.new.sessions.sessions (position_of h) ss) (sym c.apply.ensures.sessions) more);
     }
 
+pub loop-at-smaller : goal.loop-at-smaller
+loop-at-smaller c =
+    let first : c.found.inside.start.op ≡ c.args.found.now.start.op = ap (λ (s : Scan). s.start.op) c.found.view_is in
+    let last_is : tail_to c.in-Some.header ≡ c.position_of-at.result.last = ap (λ (p : Position). p.last) (sym c.position_of-at.ensures) in
+    let op : c.position_of-at.result.last.op ≡ c.loop-at.at.last.op + 1 = sym (ap (λ (t : Tail). t.op) last_is) ∙ c.in-Some.ensures.op in
+    omega (arith, op, first, c.loop-at-test.true, c.from.ensures, c.loop-at.invariant.from, c.loop-at.invariant.order)
+
 pub returns-in-None-clause-reach : goal.returns-in-None-clause-reach
 returns-in-None-clause-reach c = λ sh image b tells starts known.
     let start : c.found.inside.start ≡ c.args.found.now.start = ap (λ (s : Scan). s.start) c.found.view_is in
