@@ -35,6 +35,7 @@ fn damaged(zone: Zone, index: u64, class: Class) -> Answer {
 
 // Ops 1 to 3 and the replies to 1 and 2 were found by the open of boot 3, so its superblock names prepare 3 and, since op 3 waits, the
 // reply to op 2 alone. Op 4 was appended behind it.
+#[derive(Clone, Copy)]
 struct File {
     named: Named,
     prepares: [Unit; 4],
