@@ -81,7 +81,7 @@ fn waits_in(
 }
 
 // The survey of a file whose state was found: of what was read, with the sessions after the tail and their stored replies.
-fn surveyed(traces: &Traces, scanned: Scanned) -> Surveyed
+fn with_plan(traces: &Traces, scanned: Scanned) -> Surveyed
     requires scanned { IsLawful scanned }
     requires tail { EndsBehind scanned.file.layout scanned.copies.found.content traces.now }
     requires sessions { AreAfter traces.now scanned.sessions.sessions }
@@ -168,7 +168,7 @@ fn settle(scanned: Scanned) -> Result<Surveyed, (Rooms, OpenError)>
                 root,
                 sessions,
             };
-            Ok(surveyed(&traces, settled))
+            Ok(with_plan(&traces, settled))
         }
         Err(refusal) => Err((rooms_of(file.layout, log, grid, trailer, scrub), refusal)),
     }

@@ -42,7 +42,7 @@ struct File {
     replies: [Unit; 2],
 }
 
-fn file() -> File {
+fn made_file() -> File {
     let one = prepare(1, NONE, 5, 1, 0, 2);
     let two = prepare(2, sum_of(&one), 6, 1, 1, 2);
     let three = prepare(3, sum_of(&two), 5, 2, 2, 2);
@@ -84,7 +84,7 @@ fn fifth(file: &File, boot: u64) -> Unit {
 
 #[test]
 fn named_prepares_are_known_by_their_checksums(rt: HostRuntime) -> Result<(), Fail> {
-    let file = file();
+    let file = made_file();
     let other = Unit {
         mark: 0,
         ..file.prepares[1]
@@ -110,7 +110,7 @@ fn vec_of(alloc: Global, puts: &[Put]) -> Result<Vec<Put>, Fail> {
 
 #[test]
 fn a_named_prepare_that_does_not_fit_is_stale(rt: HostRuntime) -> Result<(), Fail> {
-    let file = file();
+    let file = made_file();
     let unfit = Unit {
         request: 7,
         ..file.prepares[2]
@@ -150,7 +150,7 @@ fn a_named_prepare_that_does_not_fit_is_stale(rt: HostRuntime) -> Result<(), Fai
 
 #[test]
 fn a_later_boot_refuses_and_an_earlier_one_leaves_no_trace(rt: HostRuntime) -> Result<(), Fail> {
-    let file = file();
+    let file = made_file();
     let later = damaged(Zone::Superblock, 0, Class::Stale);
     let rows = [
         (Put::Prepare(fifth(&file, 4)), later),
@@ -174,7 +174,7 @@ fn a_later_boot_refuses_and_an_earlier_one_leaves_no_trace(rt: HostRuntime) -> R
 
 #[test]
 fn a_named_reply_is_known_by_its_checksum(rt: HostRuntime) -> Result<(), Fail> {
-    let file = file();
+    let file = made_file();
     let stale = damaged(Zone::ClientReplies, 1, Class::Stale);
     let rows = [
         (Put::Hurt(72), damaged(Zone::ClientReplies, 1, Class::Garbled)),
@@ -199,7 +199,7 @@ fn a_named_reply_is_known_by_its_checksum(rt: HostRuntime) -> Result<(), Fail> {
 
 #[test]
 fn a_group_counts_as_a_whole(rt: HostRuntime) -> Result<(), Fail> {
-    let file = file();
+    let file = made_file();
     let five = Unit {
         group: (5, 6),
         ..fifth(&file, 3)
@@ -226,7 +226,7 @@ fn a_group_counts_as_a_whole(rt: HostRuntime) -> Result<(), Fail> {
 
 #[test]
 fn the_greatest_boot_is_refused_last(rt: HostRuntime) -> Result<(), Fail> {
-    let file = file();
+    let file = made_file();
     let boot = 1u64 << 62;
     let spent = File {
         named: Named { boot, ..file.named },

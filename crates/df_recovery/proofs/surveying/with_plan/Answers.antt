@@ -3,7 +3,7 @@ use Rattle.std.proofs.Common.{◌-◌, ◌+◌, ◌≡◌, ◌∙◌, sym, ap, s
 use Rattle.df_journal.specs.Scan.{Scan}
 use Rattle.df_journal.specs.Shows.{IsTable as AreSlots}
 use Rattle.df_recovery.proofs.Waits.{waiting_count}
-use Rattle.df_recovery.proofs.surveying.surveyed.Goals as goal
+use Rattle.df_recovery.proofs.surveying.with_plan.Goals as goal
 
 pub returns-clause-found : goal.returns-clause-found
 returns-clause-found c =
