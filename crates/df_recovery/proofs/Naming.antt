@@ -31,7 +31,7 @@ pin_from f rules = elim (cases_eq f.version 2) [
 
 pub pin_near : (f : SuperFields) → IsSuper f → pin_of f ≤ f.op + f.slots
 pin_near f rules = elim (cases_eq f.version 2) [
-  | inl second ↦ let pin : pin_of f ≡ f.head = by_second f f.head f.op second in omega (arith, pin, rules.head.1.0)
+  | inl second ↦ let pin : pin_of f ≡ f.head = by_second f f.head f.op second in omega (arith, pin, rules.head.1)
   | inr other ↦ let pin : pin_of f ≡ f.op = by_other f f.head f.op other in omega (arith, pin)
 ]
 
