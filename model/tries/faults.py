@@ -206,7 +206,7 @@ def ended_early(t: Try) -> None:
     number = t.random.randrange(len(places))
     got = plan.again(t, [f"read:retval=0:when={places[number].number}+"])
     given = plan.text[: sum(call.result for call in places[:number])]
-    wanted = script.run(plan.data, given)
+    wanted = command(plan.data, plan.words, given)
     same_run("an input that ends early", wanted, got)
     same_bytes("an input that ends early", wanted.data, t.binary.get())
     t.counts["inputs that end early"] += 1
