@@ -1,7 +1,7 @@
-// The choice over tables of four slots: rows in which a content is chosen, and rows in which no two copies agree.
-use crate::super_examples::FIRST;
+// The choice over tables of four slots, as pictures of the four copies.
+use crate::super_examples::{FIRST, OF_PLACE_2, members};
 use df_format::{SuperCopy, SuperFields};
-use df_layout::{Class, Place, Zone};
+use df_layout::Class;
 use df_quorum::{Chosen, Slot, choose};
 
 const EARLY: SuperFields = SuperFields {
@@ -30,277 +30,99 @@ const STRANGE: SuperFields = SuperFields {
     ..EARLY
 };
 
-// A content.
-#[derive(Clone, Copy)]
-enum Content {
-    Early,
-    Later,
-    Twin,
-    Booted,
-    Strange,
-}
-
-// What stands at the place of a copy.
-#[derive(Clone, Copy)]
-enum Shown {
-    // A sound copy that says it has this number, of the early content.
-    Early(u8),
-    Later(u8),
-    Twin(u8),
-    Booted(u8),
-    Strange(u8),
-    // Of the early content too, but for its checksum, which is this byte sixteen times.
-    Summed(u8, u8),
-    Bad(Class),
-}
-
-const BLANK: Shown = Shown::Bad(Class::Blank);
-
-const GARBLED: Shown = Shown::Bad(Class::Garbled);
-
-fn sound(number: u8, checksum: u8, fields: SuperFields) -> Slot {
-    Slot::Sound(SuperCopy {
-        number,
-        checksum: [checksum; 16],
-        fields,
-    })
-}
-
-fn slot_of(shown: Shown) -> Slot {
-    match shown {
-        Shown::Early(number) => sound(number, 5, EARLY),
-        Shown::Later(number) => sound(number, 6, LATER),
-        Shown::Twin(number) => sound(number, 7, TWIN),
-        Shown::Booted(number) => sound(number, 8, BOOTED),
-        Shown::Strange(number) => sound(number, 9, STRANGE),
-        Shown::Summed(number, checksum) => sound(number, checksum, EARLY),
-        Shown::Bad(class) => Slot::Bad(class),
+// The checksum's byte and the content of the copy that a letter of a picture stands for.
+fn content_of(letter: u8) -> Option<(u8, SuperFields)> {
+    match letter {
+        b'E' => Some((5, EARLY)),
+        b'L' => Some((6, LATER)),
+        b'T' => Some((7, TWIN)),
+        b'B' => Some((8, BOOTED)),
+        b'S' => Some((9, STRANGE)),
+        // Of the early content too, but with the checksum of the later one, or of the booted one.
+        b'l' => Some((6, EARLY)),
+        b'b' => Some((8, EARLY)),
+        _ => None,
     }
 }
 
-fn chosen(copies: [Shown; 4]) -> Result<Chosen, [Class; 4]> {
-    let [first, second, third, last] = copies;
+// The class that any other letter stands for.
+fn class_of(letter: u8) -> Class {
+    match letter {
+        b'g' => Class::Garbled,
+        b'o' => OF_PLACE_2,
+        b's' => Class::Stale,
+        _ => Class::Blank,
+    }
+}
+
+// What stands at the place of a copy: a content whose copy says that it has this number, or something of a class.
+fn slot_of(letter: u8, number: u8) -> Slot {
+    match content_of(letter) {
+        Some((checksum, fields)) => Slot::Sound(SuperCopy {
+            number: number.saturating_sub(b'0'),
+            checksum: [checksum; 16],
+            fields,
+        }),
+        None => Slot::Bad(class_of(letter)),
+    }
+}
+
+fn chosen(copies: &[u8; 8]) -> Result<Chosen, [Class; 4]> {
+    let [first, one, second, two, third, three, last, four] = *copies;
     choose(&[
-        slot_of(first),
-        slot_of(second),
-        slot_of(third),
-        slot_of(last),
+        slot_of(first, one),
+        slot_of(second, two),
+        slot_of(third, three),
+        slot_of(last, four),
     ])
 }
 
-const YES: bool = true;
-
-const NO: bool = false;
-
-// What stands at the four places, the content that is chosen, and which of the copies are its own.
-const CHOSEN: [(&'static str, [Shown; 4], Content, [bool; 4]); 14] = [
-    (
-        "four equal copies",
-        [
-            Shown::Early(0),
-            Shown::Early(1),
-            Shown::Early(2),
-            Shown::Early(3),
-        ],
-        Content::Early,
-        [YES, YES, YES, YES],
-    ),
-    (
-        "the first two of a later sequence",
-        [
-            Shown::Later(0),
-            Shown::Later(1),
-            Shown::Early(2),
-            Shown::Early(3),
-        ],
-        Content::Later,
-        [YES, YES, NO, NO],
-    ),
-    (
-        "the last two of a later sequence",
-        [
-            Shown::Early(0),
-            Shown::Early(1),
-            Shown::Later(2),
-            Shown::Later(3),
-        ],
-        Content::Later,
-        [NO, NO, YES, YES],
-    ),
-    (
-        "a single one of a later sequence",
-        [Shown::Later(0), Shown::Early(1), Shown::Early(2), BLANK],
-        Content::Early,
-        [NO, YES, YES, NO],
-    ),
-    (
-        "two contents of one sequence",
-        [
-            Shown::Early(0),
-            Shown::Twin(1),
-            Shown::Early(2),
-            Shown::Twin(3),
-        ],
-        Content::Early,
-        [YES, NO, YES, NO],
-    ),
-    (
-        "the same, the other way round",
-        [
-            Shown::Twin(0),
-            Shown::Early(1),
-            Shown::Early(2),
-            Shown::Twin(3),
-        ],
-        Content::Twin,
-        [YES, NO, NO, YES],
-    ),
-    (
-        "the last two of a later boot",
-        [
-            Shown::Early(0),
-            Shown::Early(1),
-            Shown::Booted(2),
-            Shown::Booted(3),
-        ],
-        Content::Booted,
-        [NO, NO, YES, YES],
-    ),
-    (
-        "the first two of a later boot",
-        [
-            Shown::Booted(0),
-            Shown::Booted(1),
-            Shown::Early(2),
-            Shown::Early(3),
-        ],
-        Content::Booted,
-        [YES, YES, NO, NO],
-    ),
-    (
-        "a single one of a later boot",
-        [Shown::Booted(0), Shown::Early(1), Shown::Early(2), BLANK],
-        Content::Early,
-        [NO, YES, YES, NO],
-    ),
-    (
-        "a later sequence and a later boot",
-        [
-            Shown::Booted(0),
-            Shown::Later(1),
-            Shown::Booted(2),
-            Shown::Later(3),
-        ],
-        Content::Later,
-        [NO, YES, NO, YES],
-    ),
-    (
-        "a later boot of another version",
-        [
-            Shown::Booted(0),
-            Shown::Booted(1),
-            Shown::Strange(2),
-            Shown::Strange(3),
-        ],
-        Content::Strange,
-        [NO, NO, YES, YES],
-    ),
-    (
-        "two damaged copies",
-        [GARBLED, Shown::Early(1), BLANK, Shown::Early(3)],
-        Content::Early,
-        [NO, YES, NO, YES],
-    ),
-    (
-        "a damaged copy",
-        [Shown::Early(0), GARBLED, Shown::Early(2), Shown::Early(3)],
-        Content::Early,
-        [YES, NO, YES, YES],
-    ),
-    (
-        "copies that stand at each other's place",
-        [
-            Shown::Later(1),
-            Shown::Later(0),
-            Shown::Early(2),
-            Shown::Early(3),
-        ],
-        Content::Early,
-        [NO, NO, YES, YES],
-    ),
-];
-
-// How a content is chosen of which these copies are.
-fn choice_of(content: Content, members: [bool; 4]) -> Chosen {
-    let content = match content {
-        Content::Early => EARLY,
-        Content::Later => LATER,
-        Content::Twin => TWIN,
-        Content::Booted => BOOTED,
-        Content::Strange => STRANGE,
-    };
-    Chosen { content, members }
-}
-
-#[test]
-fn the_greatest_content_of_two_copies_is_chosen(rt: HostRuntime) {
-    for (name, copies, content, members) in &CHOSEN {
-        assert!(rt;
-            chosen(*copies) == Ok(choice_of(*content, *members)),
-            "{name}"
-        );
+// What comes of it: the content whose letter stands at the places of its own copies; where there is none, the classes.
+fn choice_of(picture: &[u8; 4]) -> Result<Chosen, [Class; 4]> {
+    for letter in picture {
+        if let Some((_, content)) = content_of(*letter) {
+            let members = members(picture, *letter);
+            return Ok(Chosen { content, members });
+        }
     }
+    let [first, second, third, last] = *picture;
+    Err([
+        class_of(first),
+        class_of(second),
+        class_of(third),
+        class_of(last),
+    ])
 }
 
-const OTHER: Class = Class::Elsewhere(Place {
-    zone: Zone::Superblock,
-    index: 2,
-});
-
-const STALE: Class = Class::Stale;
-
-const SPLIT: [(&'static str, [Shown; 4], [Class; 4]); 6] = [
-    (
-        "three contents, and one that is early too, but for its checksum",
-        [
-            Shown::Early(0),
-            Shown::Later(1),
-            Shown::Twin(2),
-            Shown::Summed(3, 8),
-        ],
-        [STALE; 4],
-    ),
-    (
-        "four contents, two of them of a later boot",
-        [
-            Shown::Booted(0),
-            Shown::Strange(1),
-            Shown::Early(2),
-            Shown::Twin(3),
-        ],
-        [STALE; 4],
-    ),
-    (
-        "equal checksums with different fields",
-        [BLANK, Shown::Summed(1, 6), BLANK, Shown::Later(3)],
-        [Class::Blank, STALE, Class::Blank, STALE],
-    ),
-    (
-        "three damaged copies",
-        [GARBLED, Shown::Bad(OTHER), Shown::Early(2), BLANK],
-        [Class::Garbled, OTHER, STALE, Class::Blank],
-    ),
-    ("a new file", [BLANK; 4], [Class::Blank; 4]),
-    (
-        "one copy four times: it is at its own place once",
-        [Shown::Early(2); 4],
-        [OTHER, OTHER, STALE, OTHER],
-    ),
+// What stands at the four places, each with the number that the copy says it has, and the choice.
+const ROWS: [(&'static str, &'static [u8; 8], &'static [u8; 4]); 20] = [
+    ("four equal copies", b"E0E1E2E3", b"EEEE"),
+    ("the first two of a later sequence", b"L0L1E2E3", b"LL--"),
+    ("the last two of a later sequence", b"E0E1L2L3", b"--LL"),
+    ("a single one of a later sequence", b"L0E1E2..", b"-EE-"),
+    ("two contents of one sequence", b"E0T1E2T3", b"E-E-"),
+    ("the same, the other way round", b"T0E1E2T3", b"T--T"),
+    ("the last two of a later boot", b"E0E1B2B3", b"--BB"),
+    ("the first two of a later boot", b"B0B1E2E3", b"BB--"),
+    ("a single one of a later boot", b"B0E1E2..", b"-EE-"),
+    ("a later sequence and a later boot", b"B0L1B2L3", b"-L-L"),
+    ("a later boot of another version", b"B0B1S2S3", b"--SS"),
+    ("two damaged copies", b"g.E1..E3", b"-E-E"),
+    ("a damaged copy", b"E0g.E2E3", b"E-EE"),
+    ("copies at each other's places", b"L1L0E2E3", b"--EE"),
+    // The last one is early too, but for its checksum.
+    ("three contents and an odd copy", b"E0L1T2b3", b"ssss"),
+    ("two of four contents of later boots", b"B0S1E2T3", b"ssss"),
+    ("one checksum with two contents", b"..l1..L3", b".s.s"),
+    ("three damaged copies", b"g.o.E2..", b"gos."),
+    ("a new file", b"........", b"...."),
+    // It is at its own place once.
+    ("one copy four times", b"E2E2E2E2", b"ooso"),
 ];
 
 #[test]
-fn copies_that_do_not_agree_give_their_classes(rt: HostRuntime) {
-    for (name, copies, classes) in &SPLIT {
-        assert!(rt; chosen(*copies) == Err(*classes), "{name}");
+fn the_greatest_content_of_two_copies_is_chosen_or_none_and_the_classes_told(rt: HostRuntime) {
+    for (name, copies, choice) in &ROWS {
+        assert!(rt; chosen(copies) == choice_of(choice), "{name}");
     }
 }

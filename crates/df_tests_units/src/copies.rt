@@ -1,7 +1,7 @@
 // Copies of the superblock against values from outside: the bytes of the first one, and which sectors are a copy.
-use crate::super_examples::{FIRST, LATER, sealed, written};
+use crate::super_examples::{FIRST, LATER, OF_PLACE_2, sealed, written};
 use df_format::{SuperCopy, SuperFields, decode_copy, decode_own_copy, test_fields};
-use df_layout::{Class, Layout, Place, Zone};
+use df_layout::{Class, Layout};
 
 // The first 80 bytes of its copy 2, the others are zero. The checksum is from another implementation of SHA-256.
 const FRONT: [u8; 80] = [
@@ -111,10 +111,6 @@ fn tells_which_sectors_are_a_copy(rt: HostRuntime) {
 
 #[test]
 fn tells_the_class_of_a_sector(rt: HostRuntime) {
-    let place = Place {
-        zone: Zone::Superblock,
-        index: 2,
-    };
     let cases = [
         ([0; 4096], Err(Class::Blank)),
         (with(25, 1), Err(Class::Garbled)),
@@ -126,7 +122,7 @@ fn tells_the_class_of_a_sector(rt: HostRuntime) {
             },
             Err(Class::Garbled),
         ),
-        (example(), Err(Class::Elsewhere(place))),
+        (example(), Err(OF_PLACE_2)),
         (with(16, 1), Ok(1)),
     ];
     for (i, (bytes, answer)) in cases.iter().enumerate() {

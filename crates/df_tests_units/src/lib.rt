@@ -23,8 +23,6 @@ mod room_examples;
 #[cfg(test)]
 mod rooms;
 #[cfg(test)]
-mod second_classes;
-#[cfg(test)]
 mod second_headers;
 #[cfg(test)]
 mod second_superblocks;

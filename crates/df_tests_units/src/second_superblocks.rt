@@ -1,10 +1,10 @@
 // Superblocks of version 2: their bytes against values from outside, and each of their own tests failing in turn.
-use crate::super_examples::{FIRST, LATER, sealed, written};
+use crate::super_examples::{LATER, NEW, OF_PLACE_2, sealed, written};
 use df_base::Check;
 use df_format::{
     NO_CHECKSUM, NO_CHECKSUMS, SuperFault, SuperFields, decode_copy, decode_own_copy, test_fields,
 };
-use df_layout::{Class, Field, Place, Zone};
+use df_layout::{Class, Field};
 
 // The checksum of the prepare of op 1, of boot 1 and by itself, and that of a reply to it with the body aa.
 const PREPARE: Check = [
@@ -14,12 +14,6 @@ const PREPARE: Check = [
 const REPLY: Check = [
     0x42, 0x19, 0xe9, 0x6b, 0xf5, 0x24, 0xcd, 0x07, 0x53, 0x15, 0x95, 0x23, 0x96, 0x57, 0x13, 0xec,
 ];
-
-// The first superblock of version 2.
-const NEW: SuperFields = SuperFields {
-    version: 2,
-    ..FIRST
-};
 
 // One with a checkpoint of op 100 and a head of its own.
 const SECOND: SuperFields = SuperFields {
@@ -146,13 +140,9 @@ fn tells_the_class_of_a_sector_of_version_2(rt: HostRuntime) {
     other[16] = 1;
     let mut named = sector;
     named[192] = 1;
-    let place = Place {
-        zone: Zone::Superblock,
-        index: 2,
-    };
     let cases = [
         (2, sector, Ok(2)),
-        (1, sector, Err(Class::Elsewhere(place))),
+        (1, sector, Err(OF_PLACE_2)),
         // The checksum covers what is named, and not the number.
         (1, other, Ok(1)),
         (2, named, Err(Class::Garbled)),

@@ -1,7 +1,7 @@
 // The copies of the superblock over disks in memory: updates, reads and repairs, and a disk that loses writes.
 ghost use Rattle.std.specs.Prelude.{◌≡◌, ◌<◌};
 
-use crate::super_examples::FIRST;
+use crate::super_examples::{FIRST, NEW, members};
 use df_base::SECTOR;
 use df_buffers::ProbeRoom;
 use df_disk::Disk;
@@ -19,13 +19,9 @@ const SECOND: SuperFields = SuperFields {
 };
 
 // Of version 2, in the first boot and in the one behind it.
-const BOOTED: SuperFields = SuperFields {
-    version: 2,
-    boot: 1,
-    ..FIRST
-};
+const BOOTED: SuperFields = SuperFields { boot: 1, ..NEW };
 
-const REBOOTED: SuperFields = SuperFields { boot: 2, ..BOOTED };
+const REBOOTED: SuperFields = SuperFields { boot: 2, ..NEW };
 
 // A blank disk whose listed calls fail.
 fn blank(rt: &impl Abort, alloc: Global, failing: &[u64]) -> MemoryDisk {
@@ -220,31 +216,41 @@ fn stopped(rt: &impl Abort, alloc: Global, room: &mut ProbeRoom, number: u8, lef
     chosen(rt, &mut disk, room)
 }
 
-// The copy within whose write an update is stopped, what is left of it, whether the new content is chosen, and its members.
-const STOPPED: [(u8, Left, bool, [bool; 4]); 12] = [
-    (0, Left::Before, false, [true, true, true, true]),
-    (0, Left::Torn, false, [false, true, true, true]),
-    (0, Left::Written, false, [false, true, true, true]),
-    (1, Left::Before, false, [false, true, true, true]),
-    (1, Left::Torn, false, [false, false, true, true]),
-    (1, Left::Written, true, [true, true, false, false]),
-    (2, Left::Before, true, [true, true, false, false]),
-    (2, Left::Torn, true, [true, true, false, false]),
-    (2, Left::Written, true, [true, true, true, false]),
-    (3, Left::Before, true, [true, true, true, false]),
-    (3, Left::Torn, true, [true, true, true, false]),
-    (3, Left::Written, true, [true, true, true, true]),
+// The copy within whose write an update is stopped, and what is chosen where the sector is as it was, is torn, or is written: `o` is a
+// copy that belongs to the old content, and `n` to the new one.
+const STOPPED: [(u8, &'static [u8; 4], &'static [u8; 4], &'static [u8; 4]); 4] = [
+    (0, b"oooo", b"-ooo", b"-ooo"),
+    (1, b"-ooo", b"--oo", b"nn--"),
+    (2, b"nn--", b"nn--", b"nnn-"),
+    (3, b"nnn-", b"nnn-", b"nnnn"),
 ];
+
+fn choice_of(picture: &[u8; 4]) -> Chosen {
+    let new = members(picture, b'n');
+    if new == [false; 4] {
+        Chosen {
+            content: BOOTED,
+            members: members(picture, b'o'),
+        }
+    } else {
+        Chosen {
+            content: REBOOTED,
+            members: new,
+        }
+    }
+}
 
 #[test]
 fn an_update_by_its_boot_alone_leaves_the_old_content_or_the_new_one(rt: HostRuntime) {
     let mut room = new_room(&rt, rt.alloc());
-    for (number, left, is_new, members) in &STOPPED {
-        let chosen = stopped(&rt, rt.alloc(), &mut room, *number % 4, *left);
-        let content = if *is_new { REBOOTED } else { BOOTED };
-        assert!(rt;
-            chosen.content == content && chosen.members == *members,
-            "copy {number}, {left:?}"
-        );
+    for (number, before, torn, written) in &STOPPED {
+        for (left, picture) in [
+            (Left::Before, *before),
+            (Left::Torn, *torn),
+            (Left::Written, *written),
+        ] {
+            let chosen = stopped(&rt, rt.alloc(), &mut room, *number % 4, left);
+            assert!(rt; chosen == choice_of(picture), "copy {number}, {left:?}");
+        }
     }
 }
