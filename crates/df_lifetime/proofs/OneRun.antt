@@ -161,22 +161,23 @@ calls_count s u old new (a ∷ acts) (x ∷ answers) w calls k =
 -- ---- a run that came to its end
 
 -- it has no call without an answer, and printed what it counted
-run_ended : (run : Run) (t : Replica) (told : Option Told) (failed : Option Act) (old new : Option (List ℕ)) (status : Status) → HasEnded status → Writes run t told failed old new status → (failed ≡ None) × (status ≡ Done) × Appends old new (workload_text (workload_of run t))
-run_ended run t told None old new Done ended wrote = (refl, refl, wrote)
-run_ended run t told None old new Found ended wrote = absurd wrote
-run_ended run t told (Some a) old new Done ended wrote = absurd wrote
-run_ended run t told (Some a) old new Found ended wrote = absurd wrote
-run_ended run t told failed old new Script ended wrote = absurd ended
-run_ended run t told failed old new Words ended wrote = absurd ended
-run_ended run t told failed old new Refused ended wrote = absurd ended
-run_ended run t told failed old new NoMemory ended wrote = absurd ended
-run_ended run t told failed old new DiskFault ended wrote = absurd ended
-run_ended run t told failed old new ReadFault ended wrote = absurd ended
-run_ended run t told failed old new WriteFault ended wrote = absurd ended
+module _ (run : Run) (t : Replica) (told : Option Told) (old new : Option (List ℕ)) where
+  run_ended : (failed : Option Act) (status : Status) → HasEnded status → Writes run t told failed old new status → (failed ≡ None) × (status ≡ Done) × Appends old new (workload_text (workload_of run t))
+  run_ended None Done ended wrote = (refl, refl, wrote)
+  run_ended None Found ended wrote = absurd wrote
+  run_ended (Some a) Done ended wrote = absurd wrote
+  run_ended (Some a) Found ended wrote = absurd wrote
+  run_ended failed Script ended wrote = absurd ended
+  run_ended failed Words ended wrote = absurd ended
+  run_ended failed Refused ended wrote = absurd ended
+  run_ended failed NoMemory ended wrote = absurd ended
+  run_ended failed DiskFault ended wrote = absurd ended
+  run_ended failed ReadFault ended wrote = absurd ended
+  run_ended failed WriteFault ended wrote = absurd ended
 
 module _ (seed count : ℕ) (layout : Layout) (t : Told) (old new : Outside) (status : Status) (opening : FoundFile layout t) (works : WorksThrough seed count layout t opening old new status) (whole : IsImage t.shown) (ended : HasEnded status) where
   pub by_end : (works.worked.failed ≡ None) × (status ≡ Done) × Appends old.written new.written (workload_text (workload_of works.run works.last))
-  by_end = run_ended works.run works.last new.told works.worked.failed old.written new.written status ended works.written
+  by_end = run_ended works.run works.last new.told old.written new.written works.worked.failed status ended works.written
 
   pub asks_none : asks works.run ≡ None
   asks_none = works.worked.asked ∙ ap asked_by by_end.0

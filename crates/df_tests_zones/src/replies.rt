@@ -28,10 +28,10 @@ fn four_sessions() -> SessionTable
 // The replies to two requests of each of four clients, in turn.
 fn turn_of(turn: u8) -> Stored {
     Stored {
-        boot: 0,
         client: turn % 4 + 1,
         request: turn / 4 + 1,
         op: turn.saturating_add(1),
+        boot: None,
         ahead: 0,
         checkpoint: 1,
         slot: turn % 4,
@@ -67,20 +67,20 @@ fn the_second_reply_of_the_third_of_four_clients_is_torn(rt: HostRuntime) {
 }
 
 const FIRST: Stored = Stored {
-    boot: 0,
     client: 1,
     request: 2,
     op: 5,
+    boot: None,
     ahead: 1,
     checkpoint: 1,
     slot: 0,
 };
 
 const SECOND: Stored = Stored {
-    boot: 0,
     client: 2,
     request: 1,
     op: 6,
+    boot: None,
     ahead: 0,
     checkpoint: 1,
     slot: 1,
@@ -116,10 +116,10 @@ fn found(top: u64, checkpoint: u64, replies: u64, lacking: Option<Lacking>) -> F
 
 // A reply in a place that the table of sessions lacks.
 const PAST: Stored = Stored {
-    boot: 0,
     client: 9,
     request: 1,
     op: 9,
+    boot: None,
     ahead: 0,
     checkpoint: 1,
     slot: 3,
@@ -194,10 +194,18 @@ fn other_replies_in_a_slot_are_told_apart(rt: HostRuntime) {
     }
 }
 
+// The same reply of this boot.
+fn of_boot(stored: Stored, boot: u8) -> Stored {
+    Stored {
+        boot: Some(boot),
+        ..stored
+    }
+}
+
 // The replies to the two sessions and one more, the boot that is asked for, and what is found of it.
 fn booted_cases() -> [(&'static str, [Stored; 3], u64, Finding); 5] {
-    let first = Stored { boot: 3, ..FIRST };
-    let second = Stored { boot: 3, ..SECOND };
+    let first = of_boot(FIRST, 3);
+    let second = of_boot(SECOND, 3);
     let later = Finding {
         boot: 3,
         ..found(6, 1, 6, FIRST_LACKS)
@@ -244,7 +252,7 @@ fn booted_cases() -> [(&'static str, [Stored; 3], u64, Finding); 5] {
         ),
         (
             "one of a later boot",
-            [first, second, Stored { boot: 4, ..first }],
+            [first, second, of_boot(FIRST, 4)],
             3,
             Finding {
                 boot: 4,

@@ -78,13 +78,14 @@ impl Disk for Board {
     }
 }
 
-// A reply by its numbers, each but the boot 1 at the least; its mark is so many ops ahead of its own. In boot 0 it is of version 1.
+// A reply by its numbers; client, request, op, boot and checkpoint are 1 at the least. Its mark is so many ops ahead of its own, and
+// where it names no boot, it is of version 1.
 #[derive(Clone, Copy)]
 pub(crate) struct Stored {
-    pub(crate) boot: u8,
     pub(crate) client: u8,
     pub(crate) request: u8,
     pub(crate) op: u8,
+    pub(crate) boot: Option<u8>,
     pub(crate) ahead: u8,
     pub(crate) checkpoint: u8,
     pub(crate) slot: u8,
@@ -109,14 +110,13 @@ fn header_of(stored: &Stored, body: &[u8]) -> Header
         slot: u32::from(stored.slot % 4),
         ..Header::of(Kind::Reply, 7)
     };
-    if stored.boot == 0 {
-        first
-    } else {
-        Header {
+    match stored.boot {
+        None => first,
+        Some(boot) => Header {
             version: 2,
-            boot: u64::from(stored.boot),
+            boot: u64::from(boot.max(1)),
             ..first
-        }
+        },
     }
 }
 
