@@ -53,9 +53,92 @@ pub(crate) fn prepare_header(op: u64, request: u64, boot: u64, parent: Check) ->
     }
 }
 
+// The header of a prepare of client 5 behind a checkpoint at op 4, one request an op: in boot 0 of version 1, and else of version 2,
+// by itself or in a group of two, that of an odd op and the next.
+#[tactic(auto, unfolding(df_format::specs::Own::own_place, df_format::specs::Spelling::no_checksum))]
+pub(crate) fn grouped_header(op: u64, boot: u8, is_paired: bool, parent: Check) -> Header
+    requires op { (5 ≤ op) × (op ≤ 1000) }
+    ensures sealed { ObeysRules result }
+    ensures rules { ObeysRules (for_body result []) }
+    ensures kind { result.kind ≡ Kind.Prepare }
+    ensures cluster { result.cluster ≡ 7 }
+    ensures slot { result.slot ≤ 31 }
+    ensures own { (layout : AnyLayout) → layout.slots ≡ 32 → IsSome (own_place layout Zone.WalPrepares result) }
+{
+    let first = if op % 2 == 0 { op - 1 } else { op };
+    let (group, group_last) = if is_paired {
+        (first, first + 1)
+    } else {
+        (op, op)
+    };
+    let is_second = boot > 0;
+    Header {
+        checksum_body: check(&[]),
+        parent,
+        client: 5,
+        op,
+        request: op - 4,
+        mark: op - 1,
+        checkpoint: 1,
+        size: 256,
+        slot: (op % 32) as u32,
+        version: if is_second { 2 } else { 1 },
+        boot: u64::from(boot),
+        group: if is_second { group } else { 0 },
+        group_last: if is_second { group_last } else { 0 },
+        ..Header::of(Kind::Prepare, 7)
+    }
+}
+
 // A blank disk in memory.
 pub(crate) fn blank(alloc: Global) -> MemoryDisk {
     MemoryDisk::new(alloc, Vec::new(alloc))
+}
+
+// A scan that starts there: the table, and how it ended.
+pub(crate) fn tried_from(
+    rt: &impl Abort,
+    alloc: Global,
+    disk: &mut MemoryDisk,
+    layout: &Layout,
+    start: &Start,
+) -> (SlotTable, Result<(), Failed>)
+    requires { start.now.op ≤ 2 ^ 62 }
+    ensures count { length result.0.slots ≡ layout.now.slots }
+    ensures start { result.0.start ≡ start.now }
+    ensures table { OnOk result.1 (IsTable layout.now result.0.start.cluster result.0.slots) }
+{
+    let blank = SlotSeen {
+        header: Err(Class::Garbled),
+        prepare: Err(Class::Garbled),
+    };
+    let slots = vec![in alloc; blank; layout.slots as usize].expect(rt, "memory of a table");
+    let mut found = SlotTable::over(slots);
+    let mut sector: Raw<HeaderSector> = Raw::reserve(alloc, layout).expect(
+        rt,
+        "memory of a sector",
+    );
+    let room: Raw<Prepare> = Raw::reserve(alloc, layout).expect(rt, "memory of a room");
+    let (_, done) = scan(disk, layout, start, &mut found, &mut sector, room);
+    (found, done)
+}
+
+// What a scan that starts there sees.
+pub(crate) fn scanned_from(
+    rt: &impl Abort,
+    alloc: Global,
+    disk: &mut MemoryDisk,
+    layout: &Layout,
+    start: &Start,
+) -> SlotTable
+    requires { start.now.op ≤ 2 ^ 62 }
+    ensures count { length result.slots ≡ layout.now.slots }
+    ensures start { result.start ≡ start.now }
+    ensures table { IsTable layout.now result.start.cluster result.slots }
+{
+    let (found, done) = tried_from(rt, alloc, disk, layout, start);
+    done.expect(rt, "a disk whose calls all succeed");
+    found
 }
 
 // A scan behind a checkpoint with this op, in this boot: the table, and how it ended.
@@ -71,25 +154,13 @@ pub(crate) fn tried(
     ensures count { length result.0.slots ≡ layout.now.slots }
     ensures table { OnOk result.1 (IsTable layout.now result.0.start.cluster result.0.slots) }
 {
-    let blank = SlotSeen {
-        header: Err(Class::Garbled),
-        prepare: Err(Class::Garbled),
-    };
-    let slots = vec![in alloc; blank; layout.slots as usize].expect(rt, "memory of a table");
-    let mut found = SlotTable::over(slots);
-    let mut sector: Raw<HeaderSector> = Raw::reserve(alloc, layout).expect(
-        rt,
-        "memory of a sector",
-    );
-    let room: Raw<Prepare> = Raw::reserve(alloc, layout).expect(rt, "memory of a room");
     let start = Start {
         cluster: 7,
         op,
         head: op,
         boot,
     };
-    let (_, done) = scan(disk, layout, &start, &mut found, &mut sector, room);
-    (found, done)
+    tried_from(rt, alloc, disk, layout, &start)
 }
 
 // What a scan behind an empty checkpoint sees, in this boot.

@@ -11,6 +11,8 @@ mod files;
 #[cfg(test)]
 mod headers;
 #[cfg(test)]
+mod named;
+#[cfg(test)]
 mod replies;
 #[cfg(test)]
 mod rings;

@@ -43,7 +43,7 @@ fn append_next(
 }
 
 // Writes both sectors of the header ring.
-fn write_ring(
+pub(crate) fn write_ring(
     rt: &impl Abort,
     alloc: Global,
     disk: &mut MemoryDisk,
