@@ -12,4 +12,4 @@ pub use Rattle.df_damage.proofs.Written.{had_is_written, opened_is_written}
 pub use Rattle.df_damage.proofs.Begun.{added_is_told, honest_stays, same_goes_on, stops_alike}
 pub use Rattle.df_damage.proofs.Started.{hurt_may_begin}
 -- ---- what an open finds
-pub use Rattle.df_recovery.proofs.Laws.{asked_noted, course_on, file_is_read, filter_more, kept_is_answer, one_super, plain_super, refused_is_answer, same_file, scanned_of_file, slot_mends_more, super_is_written, version_one, waiting_count, written_is}
+pub use Rattle.df_recovery.proofs.Laws.{asked_noted, course_on, filter_more, head_found, numbered_by, one_super, plain_super, same_file, slot_mends_more, super_is_written, written_is}

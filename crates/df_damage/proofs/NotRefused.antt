@@ -21,15 +21,15 @@ use Rattle.df_units.specs.Superblocks.{AreFieldsOf}
 use Rattle.df_units.proofs.Laws.{chosen_choice, passing_is_usable, shown_checks}
 use Rattle.df_recovery.specs.Below.{parse_of, shape, DataFile}
 use Rattle.df_model.specs.declared.errors.OpenError.{OpenError}
-use Rattle.df_model.specs.declared.errors.OpenError.TheVariants.{NotFormatted, NoQuorum, Version, BadField, LayoutDiffers, Damaged, DiskFault}
+use Rattle.df_model.specs.declared.errors.OpenError.TheVariants.{NotFormatted, NoQuorum, Version, BadField, LayoutDiffers, Damaged, DiskFault, BootSpent}
 use Rattle.df_recovery.specs.Opening.{HasSuper, IsLayoutOf, Refuses}
-use Rattle.df_recovery.specs.Surveys.{HasFile, Surveys}
-use Rattle.df_recovery.proofs.Laws.{asked_none, one_super, super_or_refusal, same_file}
+use Rattle.df_recovery.specs.Surveys.{HasFile, IsAsked, Surveys}
+use Rattle.df_recovery.proofs.Laws.{asked_none, one_super, one_super_as, super_or_refusal, same_file}
 use Rattle.df_damage.specs.Unrefused.{FoundIsNotRefused, IsNotRefused}
 
 -- ---- the answers
 
-module _ (file : DataFile) (image : Image) (view : View) (whole : IsImage image) (found : IsFound (shape file) (unit_at file.layout file.cluster image) view) where
+module _ (file : DataFile) (image : Image) (view : View) (version : file.version ≡ 1) (whole : IsImage image) (found : IsFound (shape file) (unit_at file.layout file.cluster image) view) where
   -- the choice among the copies is the view's content
   choice : (c : Content) × (content_of c ≡ view.checkpoint.content) × Quorum.IsChosen (content_at image) c
   choice = chosen_choice file.layout file.cluster image view.checkpoint.content whole found.chosen
@@ -41,10 +41,10 @@ module _ (file : DataFile) (image : Image) (view : View) (whole : IsImage image)
   rules =
       let tests : PassesTests (shape file) (content_of choice.0) = subst (PassesTests (shape file)) (sym choice.1) found.checkpoint.tests in
       let reference : IsReference (layout_of file.layout) (content_of choice.0) = subst (IsReference (layout_of file.layout)) (sym choice.1) found.checkpoint.trailer.reference in
-      passing_is_usable 1 file.layout file.cluster file.named (parse_of (layout_of file.layout)) choice.0 (inl refl) (shown_checks image choice.2.agreed.first choice.0 whole choice.2.agreed.at_first) tests reference
+      passing_is_usable file.version file.layout file.cluster file.named (parse_of (layout_of file.layout)) choice.0 (inl version) (shown_checks image choice.2.agreed.first choice.0 whole choice.2.agreed.at_first) tests reference
 
   super : HasSuper image fields
-  super = record { content = choice.0; chosen = choice.2; fields = refl; usable = asked_none fields (subst (PassesTests (shape file)) (sym choice.1) found.checkpoint.tests).version rules.1 }
+  super = record { content = choice.0; chosen = choice.2; fields = refl; usable = asked_none fields ((subst (PassesTests (shape file)) (sym choice.1) found.checkpoint.tests).version ∙ version) rules.1 }
 
   usable : (error : OpenError) → Refuses image error → ⊥
   usable error refuses = super_or_refusal image fields error super refuses
@@ -60,12 +60,12 @@ module _ (file : DataFile) (image : Image) (view : View) (whole : IsImage image)
       (is.blocks ∙ ap (λ (g : SuperFields). g.blocks) same ∙ rules.0.blocks)
 
   -- another refusal would be of this very file, which has one answer
-  unrefused : (other : DataFile) (f : SuperFields) (r : Refusal) → HasFile image other f → other.layout ≡ file.layout → Opens (shape other) (unit_at file.layout other.cluster image) (Refused r) → ⊥
+  unrefused : (other : DataFile) (f : SuperFields) (r : Refusal) → HasFile image other f → IsAsked 1 file.layout other → Opens (shape other) (unit_at file.layout other.cluster image) (Refused r) → ⊥
   unrefused other f r has of opens =
-      let cluster : other.cluster ≡ file.cluster = sym has.cluster ∙ ap (λ (g : SuperFields). g.cluster) (one_super image f fields has.super super) ∙ rules.0.cluster_is in
+      let cluster : other.cluster ≡ file.cluster = sym has.cluster ∙ ap (λ (g : SuperFields). g.cluster) (one_super_as other.version 1 image f fields has.super super) ∙ rules.0.cluster_is in
       let here : Opens (shape file) (unit_at file.layout file.cluster image) (Refused r) =
-      subst (λ (x : DataFile). Opens (shape x) (unit_at file.layout x.cluster image) (Refused r)) (same_file other file of cluster) opens in
-      let none = (found.checkpoint.tests.of.one found.checkpoint.tests.version).0 in
+      subst (λ (x : DataFile). Opens (shape x) (unit_at file.layout x.cluster image) (Refused r)) (same_file other file of.layout_is cluster (of.version_is ∙ sym version)) opens in
+      let none = (found.checkpoint.tests.of.one (found.checkpoint.tests.version ∙ version)).0 in
       let both : Refused r ≡ Found view = one_answer_law (shape file) (unit_at file.layout file.cluster image) (Refused r) (Found view) here (Opened view found (omega (arith, none))) in
       cc
 
@@ -78,9 +78,10 @@ module _ (file : DataFile) (image : Image) (view : View) (whole : IsImage image)
   answered (LayoutDiffers reserved there) is = absurd (is.differ (own_layout there is.fields is.super is.found_is))
   answered (Damaged place class) is = absurd (unrefused is.file is.fields (Refusal.Damaged is.at) is.has is.of is.opens)
   answered DiskFault is = refl
+  answered BootSpent is = absurd (unrefused is.file is.fields Refusal.BootSpent is.has is.of is.opens)
 
   not_refused : IsNotRefused file image
   not_refused = record { usable = usable; layout = λ layout shown. own_layout layout shown.fields shown.super shown.numbers; answered = answered }
 
 pub found_is_not_refused : FoundIsNotRefused
-found_is_not_refused file image view whole found = not_refused file image view whole found
+found_is_not_refused file image view version whole found = not_refused file image view version whole found

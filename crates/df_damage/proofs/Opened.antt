@@ -31,7 +31,7 @@ module _ (file : DataFile) (view : View) (t : Told) (may : MayBeHurt file view t
   pub as_left : IsFound (shape file) (unit_at file.layout file.cluster t.shown) view → OpensAsLeft file view t
   as_left found = record {
     found = found;
-    opens = found_is_not_refused file t.shown view may.whole found;
+    opens = found_is_not_refused file t.shown view may.version may.whole found;
     finds = λ s is. (opened_file file view t may s is, one_found_law (shape file) (unit_at file.layout file.cluster t.shown) is.view view (opened_found file view t may s is) found);
   }
 
@@ -67,7 +67,7 @@ headers_tell file view t s may unhurt is = (each, λ copies. checkpoint_stays_la
 
     each : HasEachHeader file t is.view
     each slot h at above =
-        let first = found.checkpoint.tests.of.one found.checkpoint.tests.version in
+        let first = found.checkpoint.tests.of.one (found.checkpoint.tests.version ∙ may.version) in
         let here : unit_at file.layout file.cluster t.shown (HeaderPlace slot) ≡ Some (HeaderUnit h) = unhurt_zone file view t may (HeaderPlace slot) unhurt ∙ ap (λ (u : Units). u (HeaderPlace slot)) (left file view t may) ∙ at in
         headers_tell_law (shape file) (shown file view t may) is.view slot h
         (of_places file.layout file.cluster file.named (parse_of (layout_of file.layout)) t.shown may.whole) found here

@@ -9,7 +9,7 @@ use Rattle.df_layout.specs.declared.places.Place.{Place}
 use Rattle.df_layout.specs.Zones.{file_sectors}
 use Rattle.df_format.specs.declared.superblock.SuperFault.TheVariants.{BadField as BrokenField, Version as OtherVersion}
 use Rattle.df_model.specs.declared.errors.OpenError.{OpenError}
-use Rattle.df_model.specs.declared.errors.OpenError.TheVariants.{BadField, Damaged, DiskFault, LayoutDiffers, NoQuorum, NotFormatted, Version}
+use Rattle.df_model.specs.declared.errors.OpenError.TheVariants.{BadField, BootSpent, Damaged, DiskFault, LayoutDiffers, NoQuorum, NotFormatted, Version}
 use Rattle.df_theory.specs.Copies.{Agree}
 use Rattle.df_theory.specs.DamageLaws as laws
 use Rattle.df_theory.specs.Found.{IsFound}
@@ -31,7 +31,7 @@ use Rattle.df_damage.specs.Disks.{MayBeHurt}
 use Rattle.df_damage.specs.Hurt.{IsHurtFile, IsHurtPlace, IsUnhurt}
 use Rattle.df_damage.specs.Refusals.{BlamesHurt, IsBlamed, MayBeOfDamage, ProbeIsOfHurt, RefusalsAreOfDamage, RefusalsBlameHurt}
 use Rattle.df_damage.proofs.Barriers.{agreed_rest, left, log, pooled, rests, shown}
-use Rattle.df_damage.proofs.Files.{no_bad_field, no_fault, own_layout, refused_here, rules, tests}
+use Rattle.df_damage.proofs.Files.{no_bad_field, no_fault, no_spent, own_layout, refused_here, rules, tests}
 use Rattle.df_damage.proofs.NotRefused.{found_is_not_refused}
 use Rattle.df_damage.proofs.Sectors.{in_zone, place_differs, search}
 
@@ -47,6 +47,7 @@ module _ (file : DataFile) (view : View) (t : Told) (may : MayBeHurt file view t
   of_damage (LayoutDiffers reserved found) is other = absurd (is.differ (own_layout file view t may found is.fields is.super is.found_is))
   of_damage (Damaged place class) is other = tt
   of_damage DiskFault is other = absurd (other refl)
+  of_damage BootSpent is other = absurd (no_spent file view t may (refused_here file view t may is.file is.fields opens.BootSpent is.has is.of is.opens))
 
   -- ---- where no sector of the file is hurt, none comes
 
@@ -57,7 +58,7 @@ module _ (file : DataFile) (view : View) (t : Told) (may : MayBeHurt file view t
   some_hurt : (e : OpenError) → Surveys file.layout t.shown (Err e) → (e ≡ DiskFault → ⊥) → IsHurtFile file.layout t
   some_hurt e is other = elim (search t.shown (logs.now t.log) 0 (file_sectors file.layout)) [
     | inl found ↦ record { sector = found.sector; inside = omega (arith, found.below); hurt = found.differs }
-    | inr same ↦ absurd (other ((found_is_not_refused file t.shown view may.whole (unhurt_found (λ sector inside. same sector (omega arith) (omega (arith, inside))))).answered e is))
+    | inr same ↦ absurd (other ((found_is_not_refused file t.shown view may.version may.whole (unhurt_found (λ sector inside. same sector (omega arith) (omega (arith, inside))))).answered e is))
   ]
 
   pub are_of_damage : (e : OpenError) → Surveys file.layout t.shown (Err e) → (e ≡ DiskFault → ⊥) → MayBeOfDamage e × IsHurtFile file.layout t
@@ -83,7 +84,7 @@ module _ (file : DataFile) (view : View) (t : Told) (may : MayBeHurt file view t
   alone p at =
       let slot = p.header.op % file.layout.slots in
       let here = (may.found.tail.takes p at).shown in
-      let first = may.found.checkpoint.tests.of.one may.found.checkpoint.tests.version in
+      let first = may.found.checkpoint.tests.of.one (may.found.checkpoint.tests.version ∙ may.version) in
       let whole : IsImage (logs.now t.log) = now_is_image t.log.start t.log.events may.safe.is_log.start may.safe.is_log.events in
       (unbooted_alone file.layout file.cluster (logs.now t.log) whole slot p here (omega (arith, (may.found.not_behind.prepare slot p here).2, first.0))).first
 
@@ -121,7 +122,7 @@ module _ (file : DataFile) (view : View) (t : Told) (may : MayBeHurt file view t
     usable e refuses =
         let chosen = (never_behind_law (shape file) (log file view t may) view (shown file view t may) (rests file view t may) (pooled file view t may) agreed).0 in
         let choice = chosen_choice file.layout file.cluster t.shown view.checkpoint.content may.whole chosen in
-        super_or_refusal t.shown choice.0.fields e (record { content = choice.0; chosen = choice.2; fields = refl; usable = asked_none choice.0.fields (tests file view t may choice.0 choice.2).0.version (rules file view t may choice.0 choice.2).1 }) refuses
+        super_or_refusal t.shown choice.0.fields e (record { content = choice.0; chosen = choice.2; fields = refl; usable = asked_none choice.0.fields ((tests file view t may choice.0 choice.2).0.version ∙ may.version) (rules file view t may choice.0 choice.2).1 }) refuses
 
     pub blames : (e : OpenError) → Surveys file.layout t.shown (Err e) → (e ≡ DiskFault → ⊥) → BlamesHurt file view t e
     blames NotFormatted is other = usable NotFormatted is
@@ -134,6 +135,7 @@ module _ (file : DataFile) (view : View) (t : Told) (may : MayBeHurt file view t
         let who = blame_law (shape file) (log file view t may) view (shown file view t may) (opens.Damaged is.at) (rests file view t may) may.no_chance agreed refused in
         subst (λ (p : Place). IsBlamed file view t p.zone p.index) is.at_is (blamed is.at who)
     blames DiskFault is other = other refl
+    blames BootSpent is other = of_damage BootSpent is other
 
 -- ---- a look at the copies
 
@@ -146,6 +148,7 @@ refused_opens file t (BadField field value) refuses = (inl refuses, λ is. cc)
 refused_opens file t (LayoutDiffers reserved found) refuses = absurd refuses
 refused_opens file t (Damaged place class) refuses = absurd refuses
 refused_opens file t DiskFault refuses = absurd refuses
+refused_opens file t BootSpent refuses = absurd refuses
 
 pub probe_is_of_hurt : ProbeIsOfHurt
 probe_is_of_hurt file view t may = record {

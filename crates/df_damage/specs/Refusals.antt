@@ -6,7 +6,7 @@ use Rattle.df_layout.specs.declared.layout.Layout.{Layout}
 use Rattle.df_layout.specs.declared.places.Zone.{Zone}
 use Rattle.df_layout.specs.declared.places.Zone.TheVariants.{ClientReplies, Grid, Superblock, WalHeaders, WalPrepares}
 use Rattle.df_model.specs.declared.errors.OpenError.{OpenError}
-use Rattle.df_model.specs.declared.errors.OpenError.TheVariants.{BadField, Damaged, DiskFault, LayoutDiffers, NoQuorum, NotFormatted, Version}
+use Rattle.df_model.specs.declared.errors.OpenError.TheVariants.{BadField, BootSpent, Damaged, DiskFault, LayoutDiffers, NoQuorum, NotFormatted, Version}
 use Rattle.df_theory.specs.Found.{IsTail}
 use Rattle.df_theory.specs.Tails.{In}
 use Rattle.df_theory.specs.Units.{BlockPlace, Message, PreparePlace, ReplyPlace, Session}
@@ -19,7 +19,7 @@ use Rattle.df_recovery.specs.Below.{DataFile, shape}
 use Rattle.df_damage.specs.Disks.{IsAtRest, MayBeHurt}
 use Rattle.df_damage.specs.Hurt.{HasTwoCopies, IsHurtFile, IsHurtPlace}
 
--- the refusals of a file that damage explains: no copies, no two that agree, or a place that is named; a version, a field or a layout never
+-- the refusals of a file that damage explains: no copies, no two that agree, or a place that is named; a version, a field, a layout or a spent boot never
 abbrev pub MayBeOfDamage : OpenError → Type 0
 MayBeOfDamage NotFormatted = Unit {0}
 MayBeOfDamage (NoQuorum classes) = Unit {0}
@@ -28,6 +28,7 @@ MayBeOfDamage (BadField field value) = ⊥
 MayBeOfDamage (LayoutDiffers reserved found) = ⊥
 MayBeOfDamage (Damaged place class) = Unit {0}
 MayBeOfDamage DiskFault = ⊥
+MayBeOfDamage BootSpent = ⊥
 
 -- with rooms of the file's layout no other refusal comes, and none where no sector of the file is hurt; a fault of the disk in the open itself is none of these
 abbrev pub RefusalsAreOfDamage : Type 0

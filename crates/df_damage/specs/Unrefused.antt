@@ -18,6 +18,6 @@ pub record IsNotRefused (file : DataFile) (image : Image) : Type 0 where
   pub layout : (layout : Layout) → IsLayoutShown image layout → layout ≡ file.layout
   pub answered : (error : OpenError) → Surveys file.layout image (Err error) → error ≡ DiskFault
 
--- an image in which a view is found, whatever was done to it, isn't refused
+-- an image of a file of version 1 in which a view is found, whatever was done to it, isn't refused
 abbrev pub FoundIsNotRefused : Type 0
-FoundIsNotRefused = (file : DataFile) (image : Image) (view : View) → IsImage image → IsFound (shape file) (unit_at file.layout file.cluster image) view → IsNotRefused file image
+FoundIsNotRefused = (file : DataFile) (image : Image) (view : View) → file.version ≡ 1 → IsImage image → IsFound (shape file) (unit_at file.layout file.cluster image) view → IsNotRefused file image

@@ -30,7 +30,7 @@ module _ (layout : Layout) (a b : Image) (same : ShowSame layout a b) where
     fields_alike = one_super b s.fields u.fields (record { content = one.has.super.content; chosen = chosen; fields = one.has.super.fields; usable = one.has.super.usable }) other.has.super
 
     pub file_alike : s.file ≡ u.file
-    file_alike = same_file s.file u.file (one.of ∙ sym other.of) (sym one.has.cluster ∙ ap (λ (f : SuperFields). f.cluster) fields_alike ∙ other.has.cluster)
+    file_alike = same_file s.file u.file (one.of.layout_is ∙ sym other.of.layout_is) (sym one.has.cluster ∙ ap (λ (f : SuperFields). f.cluster) fields_alike ∙ other.has.cluster) (one.of.version_is ∙ sym other.of.version_is)
 
     pub view_alike : one.view ≡ other.view
     view_alike =

@@ -9,8 +9,8 @@ use Rattle.df_lifetime.proofs.Lives.{every_life_goes_on, every_life_is_in_order,
 use Rattle.df_lifetime.proofs.Orders.{made_grew}
 
 start_stays : (file : DataFile) (t : Told) (chapters : List Chapter) (life : Life file t chapters) → t.log.start ≡ began_with file t chapters life
-start_stays file _ _ (Made t n makable honest word) = (made_grew file.layout file.cluster t n word.formats.0.events).2
-start_stays file _ _ (Begun t n m status changes makable honest word wanting moment there loose chance held) = moment.since.2
+start_stays file _ _ (Made t n version makable honest word) = (made_grew file.layout file.cluster t n word.formats.0.events).2
+start_stays file _ _ (Begun t n m status changes version makable honest word wanting moment there loose chance held) = moment.since.2
 start_stays file _ _ (Ran t n chapters word life chance) = (word_comes file chapters t (every_life_is_in_order file t chapters life) chance n word).start ∙ start_stays file t chapters life
 start_stays file _ _ (Ended t n m chapters word answered life chance moment honest had) = moment.since.2 ∙ start_stays file t chapters life
 start_stays file _ _ (Formatted t n chapters layout cluster status life chance word) =
@@ -22,5 +22,5 @@ life_may_be_hurt file t chapters shown life began chance whole none =
     let opens : MayBeOpened file chapters t = every_life_goes_on file t chapters life chance in (
       opens.view,
       opens.had,
-      record { safe = opens.may.safe; empty = start_stays file t chapters life ∙ began; found = opens.may.found; whole = whole; no_chance = none },
+      record { version = opens.may.version; safe = opens.may.safe; empty = start_stays file t chapters life ∙ began; found = opens.may.found; whole = whole; no_chance = none },
     )

@@ -372,7 +372,7 @@ left_by log changes is loose = record {
   kept = λ sector firm. changed_kept log.events changes (now log) sector loose firm;
 }
 
-module _ (file : DataFile) (chapters : List Chapter) (t : Told) (safe : IsSafeDisk (format file) (shape file) t.log) (honest : IsHonest t) (changes : List (ℕ × List ℕ)) (loose : AreLoose t.log.events changes)
+module _ (file : DataFile) (chapters : List Chapter) (t : Told) (version : file.version ≡ 1) (safe : IsSafeDisk (format file) (shape file) t.log) (honest : IsHonest t) (changes : List (ℕ × List ℕ)) (loose : AreLoose t.log.events changes)
     (chance : NoChanceOf (format file) t.log (changed changes (now t.log))) (there : Has file chapters (changed changes (now t.log))) where
   rests : RestsOn (shape file) (units_log (format file) (did (Stop changes) t).log) there.view
   rests = disk_stop_law (format file) (shape file) there.view t.log changes safe loose chance there.held
@@ -383,7 +383,7 @@ module _ (file : DataFile) (chapters : List Chapter) (t : Told) (safe : IsSafeDi
 
   stopped_order : IsInOrder file chapters (did (Stop changes) t)
   stopped_order =
-      in_order file chapters (did (Stop changes) t) (record { shows = λ sector i. changed changes (λ s. honest.shows s i) sector })
+      in_order file chapters (did (Stop changes) t) version (record { shows = λ sector i. changed changes (λ s. honest.shows s i) sector })
       (record {
         safe =
             safe_disk_law (format file) (shape file) (did (Stop changes) t).log (is_format file.layout file.cluster) (record { start = safe.is_log.start; events = (loose, safe.is_log.events) })
@@ -394,21 +394,23 @@ module _ (file : DataFile) (chapters : List Chapter) (t : Told) (safe : IsSafeDi
 -- ---- the laws
 
 pub every_life_is_in_order : EveryLifeIsInOrder
-every_life_is_in_order file _ _ (Made t n makable honest word) = made_in_order file t n makable honest word
-every_life_is_in_order file _ _ (Begun t n m status changes makable honest word wanting moment there loose chance held) =
-    let safe = made_safe file t n makable honest status word wanting m.log moment in
-    stopped_order file [] m safe there changes loose chance
+every_life_is_in_order file _ _ (Made t n version makable honest word) = made_in_order file t n version makable honest word
+every_life_is_in_order file _ _ (Begun t n m status changes version makable honest word wanting moment there loose chance held) =
+    let safe = made_safe file t n version makable honest status word wanting m.log moment in
+    stopped_order file [] m version safe there changes loose chance
     (record { view = first_view file.layout file.cluster; had = refl; held = held; stands = none_referenced file (changed changes (now m.log)) })
 every_life_is_in_order file _ _ (Ran t n chapters word life chance) =
-    let comes = word_comes file chapters t (every_life_is_in_order file t chapters life) chance n word in
-    in_order file (sessions_in ToItsEnd t n word ++ chapters) n comes.honest comes.at_end
+    let is = every_life_is_in_order file t chapters life in
+    let comes = word_comes file chapters t is chance n word in
+    in_order file (sessions_in ToItsEnd t n word ++ chapters) n is.version comes.honest comes.at_end
 every_life_is_in_order file _ _ (Ended t n m chapters word answered life chance moment honest had) =
-    let comes = word_comes file chapters t (every_life_is_in_order file t chapters life) chance n word in
-    in_order file (sessions_in (ToAMoment answered) t n word ++ chapters) m honest (comes.moments answered m.log moment had)
+    let is = every_life_is_in_order file t chapters life in
+    let comes = word_comes file chapters t is chance n word in
+    in_order file (sessions_in (ToAMoment answered) t n word ++ chapters) m is.version honest (comes.moments answered m.log moment had)
 every_life_is_in_order file _ _ (Formatted t n chapters layout cluster status life chance word) = formatted_order file chapters t (every_life_is_in_order file t chapters life) chance layout cluster n status word
 every_life_is_in_order file _ _ (Stopped t chapters changes life loose chance) =
     let is = every_life_is_in_order file t chapters life in
-    stopped_order file chapters t is.safe is.honest changes loose chance ((order_of file chapters t is).left (changed changes (now t.log)) (left_by t.log changes is.safe.is_log loose) chance)
+    stopped_order file chapters t is.version is.safe is.honest changes loose chance ((order_of file chapters t is).left (changed changes (now t.log)) (left_by t.log changes is.safe.is_log loose) chance)
 
 pub every_life_goes_on : EveryLifeGoesOn
 every_life_goes_on file t chapters life chance = goes_on file chapters t (every_life_is_in_order file t chapters life) chance

@@ -48,8 +48,9 @@ module _ (file : DataFile) (chapters : List Chapter) where
         record { view = has.0; had = has.1; held = has.2; stands = has.3 };
   }
 
-  pub in_order : (t : Told) → IsHonest t → Order t.log → IsInOrder file chapters t
-  in_order t honest order = record {
+  pub in_order : (t : Told) → file.version ≡ 1 → IsHonest t → Order t.log → IsInOrder file chapters t
+  in_order t version honest order = record {
+    version = version;
     safe = order.safe;
     honest = honest;
     left = λ image left chance.
@@ -67,7 +68,7 @@ module _ (file : DataFile) (chapters : List Chapter) where
     here = (order_of t is).left (now t.log) (now_left t.log is.safe.is_log) chance
 
     pub may : MayOpen file here.view t
-    may = record { safe = is.safe; honest = is.honest; found = (found_law (shape file) ((format file).unit_at (now t.log)) here.view).0 here.held; no_chance = chance }
+    may = record { version = is.version; safe = is.safe; honest = is.honest; found = (found_law (shape file) ((format file).unit_at (now t.log)) here.view).0 here.held; no_chance = chance }
 
     shows : now t.log ≡ t.shown
     shows = λ i sector. sym (is.honest.shows sector) i
@@ -116,10 +117,10 @@ tidy_order file log safe tidy = record {
   };
 }
 
-own : (file : DataFile) (named : 0 < file.cluster) → file_of file.layout file.cluster named ≡ file
-own file named = same_file (file_of file.layout file.cluster named) file refl refl
+own : (file : DataFile) (named : 0 < file.cluster) → file.version ≡ 1 → file_of file.layout file.cluster named ≡ file
+own file named version = same_file (file_of file.layout file.cluster named) file refl refl (sym version)
 
-module _ (file : DataFile) (t n : Told) (may : MayMakeOn file.layout file.cluster t) (honest : IsHonest t) (status : Status) (word : FormatWord file.layout file.cluster t n status) (wanting : status ≡ Memory → ⊥) where
+module _ (file : DataFile) (t n : Told) (version : file.version ≡ 1) (may : MayMakeOn file.layout file.cluster t) (honest : IsHonest t) (status : Status) (word : FormatWord file.layout file.cluster t n status) (wanting : status ≡ Memory → ⊥) where
   makes : MakesOn file.layout file.cluster t may (Some n) status
   makes = word.makes t may wanting refl honest
 
@@ -129,7 +130,7 @@ module _ (file : DataFile) (t n : Told) (may : MayMakeOn file.layout file.cluste
   -- the log is safe at each moment of a making
   pub made_safe : EachMoment t.log n.log (IsSafeDisk (format file) (shape file))
   made_safe =
-      subst (λ (f : DataFile). EachMoment t.log n.log (IsSafeDisk (format file) (shape f))) (own file may.named)
+      subst (λ (f : DataFile). EachMoment t.log n.log (IsSafeDisk (format file) (shape f))) (own file may.named version)
       (subst (λ (x : Told). EachMoment t.log x.log (IsSafeDisk (format file) (shape (file_of file.layout file.cluster may.named)))) same makes.moments)
 
   made_honest : IsHonest n
@@ -137,7 +138,7 @@ module _ (file : DataFile) (t n : Told) (may : MayMakeOn file.layout file.cluste
 
   made_tidy : status ≡ Done → IsTidy (shape file) (units_log (format file) n.log) (first_view file.layout file.cluster)
   made_tidy done =
-      subst (λ (f : DataFile). IsTidy (shape f) (units_log (format file) n.log) (first_view file.layout file.cluster)) (own file may.named)
+      subst (λ (f : DataFile). IsTidy (shape f) (units_log (format file) n.log) (first_view file.layout file.cluster)) (own file may.named version)
       (subst (λ (x : Told). IsTidy (shape (file_of file.layout file.cluster may.named)) (units_log (format file) x.log) (first_view file.layout file.cluster)) same (makes.made done).tidy)
 
 pub made_grew : (layout : Layout) (cluster : ℕ) (t n : Told) → Some n ≡ after_all (making_events layout cluster) (Some t) → Extends n.log t.log
@@ -146,8 +147,8 @@ made_grew layout cluster t n events =
     let is : n ≡ all.0 = one_told (Some n) n all.0 refl (events ∙ all.1) in
     subst (λ (l : Log). Extends l t.log) (sym (ap (λ (x : Told). x.log) is ∙ all.2)) (adds_extends (making_events layout cluster) t.log)
 
-pub made_in_order : (file : DataFile) (t n : Told) → MayMakeOn file.layout file.cluster t → IsHonest t → FormatWord file.layout file.cluster t n Done → IsInOrder file [] n
-made_in_order file t n may honest word =
+pub made_in_order : (file : DataFile) (t n : Told) → file.version ≡ 1 → MayMakeOn file.layout file.cluster t → IsHonest t → FormatWord file.layout file.cluster t n Done → IsInOrder file [] n
+made_in_order file t n version may honest word =
     let grew : Extends n.log t.log = made_grew file.layout file.cluster t n word.formats.0.events in
-    let safe = made_safe file t n may honest Done word (λ no. cc) n.log (record { since = grew; until = extends_self n.log }) in
-    in_order file [] n (made_honest file t n may honest Done word (λ no. cc)) (tidy_order file n.log safe (made_tidy file t n may honest Done word (λ no. cc) refl))
+    let safe = made_safe file t n version may honest Done word (λ no. cc) n.log (record { since = grew; until = extends_self n.log }) in
+    in_order file [] n version (made_honest file t n version may honest Done word (λ no. cc)) (tidy_order file n.log safe (made_tidy file t n version may honest Done word (λ no. cc) refl))

@@ -165,10 +165,10 @@ pub record FormatWord (layout : Layout) (cluster : ℕ) (t n : Told) (status : S
 
 -- The life of a file so far: what the disk tells now, and the sessions that served it, the newest first.
 pub data Life (file : DataFile) : Told → List Chapter → Type 0 where
-  -- it was made, on an honest disk on which a file may be made, as on one that was never written
-  Made : (t n : Told) → MayMakeOn file.layout file.cluster t → IsHonest t → FormatWord file.layout file.cluster t n Done → Life file n []
+  -- it was made, of version 1, on an honest disk on which a file may be made, as on one that was never written
+  Made : (t n : Told) → file.version ≡ 1 → MayMakeOn file.layout file.cluster t → IsHonest t → FormatWord file.layout file.cluster t n Done → Life file n []
   -- or its making was cut off at a moment, and a stop left its first view all the same
-  Begun : (t n m : Told) (status : Status) (changes : List (ℕ × List ℕ)) → MayMakeOn file.layout file.cluster t → IsHonest t → FormatWord file.layout file.cluster t n status → (status ≡ Memory → ⊥)
+  Begun : (t n m : Told) (status : Status) (changes : List (ℕ × List ℕ)) → file.version ≡ 1 → MayMakeOn file.layout file.cluster t → IsHonest t → FormatWord file.layout file.cluster t n status → (status ≡ Memory → ⊥)
       → IsMoment t.log n.log m.log → IsHonest m → AreLoose m.log.events changes → NoChanceOf (format file) m.log (changed changes (now m.log))
       → Held (shape file) ((format file).unit_at (changed changes (now m.log))) (first_view file.layout file.cluster) → Life file (did (Stop changes) m) []
   -- then a word was run to its end, whatever its status; what was shown as it began did not come about by chance
@@ -186,9 +186,10 @@ pub data Life (file : DataFile) : Told → List Chapter → Type 0 where
 
 -- ---- the law
 
--- The file is in order: the disk is honest and its log is safe, and whatever a stop leaves now, under no chance, has a view that the file may have come to, with
+-- The file is in order: it is of version 1, the disk is honest and its log is safe, and whatever a stop leaves now, under no chance, has a view that the file may have come to, with
 -- each block that it references.
 pub record IsInOrder (file : DataFile) (chapters : List Chapter) (t : Told) : Type 0 where
+  pub version : file.version ≡ 1
   pub safe : IsSafeDisk (format file) (shape file) t.log
   pub honest : IsHonest t
   pub left : (image : Image) → IsLeft t.log image → NoChanceOf (format file) t.log image

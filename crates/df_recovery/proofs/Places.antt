@@ -17,7 +17,7 @@ use Rattle.df_quorum.specs.Quorum.{Copies, IsChosen, IsSplit, HasChosen, AreMemb
 use Rattle.df_quorum.proofs.Laws.{same_law}
 use Rattle.df_quorum.specs.declared.choice.Chosen.{Chosen}
 use Rattle.df_disk.specs.Told.{Told}
-use Rattle.df_recovery.specs.Opening.{IsUnformatted, shown_classes, Refuses}
+use Rattle.df_recovery.specs.Opening.{IsUnformatted, shown_classes, HasNoQuorum}
 use Rattle.df_recovery.specs.Found.{IsChoiceOf, TellsChoice}
 use Rattle.df_superblock.specs.Blank.{AreBlank, IsFirstWrittenOf}
 use Rattle.df_superblock.proofs.Laws.{shown_blank, unformatted}
@@ -84,7 +84,7 @@ module _ (image : Image) (slots : List Slot) (shown : (n : ℕ) → n < 4 → ge
   }
 
   -- and so is its lack
-  pub no_quorum : (classes : List Class) (first : ℕ) → length classes ≡ 4 → AreClasses slots classes → IsSplit (copies_of slots) → IsFirstWrittenOf slots first → Refuses image (NoQuorum classes)
+  pub no_quorum : (classes : List Class) (first : ℕ) → length classes ≡ 4 → AreClasses slots classes → IsSplit (copies_of slots) → IsFirstWrittenOf slots first → HasNoQuorum image classes
   no_quorum classes first size are split written = record {
     formatted = formatted image slots first shown written;
     split = split_same (copies_of slots) (content_at image) copies split;
@@ -93,7 +93,7 @@ module _ (image : Image) (slots : List Slot) (shown : (n : ℕ) → n < 4 → ge
 
 pub tells_unformatted : (told : Option Told) (slots : List Slot) → ShowsSlots told slots → AreBlank slots 4 → TellsChoice told (Err NotFormatted)
 tells_unformatted None slots shown blank = tt
-tells_unformatted (Some t) slots shown blank = unformatted t.shown slots shown blank
+tells_unformatted (Some t) slots shown blank = λ version. unformatted t.shown slots shown blank
 
 pub tells_choice : (told : Option Told) (slots : List Slot) (choice : Chosen) → ShowsSlots told slots → ShowsCopies told slots → HasChosen (copies_of slots) choice.content
     → ((c : Content) → IsChosen (copies_of slots) c → AreMembers (copies_of slots) c choice.members) → TellsChoice told (Ok choice)
@@ -103,4 +103,4 @@ tells_choice (Some t) slots choice shown copies chosen members = choice_shown t.
 pub tells_split : (told : Option Told) (slots : List Slot) (classes : List Class) (first : ℕ) → ShowsSlots told slots → ShowsCopies told slots → length classes ≡ 4 → AreClasses slots classes → IsSplit (copies_of slots) → IsFirstWrittenOf slots first
     → TellsChoice told (Err (NoQuorum classes))
 tells_split None slots classes first shown copies size are split written = tt
-tells_split (Some t) slots classes first shown copies size are split written = no_quorum t.shown slots shown copies classes first size are split written
+tells_split (Some t) slots classes first shown copies size are split written = λ version. no_quorum t.shown slots shown copies classes first size are split written

@@ -13,6 +13,8 @@ mod headers;
 #[cfg(test)]
 mod named;
 #[cfg(test)]
+mod recorded;
+#[cfg(test)]
 mod replies;
 #[cfg(test)]
 mod rings;

@@ -3,7 +3,7 @@
 ghost use Rattle.std.specs.Prelude.{◌≡◌};
 ghost use Rattle.df_layout.specs.declared.places.Zone.{Zone as AnyZone};
 
-use crate::stored::{Board, Stored, ask, new_table, put, room_for, scan};
+use crate::stored::{Board, Stored, ask, fields_of, new_table, put, room_for, scan};
 use df_buffers::{Identity, Raw, Reply, Wanted};
 use df_disk::Disk;
 use df_layout::{Class, Layout, Place, Zone};
@@ -54,7 +54,7 @@ fn the_second_reply_of_the_third_of_four_clients_is_torn(rt: HostRuntime) {
     let sessions = four_sessions();
     let mut table = new_table(&rt, rt.alloc());
     assert!(rt; scan(&rt, rt.alloc(), &mut board, &mut table) == Ok(()));
-    assert!(rt; table.replies(4, 3, 0) == 8 && table.first_lacking(&sessions, 8, 0) == None);
+    assert!(rt; table.replies(4, 3, 0) == 8 && table.first_lacking(&sessions, 8, &fields_of(0)) == None);
     assert!(rt; board.write(75, &before) == Ok(()));
     assert!(rt; scan(&rt, rt.alloc(), &mut board, &mut table) == Ok(()));
     assert!(rt; table.get(2).err() == Some(Class::Garbled) && table.replies(4, 3, 0) == 8);
@@ -62,11 +62,11 @@ fn the_second_reply_of_the_third_of_four_clients_is_torn(rt: HostRuntime) {
         place: 2,
         class: Class::Garbled,
     };
-    assert!(rt; table.first_lacking(&sessions, 8, 0) == Some(lacking));
-    assert!(rt; table.first_lacking(&sessions, 6, 0) == None);
+    assert!(rt; table.first_lacking(&sessions, 8, &fields_of(0)) == Some(lacking));
+    assert!(rt; table.first_lacking(&sessions, 6, &fields_of(0)) == None);
 }
 
-const FIRST: Stored = Stored {
+pub(crate) const FIRST: Stored = Stored {
     client: 1,
     request: 2,
     op: 5,
@@ -76,7 +76,7 @@ const FIRST: Stored = Stored {
     slot: 0,
 };
 
-const SECOND: Stored = Stored {
+pub(crate) const SECOND: Stored = Stored {
     client: 2,
     request: 1,
     op: 6,
@@ -87,7 +87,7 @@ const SECOND: Stored = Stored {
 };
 
 // The place of the first session, whose slot shows another reply.
-const FIRST_LACKS: Option<Lacking> = Some(Lacking {
+pub(crate) const FIRST_LACKS: Option<Lacking> = Some(Lacking {
     place: 0,
     class: Class::Stale,
 });
@@ -182,7 +182,7 @@ fn found_behind(rt: &impl Abort, alloc: Global, replies: &[Stored; 3], boot: u64
         checkpoint: seen.checkpoint,
         boot: seen.boot,
         replies: table.replies(0, 0, boot),
-        lacking: table.first_lacking(&sessions, 6, boot),
+        lacking: table.first_lacking(&sessions, 6, &fields_of(boot)),
     }
 }
 
@@ -195,7 +195,7 @@ fn other_replies_in_a_slot_are_told_apart(rt: HostRuntime) {
 }
 
 // The same reply of this boot.
-fn of_boot(stored: Stored, boot: u8) -> Stored {
+pub(crate) fn of_boot(stored: Stored, boot: u8) -> Stored {
     Stored {
         boot: Some(boot),
         ..stored

@@ -9,7 +9,7 @@ ghost use Rattle.df_format.specs.Making.{for_body};
 use df_base::{Failed, SECTOR, check};
 use df_buffers::{Raw, Reply};
 use df_disk::Disk;
-use df_format::{Header, Kind};
+use df_format::{Header, Kind, SuperFields};
 use df_layout::{Layout, Zone};
 use df_replies::{ReplyTable, write_reply};
 use df_sessions::SessionTable;
@@ -175,5 +175,19 @@ pub(crate) fn ask(sessions: &mut SessionTable, stored: &Stored)
     let client = u128::from(stored.client);
     if client != 0 && (sessions.place_of(client).is_some() || sessions.len() < 4) {
         let _ = sessions.apply(client, u64::from(stored.request), u64::from(stored.op));
+    }
+}
+
+// The superblock of a boot, which names no reply: of version 1 in boot 0, and else of version 2.
+pub(crate) fn fields_of(boot: u64) -> SuperFields {
+    let first = SuperFields::of(&Layout::small(), 7);
+    if boot == 0 {
+        first
+    } else {
+        SuperFields {
+            version: 2,
+            boot,
+            ..first
+        }
     }
 }

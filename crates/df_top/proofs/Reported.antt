@@ -46,6 +46,7 @@ syncs_once old new (opens.Version a) other syncs = syncs
 syncs_once old new (opens.BadField a b) other syncs = syncs
 syncs_once old new (opens.LayoutDiffers a b) other syncs = syncs
 syncs_once old new (opens.Damaged a b) other syncs = syncs
+syncs_once old new opens.BootSpent other syncs = syncs
 
 syncs_failed : (old new : Option Told) (e : OpenError) → e ≡ opens.DiskFault → Syncs {T = Replica} old new (Err e) → AddsPart (Sync ∷ []) old new
 syncs_failed old new e is syncs = subst (λ (x : OpenError). Syncs {T = Replica} old new (Err x)) is syncs

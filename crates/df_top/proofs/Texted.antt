@@ -190,7 +190,7 @@ module _ (layout : Layout) (a b : Image) (same : ShowSame layout a b) where
       let chosen = super_there s.fields one.has.super.content one.has.super.chosen in
       let fields : s.fields ≡ u.fields =
       one_super b s.fields u.fields (record { content = one.has.super.content; chosen = chosen; fields = one.has.super.fields; usable = one.has.super.usable }) other.has.super in
-      same_file s.file u.file (one.of ∙ sym other.of) (sym one.has.cluster ∙ ap (λ (f : SuperFields). f.cluster) fields ∙ other.has.cluster)
+      same_file s.file u.file (one.of.layout_is ∙ sym other.of.layout_is) (sym one.has.cluster ∙ ap (λ (f : SuperFields). f.cluster) fields ∙ other.has.cluster) (one.of.version_is ∙ sym other.of.version_is)
 
   -- and of one view
   one_view : (s u : Replica) (one : IsOpened layout a s) (other : IsOpened layout b u) → one.view ≡ other.view
