@@ -16,7 +16,7 @@ use Rattle.df_theory.specs.Opens.{BadField, BootSpent, Opens, Refusal, Refused}
 use Rattle.df_theory.specs.Trailer.{IsReference}
 use Rattle.df_theory.specs.UnitLog.{settled}
 use Rattle.df_theory.specs.View.{PassesTests, View}
-use Rattle.df_theory.proofs.Laws.{fields_hold_law, no_bad_field_law, spent_answer_law}
+use Rattle.df_theory.proofs.Laws.{fields_hold_law, no_bad_field_law}
 use Rattle.df_recovery.specs.Below.{parse_of, DataFile, State, shape}
 use Rattle.df_units.specs.Bytes.{unit_at}
 use Rattle.df_units.specs.Meaning.{content_of, layout_of}
@@ -27,6 +27,7 @@ use Rattle.df_recovery.specs.Surveys.{HasFile, IsAsked, IsOpened}
 use Rattle.df_recovery.proofs.Laws.{same_file}
 use Rattle.df_damage.specs.Disks.{MayBeHurt}
 use Rattle.df_damage.proofs.Barriers.{distinct, empty, log, rests, shown, shows_settled}
+use Rattle.df_damage.proofs.Spent.{spent_found}
 
 module _ (file : DataFile) (view : View) (t : Told) (may : MayBeHurt file view t) where
   -- ---- what is chosen
@@ -82,7 +83,7 @@ module _ (file : DataFile) (view : View) (t : Told) (may : MayBeHurt file view t
   -- nor is its boot spent: it has none
   pub no_spent : Opens (shape file) (unit_at file.layout file.cluster t.shown) (Refused BootSpent) → ⊥
   no_spent opens =
-      let found = (spent_answer_law (shape file) (unit_at file.layout file.cluster t.shown)).0 opens in
+      let found = spent_found (shape file) (unit_at file.layout file.cluster t.shown) opens in
       let tests = found.1.checkpoint.tests in
       let none : found.0.checkpoint.content.boot ≡ 0 = (tests.of.one (tests.version ∙ may.version)).0 in
       omega (arith, none, found.2)

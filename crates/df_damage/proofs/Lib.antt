@@ -1,6 +1,7 @@
 pub mod Pasts
 pub mod Sectors
 pub mod Barriers
+pub mod Spent
 pub mod Files
 pub mod NotRefused
 pub mod Opened

@@ -1,9 +1,10 @@
 -- What an open finds on a disk that may be hurt.
 use Rattle.std.proofs.Common.{◌≡◌, Some, ◌∙◌, ap, arith}
+use Rattle.df_base.specs.Image.{Image, IsImage}
 use Rattle.df_disk.specs.Told.{Told}
 use Rattle.df_layout.specs.declared.places.Zone.TheVariants.{ClientReplies, Grid, Superblock, WalPrepares}
 use Rattle.df_theory.specs.Copies.{Agree}
-use Rattle.df_theory.specs.Found.{IsFound}
+use Rattle.df_theory.specs.Found.{AreOfPlaces, IsFound}
 use Rattle.df_theory.specs.Shows.{Needs}
 use Rattle.df_theory.specs.Units.{AnyUnit, BlockPlace, CopyPlace, HeaderPlace, HeaderUnit, Place, PreparePlace, ReplyPlace, Units}
 use Rattle.df_theory.specs.View.{View}
@@ -59,6 +60,14 @@ checkpoint_stays file view t s may rest two is =
 
 -- ---- headers
 
+-- whatever version the file has, its units are of their places
+of_file : (file : DataFile) (image : Image) → IsImage image → AreOfPlaces (shape file) (unit_at file.layout file.cluster image)
+of_file file image whole (CopyPlace n) x is = of_places file.layout file.cluster file.named (parse_of (layout_of file.layout)) image whole (CopyPlace n) x is
+of_file file image whole (HeaderPlace s) x is = of_places file.layout file.cluster file.named (parse_of (layout_of file.layout)) image whole (HeaderPlace s) x is
+of_file file image whole (PreparePlace s) x is = of_places file.layout file.cluster file.named (parse_of (layout_of file.layout)) image whole (PreparePlace s) x is
+of_file file image whole (ReplyPlace k) x is = of_places file.layout file.cluster file.named (parse_of (layout_of file.layout)) image whole (ReplyPlace k) x is
+of_file file image whole (BlockPlace a) x is = of_places file.layout file.cluster file.named (parse_of (layout_of file.layout)) image whole (BlockPlace a) x is
+
 pub headers_tell : HeadersTell
 headers_tell file view t s may unhurt is = (each, λ copies. checkpoint_stays_law (shape file) (log file view t may) view is.view (shown file view t may) (rests file view t may) may.no_chance (agreed_zone file view t may copies) found)
   where
@@ -70,5 +79,5 @@ headers_tell file view t s may unhurt is = (each, λ copies. checkpoint_stays_la
         let first = found.checkpoint.tests.of.one (found.checkpoint.tests.version ∙ may.version) in
         let here : unit_at file.layout file.cluster t.shown (HeaderPlace slot) ≡ Some (HeaderUnit h) = unhurt_zone file view t may (HeaderPlace slot) unhurt ∙ ap (λ (u : Units). u (HeaderPlace slot)) (left file view t may) ∙ at in
         headers_tell_law (shape file) (shown file view t may) is.view slot h
-        (of_places file.layout file.cluster file.named (parse_of (layout_of file.layout)) t.shown may.whole) found here
+        (of_file file t.shown may.whole) found here
         (omega (arith, (found.not_behind.header slot h here).2, first.0)) (omega (arith, above, first.1))
