@@ -4,7 +4,8 @@ use Rattle.std.specs.Prelude.{Result, Ok, Err, IfErr, IfOk}
 use Rattle.std.proofs.lemmas.Bool.{cases_eq}
 use Rattle.df_layout.specs.declared.layout.Layout.{Layout}
 use Rattle.df_format.specs.Copies.{content_with}
-use Rattle.df_format.specs.SuperRules.{IsSuper}
+use Rattle.df_format.specs.Spelling.{IsCheck}
+use Rattle.df_format.specs.SuperRules.{IsSuper, IsUsable}
 use Rattle.df_format.specs.declared.superblock.SuperFields.{SuperFields}
 use Rattle.df_sessions.specs.declared.session.Session.{Session}
 use Rattle.df_theory.specs.Units.{Content, Units}
@@ -40,6 +41,13 @@ pub pin_checksum : (f : SuperFields) → IsSuper f → pin_of f ≡ f.op → pin
 pin_checksum f rules level = elim rules.version [
   | inl first ↦ by_other f f.head_checksum f.op_checksum (λ second. omega (arith, second, first.version))
   | inr second ↦ by_second f f.head_checksum f.op_checksum second.version ∙ second.head_is_op (sym (by_second f f.head f.op second.version) ∙ level)
+]
+
+-- the checksum that is named is one
+pub pin_check : (f : SuperFields) → IsUsable f → IsCheck (pin_checksum_of f)
+pin_check f is = elim (cases_eq f.version 2) [
+  | inl second ↦ subst IsCheck (sym (by_second f f.head_checksum f.op_checksum second)) is.fits.head_checksum
+  | inr other ↦ subst IsCheck (sym (by_other f f.head_checksum f.op_checksum other)) is.fits.op_checksum
 ]
 
 module _ (sh : Shape) (b : Checkpoint) (layout : Layout) (f : SuperFields) (start : Start) (sessions : List Session) (is : IsBaseOf sh b layout f sessions) (from : start ≡ start_of f) (rules : IsSuper f) (size : f.slots ≡ layout.slots) where

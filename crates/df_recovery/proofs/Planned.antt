@@ -195,7 +195,7 @@ module _ (layout : Layout) (sh : Shape) (image : Units.Units) (v : View) (scan :
 
   -- what the table says of the slot
   says : (slot o : ℕ) → o % layout.slots ≡ slot → SaysOfSlot scan.start.boot o (image (HeaderPlace slot)) (image (PreparePlace slot)) (decision layout.slots scan.start.boot image o)
-  says slot o here = subst (λ (n : ℕ). SaysOfSlot scan.start.boot o (image (HeaderPlace n)) (image (PreparePlace n)) (decision layout.slots scan.start.boot image o)) here (decision_law layout.slots scan.start.boot image o)
+  says slot o here = subst (λ (n : ℕ). SaysOfSlot scan.start.boot o (image (HeaderPlace n)) (image (PreparePlace n)) (decision layout.slots scan.start.boot image o)) here (decision_law layout.slots scan.start.boot o image)
 
   -- ---- a slot up to the head
 

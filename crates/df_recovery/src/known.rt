@@ -27,8 +27,7 @@ pub(crate) fn pin_of(fields: &SuperFields) -> u64
 
 // The checksum of that prepare.
 fn pin_checksum_of(fields: &SuperFields) -> Check
-    ensures value { result ≡ pin_checksum_of fields.now }
-    ensures check { IsCheck result }
+    ensures { result ≡ pin_checksum_of fields.now }
 {
     if fields.version == 2 {
         fields.head_checksum

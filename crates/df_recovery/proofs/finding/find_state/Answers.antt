@@ -37,7 +37,7 @@ returns-in-Err-clause-answer c = at_place _ (PreparePlace c.in-Err.slot) (class_
     (λ t scanned. (class_shown c.args.layout.now t c.args.slots.now c.in-Err.slot scanned.slots c.in-Err.ensures.slot).1)
 
 pub returns-then-is_lost-clause-answer : goal.returns-then-is_lost-clause-answer
-returns-then-is_lost-clause-answer c = at_place _ (PreparePlace c.slot_of.result) (class_of (entry c.args.slots.now c.slot_of.result).prepare) c.lost_damage.result c.lost_damage.ensures
+returns-then-is_lost-clause-answer c = at_place _ (PreparePlace c.slot_of.result) (class_of (entry c.args.slots.now c.slot_of.result).prepare) c.lost_damage-then-is_lost.result c.lost_damage-then-is_lost.ensures
     (λ sh image b is.
         let content = content_same sh image b _ is c.fields-content.result.now c.fields-content.ensures.value in
         let counts = c.count_all-seen.ensures.all image is.tells.shows is.shows in
