@@ -207,26 +207,26 @@ module _ (t : Told) (x : Scanned) (is : IsOfFile t x.file (read_of x) (base_scan
 
 module _ (version : ℕ) (x : Scanned) (layout : Layout) where
   pub told_mends : {R : Type 0} → (r : Result Surveyed R) (told : Option Told) → TellsReadAs version (λ (y : Scanned). y.copies.found) layout told (Ok x) → IsScanAs version layout told x → IfOk r IsPlannedFor → IfOk r (λ y. KeepsFile x y.scanned) → IfOk r (TellsMends layout told)
-  told_mends (Err e) told reads scan plan of = tt
-  told_mends (Ok y) None reads scan plan of = tt
-  told_mends (Ok y) (Some t) reads scan plan of =
-      λ image. subst (λ (l : Layout). IsMendable l t.shown y) scan.behind.file.layout_is (mendable t x (scanned_as version t layout x image reads scan) scan.copies.slots y of plan)
+  told_mends (Err e) told reads from plan of = tt
+  told_mends (Ok y) None reads from plan of = tt
+  told_mends (Ok y) (Some t) reads from plan of =
+      λ image. subst (λ (l : Layout). IsMendable l t.shown y) from.behind.file.layout_is (mendable t x (scanned_as version t layout x image reads from) from.copies.slots y of plan)
 
   -- the file is of the version that was asked for
   pub version_is : (told : Option Told) → IsScanAs version layout told x → x.file.version ≡ version
-  version_is told scan = scan.behind.file.version_is ∙ scan.copies.version_is
+  version_is told from = from.behind.file.version_is ∙ from.copies.version_is
 
   pub told_answer : (r : Result State OpenError) (told : Option Told) → TellsReadAs version (λ (y : Scanned). y.copies.found) layout told (Ok x) → IsScanAs version layout told x
       → ((t : Told) → IsOfFile t x.file (read_of x) (base_scanned x) → SurveysAs x.file.version x.file.layout t.shown r) → TellsSurveyAs version layout told r
-  told_answer r None reads scan law = tt
-  told_answer r (Some t) reads scan law =
-      λ image. subst (λ (l : Layout). SurveysAs version l t.shown r) scan.behind.file.layout_is (subst (λ (v : ℕ). SurveysAs v x.file.layout t.shown r) (version_is (Some t) scan) (law t (scanned_as version t layout x image reads scan)))
+  told_answer r None reads from law = tt
+  told_answer r (Some t) reads from law =
+      λ image. subst (λ (l : Layout). SurveysAs version l t.shown r) from.behind.file.layout_is (subst (λ (v : ℕ). SurveysAs v x.file.layout t.shown r) (version_is (Some t) from) (law t (scanned_as version t layout x image reads from)))
 
 -- ---- what was read, of a file of which the sessions may differ
 
 told_found : (version : ℕ) (layout : Layout) (told : Option Told) (x : Scanned) → TellsReadAs version (λ (y : Scanned). y.copies.found) layout told (Ok x) → TellsFoundAs version told (Ok x.copies.found)
-told_found version layout None x reads = tt
-told_found version layout (Some t) x reads = reads
+told_found version l None x reads = tt
+told_found version l (Some t) x reads = reads
 
 pub read_kept : (version : ℕ) (layout : Layout) (told : Option Told) (x y : Scanned) → TellsReadAs version (λ (z : Scanned). z.copies.found) layout told (Ok x) → IsScanAs version layout told x → KeepsFile x y → IsReadOf version layout told y
 read_kept version layout told x y reads scan of = record {
