@@ -26,6 +26,7 @@ use Rattle.df_model.specs.declared.errors.OpenError.TheVariants.{NotFormatted}
 use Rattle.df_replica.specs.Below.{IsOpened, State as Replica, shape, DataFile, IsNotRefused, told_after}
 use Rattle.df_replica.specs.Following.{MayOpen}
 use Rattle.df_replica.specs.HeldBlocks.{AreInputs}
+use Rattle.df_replica.specs.Making.{file_of}
 use Rattle.df_replica.specs.Opened.{Mends, MendsPartly, StopsOpening}
 use Rattle.df_replica.specs.Serving.{Grade, IsGoodFor, StandsFor, Whole, format}
 use Rattle.df_replica.specs.Session.{Act, HasView, IsMidway, work_after}
@@ -394,21 +395,22 @@ module _ (file : DataFile) (chapters : List Chapter) (t : Told) (version : file.
 -- ---- the laws
 
 pub every_life_is_in_order : EveryLifeIsInOrder
-every_life_is_in_order file _ _ (Made t n version makable honest word) = made_in_order file t n version makable honest word
-every_life_is_in_order file _ _ (Begun t n m status changes version makable honest word wanting moment there loose chance held) =
-    let safe = made_safe file t n version makable honest status word wanting m.log moment in
-    stopped_order file [] m version safe there changes loose chance
-    (record { view = first_view file.layout file.cluster; had = refl; held = held; stands = none_referenced file (changed changes (now m.log)) })
-every_life_is_in_order file _ _ (Ran t n chapters word life chance) =
+every_life_is_in_order _ _ _ (Made layout cluster t n makable honest word) = made_in_order layout cluster t n makable honest word
+every_life_is_in_order _ _ _ (Begun layout cluster t n m status changes makable honest word wanting moment there loose chance held) =
+    let file = file_of layout cluster makable.named in
+    let safe = made_safe layout cluster t n makable honest status word wanting m.log moment in
+    stopped_order file [] m refl safe there changes loose chance
+    (record { view = first_view layout cluster; had = refl; held = held; stands = none_referenced file (changed changes (now m.log)) })
+every_life_is_in_order _ _ _ (Ran file t n chapters word life chance) =
     let is = every_life_is_in_order file t chapters life in
     let comes = word_comes file chapters t is chance n word in
     in_order file (sessions_in ToItsEnd t n word ++ chapters) n is.version comes.honest comes.at_end
-every_life_is_in_order file _ _ (Ended t n m chapters word answered life chance moment honest had) =
+every_life_is_in_order _ _ _ (Ended file t n m chapters word answered life chance moment honest had) =
     let is = every_life_is_in_order file t chapters life in
     let comes = word_comes file chapters t is chance n word in
     in_order file (sessions_in (ToAMoment answered) t n word ++ chapters) m is.version honest (comes.moments answered m.log moment had)
-every_life_is_in_order file _ _ (Formatted t n chapters layout cluster status life chance word) = formatted_order file chapters t (every_life_is_in_order file t chapters life) chance layout cluster n status word
-every_life_is_in_order file _ _ (Stopped t chapters changes life loose chance) =
+every_life_is_in_order _ _ _ (Formatted file t n chapters layout cluster status life chance word) = formatted_order file chapters t (every_life_is_in_order file t chapters life) chance layout cluster n status word
+every_life_is_in_order _ _ _ (Stopped file t chapters changes life loose chance) =
     let is = every_life_is_in_order file t chapters life in
     stopped_order file chapters t is.version is.safe is.honest changes loose chance ((order_of file chapters t is).left (changed changes (now t.log)) (left_by t.log changes is.safe.is_log loose) chance)
 

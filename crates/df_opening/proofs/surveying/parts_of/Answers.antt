@@ -10,7 +10,7 @@ pub returns-clause-found : goal.returns-clause-found
 returns-clause-found c =
     let found = c.requires.found in
     let f = c.args.surveyed.scanned.copies.found.content in
-    let usable : IsUsable f = c.fields-_fields.ensures.usable in
+    let usable : IsUsable f = c.fields-fields.ensures.usable in
     let cluster = subst (λ (n : ℕ). n < 2 ^ 128) (sym found.read.named) usable.fits.cluster in
     record {
       whole = record {
