@@ -1,6 +1,8 @@
 pub mod Pasts
 pub mod Sectors
 pub mod Barriers
+pub mod Versions
+pub mod Later
 pub mod Spent
 pub mod Files
 pub mod NotRefused
@@ -12,4 +14,5 @@ pub mod Begun
 pub mod Started
 pub mod Answered
 pub mod Left
+pub mod Firsts
 pub mod Laws

@@ -1,5 +1,5 @@
 -- What is refused for its boot alone is found by all other steps.
-use Rattle.std.proofs.Common.{◌≡◌, ◌+◌, ◌%◌, ◌^◌, ℕ, length, refl}
+use Rattle.std.proofs.Common.{◌≡◌, ◌+◌, ◌%◌, ◌^◌, length, refl}
 use Rattle.df_theory.specs.Found.{IsFound, slot_behind}
 use Rattle.df_theory.specs.Opens.{Answer, BadField, Behind, BadTrailer, BootSpent, Damaged, Found, LacksBlock, Lost, NoQuorum, Opened, Opens, Refused, Spent, Split, Unanswered, Unfit, Unknown, Unusable}
 use Rattle.df_theory.specs.Shape.{Shape}

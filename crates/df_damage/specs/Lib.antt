@@ -1,3 +1,4 @@
+pub mod Versions
 pub mod Hurt
 pub mod Past
 pub mod Disks
