@@ -92,7 +92,7 @@ module _ (file : DataFile) (chapters : List Chapter) (t : Told) (is : IsInOrder 
   one_opened : (layout : Layout) (s : Replica) → IsOpened layout t.shown s → s.file ≡ file
   one_opened layout s opened =
       let own : s.file.layout ≡ file.layout = answers.1.layout s.file.layout (record { fields = s.fields; super = opened.has.super; numbers = opened.has.layout }) in
-      one_file file layout t.shown view s (sym opened.of ∙ own) found_shown opened
+      one_file file layout t.shown view s (sym opened.of.layout_is ∙ own) found_shown opened
 
   -- ---- the disk failed within the mending
 

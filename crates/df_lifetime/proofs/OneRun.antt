@@ -186,7 +186,7 @@ module _ (seed count : ℕ) (layout : Layout) (t : Told) (old new : Outside) (st
   found = found_here layout t.shown opening.replica opening.is_opened
 
   pub opened_here : IsOpened opening.replica.file.layout t.shown opening.replica
-  opened_here = subst (λ (l : Layout). IsOpened l t.shown opening.replica) (sym opening.is_opened.of) opening.is_opened
+  opened_here = subst (λ (l : Layout). IsOpened l t.shown opening.replica) (sym opening.is_opened.of.layout_is) opening.is_opened
 
   pub last_numbers : numbers_in (memory works.last) ≡ after_answers works.worked.answers (numbers_in (memory opening.replica))
   last_numbers =
@@ -234,7 +234,7 @@ module _ (seed count : ℕ) (layout : Layout) (runs : Twice layout (OnFile layou
   over_alike : (cs : List Command) → over s.file (unit_at s.file.layout s.file.cluster a) here.is_opened.view cs ≡ over u.file (unit_at u.file.layout u.file.cluster b) there.is_opened.view cs
   over_alike cs =
       let alike_there : unit_at s.file.layout s.file.cluster a ≡ unit_at s.file.layout s.file.cluster b =
-      subst (λ (l : Layout). unit_at l s.file.cluster a ≡ unit_at l s.file.cluster b) (sym here.is_opened.of) (units_alike layout a b runs.same s.file.cluster) in
+      subst (λ (l : Layout). unit_at l s.file.cluster a ≡ unit_at l s.file.cluster b) (sym here.is_opened.of.layout_is) (units_alike layout a b runs.same s.file.cluster) in
       ap (λ (image : Place → Option AnyUnit). over s.file image here.is_opened.view cs) alike_there
       ∙ ap (λ (v : View). over s.file (unit_at s.file.layout s.file.cluster b) v cs) (view_alike layout a b runs.same s u here.is_opened there.is_opened)
       ∙ ap (λ (f : DataFile). over f (unit_at f.layout f.cluster b) there.is_opened.view cs) (file_alike layout a b runs.same s u here.is_opened there.is_opened)
@@ -243,7 +243,7 @@ module _ (seed count : ℕ) (layout : Layout) (runs : Twice layout (OnFile layou
   alike =
       let w : Work = opened (shape u.file) (unit_at u.file.layout u.file.cluster b) there.is_opened.view in
       let first =
-      answers_over seed count layout runs.one.told runs.one.old runs.one.new runs.one.status here one whole runs.ended.0 (shown_of s.file b) (agree_there layout a b runs.same s.file here.is_opened.of)
+      answers_over seed count layout runs.one.told runs.one.old runs.one.new runs.one.status here one whole runs.ended.0 (shown_of s.file b) (agree_there layout a b runs.same s.file here.is_opened.of.layout_is)
       ∙ over_alike (map command_in one.worked.acts) in
       let second =
       answers_over seed count layout runs.other.told runs.other.old runs.other.new runs.other.status there other entire runs.ended.1 (shown_of u.file b) (agree_self u.file.layout (shown_of u.file b)) in

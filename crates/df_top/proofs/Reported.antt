@@ -116,7 +116,7 @@ module _ (layout : Layout) (t : Told) (old new : Outside) (status : Status) (s :
   found = record { replica = s; is_opened = is_opened; mended = new.told; mending = over.mending }
 
   calls : CallsKeep t found.replica found.mended found.mending (no_calls found)
-  calls = calls_keep t s new.told over s new.told [] [] None (refl, refl) whole live (subst (λ (l : Layout). IsOpened l t.shown s) (sym is_opened.of) is_opened)
+  calls = calls_keep t s new.told over s new.told [] [] None (refl, refl) whole live (subst (λ (l : Layout). IsOpened l t.shown s) (sym is_opened.of.layout_is) is_opened)
 
   pub recovers : PrintsLine (summary_text (summary_of s)) Done old.written new.written status → (found : FoundFile layout t) × Recovers layout t found old new status
   recovers prints = (found, record { prints = prints; unread = unread; told = refl; calls = calls })
