@@ -30,7 +30,7 @@ use Rattle.df_replica.specs.Making.{file_of}
 use Rattle.df_replica.specs.Opened.{Mends, MendsPartly, StopsOpening}
 use Rattle.df_replica.specs.Serving.{Grade, IsGoodFor, StandsFor, Whole, format}
 use Rattle.df_replica.specs.Session.{Act, HasView, IsMidway, work_after}
-use Rattle.df_replica.proofs.Laws.{added_is_told, good_left, good_safe, safe_is_not_refused}
+use Rattle.df_replica.proofs.Laws.{added_is_told, good_left, good_safe, layout_shown, safe_is_not_refused}
 use Rattle.df_session.specs.Found.{FoundFile, no_calls}
 use Rattle.df_session.specs.Laws.{CallsKeep}
 use Rattle.df_session.specs.Links.{CallsMade, events_made, list_of}
@@ -91,7 +91,7 @@ module _ (file : DataFile) (chapters : List Chapter) (t : Told) (is : IsInOrder 
   -- what was opened is the file, in whatever rooms
   one_opened : (layout : Layout) (s : Replica) → IsOpened layout t.shown s → s.file ≡ file
   one_opened layout s opened =
-      let own : s.file.layout ≡ file.layout = answers.1.layout s.file.layout (record { fields = s.fields; super = opened.has.super; numbers = opened.has.layout }) in
+      let own : s.file.layout ≡ file.layout = answers.1.layout s.file.layout (layout_shown layout t.shown s opened) in
       one_file file layout t.shown view s (sym opened.of.layout_is ∙ own) found_shown opened
 
   -- ---- the disk failed within the mending
