@@ -51,7 +51,7 @@ use Rattle.df_opening.specs.Following.{MayOpen}
 use Rattle.df_opening.specs.Mending.{IsMended, IsPlanned, live_state, mending_events, mending_steps, sector_puts, sectors_of}
 use Rattle.df_opening.specs.Keeping.{Firm, Grade, IsGoodFor, IsKept, Keeps, KeptFor, StandingFor, Whole, format}
 use Rattle.df_damage.specs.Found.{IsLayoutShown}
-use Rattle.df_damage.specs.Opening.{HasSuperAs}
+use Rattle.df_damage.specs.Opening.{HasSuper, HasSuperAs}
 use Rattle.df_damage.specs.Surveys.{IsOpened}
 
 -- ---- no step of a mending puts a prepare
@@ -230,9 +230,12 @@ found_keeps s image view whole is found =
       subst (λ (v : View). Represents s (opened sh units v)) one is.stands,
     )
 
--- its layout is the one that its superblock names
+-- its superblock is one of version 1, and names its layout
+pub super_shown : (layout : Layout) (image : Image) (s : State) → IsOpened layout image s → HasSuper image s.fields
+super_shown layout image s is = subst (λ (version : ℕ). HasSuperAs version image s.fields) is.of.version_is is.has.super
+
 pub layout_shown : (layout : Layout) (image : Image) (s : State) → IsOpened layout image s → IsLayoutShown image s.file.layout
-layout_shown layout image s is = record { fields = s.fields; super = subst (λ (version : ℕ). HasSuperAs version image s.fields) is.of.version_is is.has.super; numbers = is.has.layout }
+layout_shown layout image s is = record { fields = s.fields; super = super_shown layout image s is; numbers = is.has.layout }
 
 -- a state is kept as a live one
 pub live_kept : (g : Grade) (s : State) (w : Work) (log : Log.Log) → IsKept g s w log → IsKept g (live_state s) w log

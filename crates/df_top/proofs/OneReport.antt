@@ -13,7 +13,7 @@ use Rattle.df_layout.specs.declared.layout.Layout.{Layout}
 use Rattle.df_layout.specs.declared.places.Zone.TheVariants.{WalHeaders}
 use Rattle.df_quorum.specs.Quorum.{AreMembers}
 use Rattle.df_quorum.proofs.Laws.{one_law}
-use Rattle.df_session.proofs.Laws.{filter_more, one_super_as, same_file}
+use Rattle.df_session.proofs.Laws.{filter_more, one_super, same_file, super_shown}
 use Rattle.df_session.specs.Below.{if_wanted, needs_header, slot_mends, start_of, IsOpened, memory, reply_sum, shape, spelling, stored_sum, DataFile, State}
 use Rattle.df_session.specs.Replica.{Survey, summary_of}
 use Rattle.df_session.specs.Surveying.{IsMendable, copy_mend_at, mends_of}
@@ -112,7 +112,7 @@ summary_same s u file fields known = λ i. record {
 
 module _ (layout : Layout) (image : Image) (s u : Survey) (one : IsOpened layout image s.state) (one_mends : IsMendable layout image s) (other : IsOpened layout image u.state) (other_mends : IsMendable layout image u) where
   fields : s.state.fields ≡ u.state.fields
-  fields = one_super_as s.state.file.version u.state.file.version image s.state.fields u.state.fields one.has.super other.has.super
+  fields = one_super image s.state.fields u.state.fields (super_shown layout image s.state one) (super_shown layout image u.state other)
 
   file : s.state.file ≡ u.state.file
   file = same_file s.state.file u.state.file (one.of.layout_is ∙ sym other.of.layout_is) (sym one.has.cluster ∙ ap (λ (f : SuperFields). f.cluster) fields ∙ other.has.cluster) (one.of.version_is ∙ sym other.of.version_is)

@@ -25,7 +25,7 @@ use Rattle.df_pace.specs.declared.pace.Pace.{Pace}
 use Rattle.df_pace.proofs.Laws.{idle_law}
 use Rattle.df_session.specs.Below.{DataFile, IsOpened, State as Replica, shape}
 use Rattle.df_session.specs.Reading.{shown_of}
-use Rattle.df_session.proofs.Laws.{one_super_as, same_file}
+use Rattle.df_session.proofs.Laws.{one_super, same_file, super_shown}
 use Rattle.df_session.specs.Below.{AgreeShown, codec}
 use Rattle.df_session.specs.Found.{FoundFile}
 use Rattle.df_top.specs.Lines.{Failing, Turned, act_of, all_said, all_text, command_of, printed, said_of}
@@ -187,9 +187,10 @@ module _ (layout : Layout) (a b : Image) (same : ShowSame layout a b) where
   -- of one file
   one_file : (s u : Replica) → IsOpened layout a s → IsOpened layout b u → s.file ≡ u.file
   one_file s u one other =
-      let chosen = super_there s.fields one.has.super.content one.has.super.chosen in
+      let own = super_shown layout a s one in
+      let chosen = super_there s.fields own.content own.chosen in
       let fields : s.fields ≡ u.fields =
-      one_super_as s.file.version u.file.version b s.fields u.fields (record { content = one.has.super.content; chosen = chosen; fields = one.has.super.fields; usable = one.has.super.usable }) other.has.super in
+      one_super b s.fields u.fields (record { content = own.content; chosen = chosen; fields = own.fields; usable = own.usable }) (super_shown layout b u other) in
       same_file s.file u.file (one.of.layout_is ∙ sym other.of.layout_is) (sym one.has.cluster ∙ ap (λ (f : SuperFields). f.cluster) fields ∙ other.has.cluster) (one.of.version_is ∙ sym other.of.version_is)
 
   -- and of one view
