@@ -36,8 +36,7 @@ module _ (version : ℕ) (layout : Layout) (image : Image) where
   -- a superblock that can be used is of one file of this version and layout
   one_file : (a b : DataFile) (f g : SuperFields) → HasFile image a f → HasFile image b g → IsAsked version layout a → IsAsked version layout b → (a ≡ b) × (f ≡ g)
   one_file a b f g one two first second =
-      let same = one_super_as a.version b.version image f g one.super two.super in
-      (
+      let same = one_super_as a.version b.version image f g one.super two.super in (
         same_file a b (first.layout_is ∙ sym second.layout_is) (sym one.cluster ∙ ap (λ (x : SuperFields). x.cluster) same ∙ two.cluster) (first.version_is ∙ sym second.version_is),
         same,
       )

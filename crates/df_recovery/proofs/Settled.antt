@@ -197,7 +197,7 @@ module _ (t : Told) (x : Scanned) (is : IsOfFile t x.file (read_of x) (base_scan
       (subst (λ (c : Copies). ArePlannedFrom y.scanned.file.layout y.scanned.file.cluster y.scanned.log.slots top c.slots c.found.chosen.members y.scanned.log.headers y.scanned.log.mends.items) of.copies plan)) in
       let tells : TellsRings layout image scan = subst (λ (n : ℕ). TellsRings layout (unit_at layout n t.shown) scan) cluster (rings_shown layout t scan is.scanned.slots) in
       let list = here.list image tells ∙ ap (λ (xs : List Mend). xs ++ slot_mends (needs_header layout scan.start top image) (shown_class scan) layout.slots) (copies_listed members)
-          ∙ ap (λ (xs : List Mend). map (copy_mend_at t.shown) (filter (λ n. not (get_or members n false)) (range_with_len 0 4)) ++ xs) (slots_listed top) in
+      ∙ ap (λ (xs : List Mend). map (copy_mend_at t.shown) (filter (λ n. not (get_or members n false)) (range_with_len 0 4)) ++ xs) (slots_listed top) in
       record {
         choice = subst (λ (c : Copies). IsChoiceOf t.shown c.found.chosen) (sym of.copies) is.choice;
         mends = subst (λ (c : Copies). y.scanned.log.mends.items ≡ mends_of layout t.shown c.found.content top c.found.chosen.members) (sym of.copies) list;

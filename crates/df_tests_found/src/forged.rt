@@ -24,7 +24,14 @@ pub(crate) struct Unit {
 }
 
 /// A prepare that is a group by itself.
-pub(crate) fn prepare(op: u64, parent: Check, client: u64, request: u64, mark: u64, boot: u64) -> Unit {
+pub(crate) fn prepare(
+    op: u64,
+    parent: Check,
+    client: u64,
+    request: u64,
+    mark: u64,
+    boot: u64,
+) -> Unit {
     Unit {
         is_reply: false,
         op,
@@ -96,7 +103,15 @@ pub(crate) struct Named {
 fn copy_of(named: &Named, number: u8) -> [u8; SECTOR] {
     let mut bytes = [0u8; SECTOR];
     bytes[16] = number;
-    for (at, value) in [(32usize, 2u32), (36, 32), (40, 8192), (44, 4), (48, 7), (64, 16384), (68, 64)] {
+    for (at, value) in [
+        (32usize, 2u32),
+        (36, 32),
+        (40, 8192),
+        (44, 4),
+        (48, 7),
+        (64, 16384),
+        (68, 64),
+    ] {
         put_u32(&mut bytes, at, value);
     }
     put_u64(&mut bytes, 72, 1);

@@ -91,11 +91,26 @@ fn named_prepares_are_known_by_their_checksums(rt: HostRuntime) -> Result<(), Fa
     };
     let rows = [
         (vec_of(rt.alloc(), &[])?, Ok((4, 2, 0))),
-        (vec_of(rt.alloc(), &[Put::Hurt(10)])?, damaged(Zone::WalPrepares, 2, Class::Garbled)),
-        (vec_of(rt.alloc(), &[Put::Hurt(10), Put::Hurt(8)])?, damaged(Zone::WalPrepares, 2, Class::Garbled)),
-        (vec_of(rt.alloc(), &[Put::Hurt(10), Put::Hurt(12)])?, damaged(Zone::WalPrepares, 3, Class::Garbled)),
-        (vec_of(rt.alloc(), &[Put::Prepare(other)])?, damaged(Zone::WalPrepares, 2, Class::Stale)),
-        (vec_of(rt.alloc(), &[Put::Both(other)])?, damaged(Zone::WalPrepares, 2, Class::Stale)),
+        (
+            vec_of(rt.alloc(), &[Put::Hurt(10)])?,
+            damaged(Zone::WalPrepares, 2, Class::Garbled),
+        ),
+        (
+            vec_of(rt.alloc(), &[Put::Hurt(10), Put::Hurt(8)])?,
+            damaged(Zone::WalPrepares, 2, Class::Garbled),
+        ),
+        (
+            vec_of(rt.alloc(), &[Put::Hurt(10), Put::Hurt(12)])?,
+            damaged(Zone::WalPrepares, 3, Class::Garbled),
+        ),
+        (
+            vec_of(rt.alloc(), &[Put::Prepare(other)])?,
+            damaged(Zone::WalPrepares, 2, Class::Stale),
+        ),
+        (
+            vec_of(rt.alloc(), &[Put::Both(other)])?,
+            damaged(Zone::WalPrepares, 2, Class::Stale),
+        ),
         (vec_of(rt.alloc(), &[Put::Header(other)])?, Ok((4, 2, 1))),
     ];
     for (puts, answer) in &rows {
@@ -158,10 +173,16 @@ fn a_later_boot_refuses_and_an_earlier_one_leaves_no_trace(rt: HostRuntime) -> R
         (Put::Reply(reply(3, 9, 1, 1, 1, 4)), later),
         (Put::Header(fifth(&file, 2)), Ok((4, 2, 0))),
         (Put::Prepare(fifth(&file, 2)), Ok((4, 2, 0))),
-        (Put::Header(fifth(&file, 3)), damaged(Zone::WalPrepares, 5, Class::Blank)),
+        (
+            Put::Header(fifth(&file, 3)),
+            damaged(Zone::WalPrepares, 5, Class::Blank),
+        ),
         (Put::Prepare(fifth(&file, 3)), Ok((5, 2, 1))),
         (Put::Reply(reply(3, 9, 1, 1, 9, 2)), Ok((4, 2, 0))),
-        (Put::Reply(reply(3, 9, 1, 1, 9, 3)), damaged(Zone::WalPrepares, 5, Class::Blank)),
+        (
+            Put::Reply(reply(3, 9, 1, 1, 9, 3)),
+            damaged(Zone::WalPrepares, 5, Class::Blank),
+        ),
         // At the place of client 5, whose op 3 waits.
         (Put::Reply(reply(0, 5, 2, 3, 3, 2)), Ok((4, 2, 0))),
         (Put::Reply(reply(0, 5, 2, 3, 3, 3)), Ok((4, 3, 0))),
@@ -177,7 +198,10 @@ fn a_named_reply_is_known_by_its_checksum(rt: HostRuntime) -> Result<(), Fail> {
     let file = made_file();
     let stale = damaged(Zone::ClientReplies, 1, Class::Stale);
     let rows = [
-        (Put::Hurt(72), damaged(Zone::ClientReplies, 1, Class::Garbled)),
+        (
+            Put::Hurt(72),
+            damaged(Zone::ClientReplies, 1, Class::Garbled),
+        ),
         (Put::Reply(reply(1, 6, 1, 2, 3, 2)), stale),
         (Put::Reply(reply(1, 6, 1, 2, 2, 3)), stale),
     ];
@@ -210,8 +234,14 @@ fn a_group_counts_as_a_whole(rt: HostRuntime) -> Result<(), Fail> {
     };
     let both = [Put::Prepare(five), Put::Prepare(six)];
     assert_eq!(rt; found_with(rt.alloc(), &file, &both)?, Ok((6, 2, 2)));
-    assert_eq!(rt; found_with(rt.alloc(), &file, &[Put::Prepare(five)])?, Ok((4, 2, 0)));
-    assert_eq!(rt; found_with(rt.alloc(), &file, &[Put::Prepare(six)])?, Ok((4, 2, 0)));
+    assert_eq!(rt;
+        found_with(rt.alloc(), &file, &[Put::Prepare(five)])?,
+        Ok((4, 2, 0))
+    );
+    assert_eq!(rt;
+        found_with(rt.alloc(), &file, &[Put::Prepare(six)])?,
+        Ok((4, 2, 0))
+    );
     let told = [Put::Prepare(five), Put::Header(six)];
     assert_eq!(rt;
         found_with(rt.alloc(), &file, &told)?,
@@ -241,7 +271,10 @@ fn the_greatest_boot_is_refused_last(rt: HostRuntime) -> Result<(), Fail> {
         ],
         replies: file.replies,
     };
-    assert_eq!(rt; found_with(rt.alloc(), &spent, &[])?, Err(OpenError::BootSpent));
+    assert_eq!(rt;
+        found_with(rt.alloc(), &spent, &[])?,
+        Err(OpenError::BootSpent)
+    );
     assert_eq!(rt;
         found_with(rt.alloc(), &spent, &[Put::Hurt(72)])?,
         damaged(Zone::ClientReplies, 1, Class::Garbled)
@@ -279,7 +312,10 @@ fn a_survey_of_either_version_is_forty_three_calls(rt: HostRuntime) -> Result<()
     assert_eq!(rt; surveyed(rt.alloc(), &mut disk, 2)?, Ok((0, 0, 0)));
     assert_eq!(rt; disk.calls().checked_sub(calls), Some(43));
     // Where the other version is asked for it is refused behind the copies.
-    assert_eq!(rt; surveyed(rt.alloc(), &mut disk, 1)?, Err(OpenError::Version { found: 2 }));
+    assert_eq!(rt;
+        surveyed(rt.alloc(), &mut disk, 1)?,
+        Err(OpenError::Version { found: 2 })
+    );
     assert_eq!(rt; disk.calls().checked_sub(calls), Some(48));
     Ok(())
 }

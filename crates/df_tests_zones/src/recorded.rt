@@ -52,9 +52,21 @@ fn a_named_reply_is_known_by_its_checksum(rt: HostRuntime) {
     });
     let cases = [
         ("both are named and shown", first, first, 6, None),
-        ("another reply to the request", first, longer, 6, FIRST_LACKS),
+        (
+            "another reply to the request",
+            first,
+            longer,
+            6,
+            FIRST_LACKS,
+        ),
         ("one of the boot itself", first, own, 6, FIRST_LACKS),
-        ("another client's is named", foreign, foreign, 6, FIRST_LACKS),
+        (
+            "another client's is named",
+            foreign,
+            foreign,
+            6,
+            FIRST_LACKS,
+        ),
         ("the second isn't named", first, first, 5, second_lacks),
         ("nor is the first", first, first, 4, FIRST_LACKS),
         ("the first is of the boot", first, own, 4, second_lacks),

@@ -54,7 +54,9 @@ fn the_second_reply_of_the_third_of_four_clients_is_torn(rt: HostRuntime) {
     let sessions = four_sessions();
     let mut table = new_table(&rt, rt.alloc());
     assert!(rt; scan(&rt, rt.alloc(), &mut board, &mut table) == Ok(()));
-    assert!(rt; table.replies(4, 3, 0) == 8 && table.first_lacking(&sessions, 8, &fields_of(0)) == None);
+    assert!(rt;
+        table.replies(4, 3, 0) == 8 && table.first_lacking(&sessions, 8, &fields_of(0)) == None
+    );
     assert!(rt; board.write(75, &before) == Ok(()));
     assert!(rt; scan(&rt, rt.alloc(), &mut board, &mut table) == Ok(()));
     assert!(rt; table.get(2).err() == Some(Class::Garbled) && table.replies(4, 3, 0) == 8);

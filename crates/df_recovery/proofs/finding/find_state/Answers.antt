@@ -22,44 +22,44 @@ use Rattle.df_recovery.proofs.finding.find_state.Goals as goal
 pub returns-then-is_behind-clause-answer : goal.returns-then-is_behind-clause-answer
 returns-then-is_behind-clause-answer c = at_place _ (CopyPlace (lowest_of c.args.found.now.chosen.members)) Stale c.behind_damage.result c.behind_damage.ensures
     (λ sh image b is.
-        let content = content_same sh image b _ is c.fields-content.result.now c.fields-content.ensures.value in
-        let counts = c.count_all-seen.ensures.all image is.tells.shows is.shows in
-        opens_behind sh image b _ is ((c.is_behind.ensures.behind sh image b.content counts (boot_is sh image b _ is c.fields-content.result.now c.fields-content.ensures.value) (ap (λ (x : Content). x.sequence) content) (ap (λ (x : Content). x.op) content) is.slots_are).0 c.if-is_behind.true))
+    let content = content_same sh image b _ is c.fields-content.result.now c.fields-content.ensures.value in
+    let counts = c.count_all-seen.ensures.all image is.tells.shows is.shows in
+    opens_behind sh image b _ is ((c.is_behind.ensures.behind sh image b.content counts (boot_is sh image b _ is c.fields-content.result.now c.fields-content.ensures.value) (ap (λ (x : Content). x.sequence) content) (ap (λ (x : Content). x.op) content) is.slots_are).0 c.if-is_behind.true))
     (λ t scanned. refl)
 
 pub returns-in-Err-clause-answer : goal.returns-in-Err-clause-answer
 returns-in-Err-clause-answer c = at_place _ (PreparePlace c.in-Err.slot) (class_of (entry c.args.slots.now c.in-Err.slot).prepare) c.lost_damage.result c.lost_damage.ensures
     (λ sh image b is.
-        let content = content_same sh image b _ is c.fields-content.result.now c.fields-content.ensures.value in
-        let counts = c.count_all-seen.ensures.all image is.tells.shows is.shows in
-        let early = (c.is_behind.ensures.none sh image b.content counts (boot_is sh image b _ is c.fields-content.result.now c.fields-content.ensures.value) (ap (λ (x : Content). x.sequence) content) (ap (λ (x : Content). x.op) content) is.slots_are).0 c.if-is_behind.false in
-        opens_known sh image b _ is c.in-Err.slot early (c.in-Err.ensures.blames sh image b is.tells (is_base sh image b _ is c.fields-content.result.now c.fields-content.ensures.value)))
+    let content = content_same sh image b _ is c.fields-content.result.now c.fields-content.ensures.value in
+    let counts = c.count_all-seen.ensures.all image is.tells.shows is.shows in
+    let early = (c.is_behind.ensures.none sh image b.content counts (boot_is sh image b _ is c.fields-content.result.now c.fields-content.ensures.value) (ap (λ (x : Content). x.sequence) content) (ap (λ (x : Content). x.op) content) is.slots_are).0 c.if-is_behind.false in
+    opens_known sh image b _ is c.in-Err.slot early (c.in-Err.ensures.blames sh image b is.tells (is_base sh image b _ is c.fields-content.result.now c.fields-content.ensures.value)))
     (λ t scanned. (class_shown c.args.layout.now t c.args.slots.now c.in-Err.slot scanned.slots c.in-Err.ensures.slot).1)
 
 pub returns-then-is_lost-clause-answer : goal.returns-then-is_lost-clause-answer
 returns-then-is_lost-clause-answer c = at_place _ (PreparePlace c.slot_of.result) (class_of (entry c.args.slots.now c.slot_of.result).prepare) c.lost_damage-then-is_lost.result c.lost_damage-then-is_lost.ensures
     (λ sh image b is.
-        let content = content_same sh image b _ is c.fields-content.result.now c.fields-content.ensures.value in
-        let counts = c.count_all-seen.ensures.all image is.tells.shows is.shows in
-        let early = (c.is_behind.ensures.none sh image b.content counts (boot_is sh image b _ is c.fields-content.result.now c.fields-content.ensures.value) (ap (λ (x : Content). x.sequence) content) (ap (λ (x : Content). x.op) content) is.slots_are).0 c.if-is_behind.false in
-        let found = c.in-Ok.ensures.reach sh image b is.tells (is_base sh image b _ is c.fields-content.result.now c.fields-content.ensures.value) in
-        let bound = counts_bound sh image b _ is c.fields-content.result.now c.in-Ok.reach.tail.op c.bound_of-bound.result c.fields-content.ensures.value (c.bound_of-bound.ensures image is.tells.shows (c.count_all-seen.ensures.own image is.tells.shows is.shows)) in
-        let lost = (c.is_lost.ensures.bound image b.content bound (ap (λ (x : Content). x.head) content)).0 c.if-is_lost.true in
-        opens_lost sh image b _ is c.in-Ok.reach c.find_known.new.sessions.sessions early found c.slot_of.result c.slot_of.ensures.value lost)
+    let content = content_same sh image b _ is c.fields-content.result.now c.fields-content.ensures.value in
+    let counts = c.count_all-seen.ensures.all image is.tells.shows is.shows in
+    let early = (c.is_behind.ensures.none sh image b.content counts (boot_is sh image b _ is c.fields-content.result.now c.fields-content.ensures.value) (ap (λ (x : Content). x.sequence) content) (ap (λ (x : Content). x.op) content) is.slots_are).0 c.if-is_behind.false in
+    let found = c.in-Ok.ensures.reach sh image b is.tells (is_base sh image b _ is c.fields-content.result.now c.fields-content.ensures.value) in
+    let bound = counts_bound sh image b _ is c.fields-content.result.now c.in-Ok.reach.tail.op c.bound_of-bound.result c.fields-content.ensures.value (c.bound_of-bound.ensures image is.tells.shows (c.count_all-seen.ensures.own image is.tells.shows is.shows)) in
+    let lost = (c.is_lost.ensures.bound image b.content bound (ap (λ (x : Content). x.head) content)).0 c.if-is_lost.true in
+    opens_lost sh image b _ is c.in-Ok.reach c.find_known.new.sessions.sessions early found c.slot_of.result c.slot_of.ensures.value lost)
     (λ t scanned. (class_shown c.args.layout.now t c.args.slots.now c.slot_of.result scanned.slots c.slot_of.ensures.below).1)
 
 pub returns-in-Some-clause-answer : goal.returns-in-Some-clause-answer
 returns-in-Some-clause-answer c = at_place _ (ReplyPlace c.in-Some.lacking.place) c.in-Some.lacking.class c.reply_damage.result c.reply_damage.ensures
     (λ sh image b is.
-        let content = content_same sh image b _ is c.fields-content.result.now c.fields-content.ensures.value in
-        let counts = c.count_all-seen.ensures.all image is.tells.shows is.shows in
-        let early = (c.is_behind.ensures.none sh image b.content counts (boot_is sh image b _ is c.fields-content.result.now c.fields-content.ensures.value) (ap (λ (x : Content). x.sequence) content) (ap (λ (x : Content). x.op) content) is.slots_are).0 c.if-is_behind.false in
-        let found = c.in-Ok.ensures.reach sh image b is.tells (is_base sh image b _ is c.fields-content.result.now c.fields-content.ensures.value) in
-        let bound = counts_bound sh image b _ is c.fields-content.result.now c.in-Ok.reach.tail.op c.bound_of-bound.result c.fields-content.ensures.value (c.bound_of-bound.ensures image is.tells.shows (c.count_all-seen.ensures.own image is.tells.shows is.shows)) in
-        let kept = (c.is_lost.ensures.unbound image b.content bound (ap (λ (x : Content). x.head) content)).0 c.if-is_lost.false in
-        let number = c.replies-stored.ensures image b.content found.tail is.shows (boot_is sh image b _ is c.fields-content.result.now c.fields-content.ensures.value) (ap (λ (x : Content). x.replies) content) (sym found.ends.mark) in
-        opens_lacking sh image b _ is c.in-Ok.reach c.find_known.new.sessions.sessions early found c.replies-stored.result c.in-Some.lacking.place kept number
-        (subst (λ (x : Content). LacksReply image x (sessions_of c.find_known.new.sessions.sessions) c.replies-stored.result c.in-Some.lacking.place) (sym content) (c.in-Some.ensures.lacks image is.shows)))
+    let content = content_same sh image b _ is c.fields-content.result.now c.fields-content.ensures.value in
+    let counts = c.count_all-seen.ensures.all image is.tells.shows is.shows in
+    let early = (c.is_behind.ensures.none sh image b.content counts (boot_is sh image b _ is c.fields-content.result.now c.fields-content.ensures.value) (ap (λ (x : Content). x.sequence) content) (ap (λ (x : Content). x.op) content) is.slots_are).0 c.if-is_behind.false in
+    let found = c.in-Ok.ensures.reach sh image b is.tells (is_base sh image b _ is c.fields-content.result.now c.fields-content.ensures.value) in
+    let bound = counts_bound sh image b _ is c.fields-content.result.now c.in-Ok.reach.tail.op c.bound_of-bound.result c.fields-content.ensures.value (c.bound_of-bound.ensures image is.tells.shows (c.count_all-seen.ensures.own image is.tells.shows is.shows)) in
+    let kept = (c.is_lost.ensures.unbound image b.content bound (ap (λ (x : Content). x.head) content)).0 c.if-is_lost.false in
+    let number = c.replies-stored.ensures image b.content found.tail is.shows (boot_is sh image b _ is c.fields-content.result.now c.fields-content.ensures.value) (ap (λ (x : Content). x.replies) content) (sym found.ends.mark) in
+    opens_lacking sh image b _ is c.in-Ok.reach c.find_known.new.sessions.sessions early found c.replies-stored.result c.in-Some.lacking.place kept number
+    (subst (λ (x : Content). LacksReply image x (sessions_of c.find_known.new.sessions.sessions) c.replies-stored.result c.in-Some.lacking.place) (sym content) (c.in-Some.ensures.lacks image is.shows)))
     (λ t scanned. c.in-Some.ensures.class c.args.layout.now c.args.slots.now.start.cluster t scanned.replies)
 
 -- no step before the last refuses
