@@ -21,7 +21,7 @@ use Rattle.df_theory.specs.Trailer.{IsReference}
 use Rattle.df_theory.specs.View.{PassesTests}
 use Rattle.df_units.specs.Bytes.{copy_unit, unit_at}
 use Rattle.df_units.specs.Meaning.{content_of, layout_of}
-use Rattle.df_units.specs.Superblocks.{AreFieldsOf, HasChecks}
+use Rattle.df_units.specs.Superblocks.{AreFieldsOf}
 use Rattle.df_units.proofs.Laws.{choice_chosen, one_content, shown_checks, copy_parts}
 use Rattle.df_journal.specs.Shows.{TellsRings}
 use Rattle.df_journal.proofs.Laws.{rings_shown as slots_shown}

@@ -1,13 +1,11 @@
 -- Each step of what an open finds is the theory's.
-use Rattle.std.proofs.Common.{inl, inr, ◌≡◌, ◌≢◌, ◌↔◌, ℕ, ◌+◌, ◌<◌, ◌≤◌, ◌%◌, ◌^◌, List, [], length, Some, refl, sym, ◌∙◌, ap, subst, arith}
-use Rattle.std.specs.Prelude.{Result}
+use Rattle.std.proofs.Common.{inl, inr, ◌≡◌, ◌≢◌, ◌↔◌, ℕ, ◌+◌, ◌<◌, ◌≤◌, ◌%◌, ◌^◌, List, length, refl, sym, ◌∙◌, ap, subst, arith}
 use Rattle.std.specs.List.{slice_get}
 use Rattle.std.proofs.lemmas.Bool.{cases_lt}
 use Rattle.df_disk.specs.Told.{Told}
 use Rattle.df_layout.specs.declared.damage.Class.{Class}
 use Rattle.df_layout.specs.declared.layout.Layout.{Layout}
 use Rattle.df_format.specs.Copies.{content_with}
-use Rattle.df_format.specs.declared.header.Header.{Header}
 use Rattle.df_format.specs.declared.superblock.SuperFields.{SuperFields}
 use Rattle.df_sessions.specs.declared.session.Session.{Session}
 use Rattle.df_sessions.specs.Requests.{sessions_of}
@@ -27,7 +25,6 @@ use Rattle.df_journal.specs.declared.reach.Reach.{Reach}
 use Rattle.df_journal.specs.Tail.{IsReached}
 use Rattle.df_journal.specs.declared.tail.Tail.{Tail}
 use Rattle.df_replies.specs.Answers.{AllAnswered, StoredAreFound, stored_by}
-use Rattle.df_replies.specs.Shown.{ShowsReplies}
 use Rattle.df_recovery.specs.Finding.{EachOpens, FindsView, IsReadFrom, IsRefused, IsScannedFrom, Read, damage, lowest_of}
 use Rattle.df_recovery.specs.Surveys.{class_there}
 use Rattle.df_recovery.specs.Known.{BlamesKnown, IsBaseOf}

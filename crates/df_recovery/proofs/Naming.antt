@@ -1,9 +1,8 @@
 -- What a superblock of either version names: how the search for named prepares and the walk behind its checkpoint begin, and which of them is blamed.
-use Rattle.std.proofs.Common.{inl, inr, ◌≡◌, ◌≢◌, ℕ, ◌+◌, ◌<◌, ◌≤◌, ◌%◌, List, length, refl, sym, ◌∙◌, ap, subst, arith}
+use Rattle.std.proofs.Common.{inl, inr, ◌≡◌, ℕ, ◌+◌, ◌≤◌, ◌%◌, List, sym, ◌∙◌, ap, subst, arith}
 use Rattle.std.specs.Prelude.{Result, Ok, Err, IfErr, IfOk}
 use Rattle.std.proofs.lemmas.Bool.{cases_eq}
 use Rattle.df_layout.specs.declared.layout.Layout.{Layout}
-use Rattle.df_format.specs.Copies.{content_with}
 use Rattle.df_format.specs.Spelling.{IsCheck}
 use Rattle.df_format.specs.SuperRules.{IsSuper, IsUsable}
 use Rattle.df_format.specs.declared.superblock.SuperFields.{SuperFields}
@@ -12,7 +11,7 @@ use Rattle.df_theory.specs.Units.{Content, Units}
 use Rattle.df_theory.specs.Shape.{Shape, slots}
 use Rattle.df_theory.specs.Opens.{LacksKnown}
 use Rattle.df_theory.specs.View.{Checkpoint}
-use Rattle.df_units.specs.Meaning.{content_of, number_of, pin_checksum_of, pin_of}
+use Rattle.df_units.specs.Meaning.{number_of, pin_checksum_of, pin_of}
 use Rattle.df_units.proofs.Laws.{by_other, by_second}
 use Rattle.df_journal.specs.Known.{AllKnown, NamesFrom}
 use Rattle.df_journal.specs.Scan.{Scan}

@@ -1,5 +1,5 @@
 -- What is found of a file is the answer to an open.
-use Rattle.std.specs.Prelude.{Err, Ok, map}
+use Rattle.std.specs.Prelude.{Ok, map}
 use Rattle.std.specs.List.{range_with_len}
 use Rattle.std.proofs.Common.{◌≡◌, ℕ, ◌+◌, ◌-◌, List, length, refl, sym, ◌∙◌, ap, subst}
 use Rattle.df_format.specs.Copies.{content_with}

@@ -1,18 +1,16 @@
 -- What the slots of the four places say of the image that they were read from.
 use Rattle.std.specs.Prelude.{Ok, Err}
-use Rattle.std.proofs.Common.{◌≡◌, ℕ, ◌<◌, ◌==◌, Bool, true, false, cond, List, [], ◌∷◌, length, get_or, Option, Some, None, refl, sym, ◌∙◌, ap, arith}
+use Rattle.std.proofs.Common.{◌≡◌, ℕ, ◌<◌, ◌==◌, Bool, true, List, [], ◌∷◌, length, get_or, Option, Some, None, refl, sym, ◌∙◌, ap, arith}
 use Rattle.std.proofs.lemmas.Bool.{cond-true, eq-eqb}
 use Rattle.df_base.specs.Image.{Image}
 use Rattle.df_layout.specs.declared.damage.Class.{Class}
 use Rattle.df_layout.specs.declared.damage.Class.TheVariants.{Blank, Elsewhere, Stale}
-use Rattle.df_layout.specs.declared.places.Place.{Place}
 use Rattle.df_layout.specs.declared.places.Zone.TheVariants.{Superblock}
 use Rattle.df_format.specs.Own.{place_in}
 use Rattle.df_format.specs.declared.superblock.SuperCopy.{SuperCopy}
-use Rattle.df_format.specs.Copies.{Content, copy_in, if_here, copy_at, content_at, is_blank_copy, class_of_sound, class_of_copy, copy_or_class, own_copy}
-use Rattle.df_format.proofs.Laws.{copy_is_not_blank, is_here, valid_is_stale}
+use Rattle.df_format.specs.Copies.{Content, copy_in, if_here, copy_at, content_at, class_of_copy, copy_or_class}
+use Rattle.df_format.proofs.Laws.{is_here, valid_is_stale}
 use Rattle.df_quorum.specs.declared.slot.Slot.{Slot}
-use Rattle.df_quorum.specs.declared.slot.Slot.TheVariants.{Bad}
 use Rattle.df_quorum.specs.Quorum.{Copies, IsChosen, IsSplit, HasChosen, AreMembers, AreClasses, class_in, copies_of, nothing}
 use Rattle.df_quorum.proofs.Laws.{same_law}
 use Rattle.df_quorum.specs.declared.choice.Chosen.{Chosen}

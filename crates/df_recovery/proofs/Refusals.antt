@@ -1,6 +1,6 @@
 -- A trailer that is refused is the answer to an open.
 use Rattle.std.specs.Prelude.{◌≢◌, Err}
-use Rattle.std.proofs.Common.{◌≡◌, inl, inr, ℕ, ◌<◌, ◌==◌, Bool, true, false, Option, Some, None, refl, sym, ◌∙◌, ap, subst}
+use Rattle.std.proofs.Common.{◌≡◌, inl, inr, ℕ, ◌<◌, ◌==◌, Bool, true, false, Option, Some, None, refl, sym, ◌∙◌, ap}
 use Rattle.df_base.specs.Image.{Image, IsImage}
 use Rattle.df_layout.specs.declared.damage.Class.{Class}
 use Rattle.df_layout.specs.declared.damage.Class.TheVariants.{Blank, Elsewhere, Garbled, Stale}

@@ -1,5 +1,5 @@
 // What the tests of the rings share: prepares of a small file of cluster 7, and scans.
-ghost use Rattle.std.specs.Prelude.{◌≡◌, ◌≤◌, ◌^◌, [], length, OnOk, IsSome};
+ghost use Rattle.std.specs.Prelude.{◌≡◌, ◌≤◌, ◌<◌, ◌+◌, ◌^◌, [], length, OnOk, IsSome};
 ghost use Rattle.df_layout.specs.declared.layout.Layout.{Layout as AnyLayout};
 ghost use Rattle.df_journal.specs.Shows.{IsTable};
 ghost use Rattle.df_format.specs.Making.{for_body};
@@ -53,8 +53,23 @@ pub(crate) fn prepare_header(op: u64, request: u64, boot: u64, parent: Check) ->
     }
 }
 
+// The first and the last op of a group: of one prepare by itself, or of two, that of an odd op and the next.
+fn group_of(op: u64, is_paired: bool) -> (u64, u64)
+    requires { (1 ≤ op) × (op ≤ 1000) }
+    ensures first { (0 < result.0) × (result.0 ≤ op) }
+    ensures last { (op ≤ result.1) × (result.1 ≤ result.0 + 1) }
+{
+    if !is_paired {
+        (op, op)
+    } else if op % 2 == 0 {
+        (op - 1, op)
+    } else {
+        (op, op + 1)
+    }
+}
+
 // The header of a prepare of client 5 behind a checkpoint at op 4, one request an op: in boot 0 of version 1, and else of version 2,
-// by itself or in a group of two, that of an odd op and the next.
+// by itself or in a group of two.
 #[tactic(auto, unfolding(df_format::specs::Own::own_place, df_format::specs::Spelling::no_checksum))]
 pub(crate) fn grouped_header(op: u64, boot: u8, is_paired: bool, parent: Check) -> Header
     requires op { (5 ≤ op) × (op ≤ 1000) }
@@ -65,14 +80,8 @@ pub(crate) fn grouped_header(op: u64, boot: u8, is_paired: bool, parent: Check) 
     ensures slot { result.slot ≤ 31 }
     ensures own { (layout : AnyLayout) → layout.slots ≡ 32 → IsSome (own_place layout Zone.WalPrepares result) }
 {
-    let first = if op % 2 == 0 { op - 1 } else { op };
-    let (group, group_last) = if is_paired {
-        (first, first + 1)
-    } else {
-        (op, op)
-    };
-    let is_second = boot > 0;
-    Header {
+    let (group, group_last) = group_of(op, is_paired);
+    let first = Header {
         checksum_body: check(&[]),
         parent,
         client: 5,
@@ -82,11 +91,18 @@ pub(crate) fn grouped_header(op: u64, boot: u8, is_paired: bool, parent: Check) 
         checkpoint: 1,
         size: 256,
         slot: (op % 32) as u32,
-        version: if is_second { 2 } else { 1 },
-        boot: u64::from(boot),
-        group: if is_second { group } else { 0 },
-        group_last: if is_second { group_last } else { 0 },
         ..Header::of(Kind::Prepare, 7)
+    };
+    if boot == 0 {
+        first
+    } else {
+        Header {
+            version: 2,
+            boot: u64::from(boot),
+            group,
+            group_last,
+            ..first
+        }
     }
 }
 

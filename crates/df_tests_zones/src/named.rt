@@ -7,7 +7,7 @@ use crate::files::{blank, grouped_header, scanned_from};
 use crate::rings::reserved_table;
 use crate::tails::write_ring;
 use df_base::Check;
-use df_buffers::{HeaderSector, Prepare, Raw};
+use df_buffers::{HeaderSector, Prepare, Raw, Sound};
 use df_cases::Decision;
 use df_headers::HeaderTable;
 use df_journal::{SlotTable, Start, append, bound_top, find_reach, is_lost, lacking_known, put};
@@ -40,6 +40,33 @@ struct Tables {
 // The checksum of the checkpoint's prepare, of op 4.
 const BASE: Check = [4; 16];
 
+// Appends a prepare with its header, or puts it alone.
+fn write_unit(
+    disk: &mut MemoryDisk,
+    layout: &Layout,
+    unit: &Sound<Prepare>,
+    tables: &mut Tables,
+    rt: &impl Abort,
+    alloc: Global,
+    is_told: bool,
+)
+    requires layout { unit.now.layout ≡ layout.now }
+    requires shown { IsTable layout.now unit.now.unit.header.cluster tables.old.shown }
+    requires unshown { IsTable layout.now unit.now.unit.header.cluster tables.old.unshown }
+    ensures shown { IsTable layout.now unit.now.unit.header.cluster tables.new.shown }
+    ensures unshown { IsTable layout.now unit.now.unit.header.cluster tables.new.unshown }
+{
+    if is_told {
+        let mut sector: Raw<HeaderSector> = Raw::reserve(alloc, layout).expect(
+            rt,
+            "memory of a sector",
+        );
+        append(disk, layout, unit, &mut tables.shown, &mut sector).expect(rt, "an append");
+    } else {
+        put(disk, layout, unit, &mut tables.unshown).expect(rt, "a put");
+    }
+}
+
 // Writes a prepare behind the one with this checksum, and hands back its own.
 fn write(
     disk: &mut MemoryDisk,
@@ -61,28 +88,12 @@ fn write(
 {
     let (boot, is_paired, left) = *written;
     let room: Raw<Prepare> = Raw::reserve(alloc, layout).expect(rt, "memory of a room");
-    let mut sector: Raw<HeaderSector> = Raw::reserve(alloc, layout).expect(
-        rt,
-        "memory of a sector",
-    );
     let unit = room.make(grouped_header(op, boot, is_paired, parent), &[]);
-    match left {
-        Left::All | Left::Header => append(
-            disk,
-            layout,
-            &unit,
-            &mut tables.shown,
-            &mut sector,
-        ).expect(rt, "an append"),
-        Left::Prepare | Left::Nothing => put(disk, layout, &unit, &mut tables.unshown).expect(
-            rt, "a put",
-        ),
-    }
-    match left {
-        Left::All | Left::Prepare => {}
-        Left::Header | Left::Nothing => {
-            assert!(rt; disk.strike(6 + 2 * op, Strike::Fill { byte: 0xa5 }).is_ok());
-        }
+    let is_told = left == Left::All || left == Left::Header;
+    write_unit(disk, layout, &unit, tables, rt, alloc, is_told);
+    let is_shown = left == Left::All || left == Left::Prepare;
+    if !is_shown {
+        assert!(rt; disk.strike(6 + 2 * op, Strike::Fill { byte: 0xa5 }).is_ok());
     }
     unit.header().checksum
 }

@@ -29,7 +29,8 @@ fn lacking_of_named(
     };
     for place in 0..2u32 {
         if let Ok(header) = table.get(place) {
-            fields.reply_checksums[place as usize] = header.checksum;
+            let checksum = header.checksum;
+            fields.reply_checksums[place as usize] = checksum;
         }
     }
     assert!(rt; put(rt, alloc, &mut board, shown, &[]) == Ok(()));

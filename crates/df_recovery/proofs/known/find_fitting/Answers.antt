@@ -1,5 +1,5 @@
 -- Short of the head that the superblock names the walk has come to a named prepare that doesn't fit.
-use Rattle.std.proofs.Common.{ℕ, ◌<◌, ◌≤◌, sym, ap, subst, arith}
+use Rattle.std.proofs.Common.{arith}
 use Rattle.df_recovery.proofs.Naming.{begins_at, blames_unfit, content_pin}
 use Rattle.df_recovery.proofs.known.find_fitting.Goals as goal
 
