@@ -1,4 +1,6 @@
 // Files of version 2 of layout small and cluster 7, byte by byte: the copies of a superblock, and units without a body.
+ghost use Rattle.std.specs.Prelude.{◌+◌, ◌≤◌, length};
+
 use df_base::{Check, SECTOR, check, put_u32, put_u64};
 use df_disk::Disk;
 use df_memdisk::MemoryDisk;
@@ -60,12 +62,18 @@ pub(crate) fn reply(slot: u32, client: u64, request: u64, op: u64, mark: u64, bo
     }
 }
 
+fn put_check(bytes: &mut [u8], at: usize, sum: &Check)
+    requires { at + 16 ≤ length bytes.old }
+{
+    bytes[at..at + 16].copy_from_slice(sum);
+}
+
 /// Its 256 bytes.
 pub(crate) fn bytes_of(unit: &Unit) -> [u8; 256] {
     let mut bytes = [0u8; 256];
-    bytes[16..32].copy_from_slice(&check(b""));
+    put_check(&mut bytes, 16, &check(b""));
     put_u64(&mut bytes, 32, 7);
-    bytes[48..64].copy_from_slice(&unit.parent);
+    put_check(&mut bytes, 48, &unit.parent);
     put_u64(&mut bytes, 64, unit.client);
     put_u64(&mut bytes, 80, unit.op);
     put_u64(&mut bytes, 88, unit.request);
@@ -79,7 +87,7 @@ pub(crate) fn bytes_of(unit: &Unit) -> [u8; 256] {
     put_u64(&mut bytes, 132, unit.group.0);
     put_u64(&mut bytes, 140, unit.group.1);
     let sum = check(&bytes[16..]);
-    bytes[..16].copy_from_slice(&sum);
+    put_check(&mut bytes, 0, &sum);
     bytes
 }
 
@@ -118,10 +126,10 @@ fn copy_of(named: &Named, number: u8) -> [u8; SECTOR] {
     put_u64(&mut bytes, 88, named.head);
     put_u64(&mut bytes, 96, named.replies);
     put_u64(&mut bytes, 152, named.boot);
-    bytes[160..176].copy_from_slice(&named.head_checksum);
-    bytes[208..224].copy_from_slice(&named.second);
+    put_check(&mut bytes, 160, &named.head_checksum);
+    put_check(&mut bytes, 208, &named.second);
     let sum = check(&bytes[32..]);
-    bytes[..16].copy_from_slice(&sum);
+    put_check(&mut bytes, 0, &sum);
     bytes
 }
 
@@ -156,9 +164,18 @@ pub(crate) enum Put {
     Hurt(u64),
 }
 
-fn put_unit(disk: &mut MemoryDisk, sector: u64, unit: &Unit) -> Result<(), Fail> {
+// Puts a unit into a sector from this byte on.
+fn put_bytes(sector: &mut [u8], at: usize, unit: &Unit)
+    requires { at + 256 ≤ length sector.old }
+{
+    sector[at..at + 256].copy_from_slice(&bytes_of(unit));
+}
+
+fn put_unit(disk: &mut MemoryDisk, sector: u64, unit: &Unit) -> Result<(), Fail>
+    requires { sector ≤ 336 }
+{
     let mut bytes = [0u8; SECTOR];
-    bytes[..256].copy_from_slice(&bytes_of(unit));
+    put_bytes(&mut bytes, 0, unit);
     disk.write(sector, &bytes)?;
     Ok(())
 }
@@ -170,7 +187,7 @@ fn put_header(disk: &mut MemoryDisk, unit: &Unit) -> Result<(), Fail> {
     let at = 256 * (slot % 16) as usize;
     let mut bytes = [0u8; SECTOR];
     disk.read(sector, &mut bytes)?;
-    bytes[at..at + 256].copy_from_slice(&bytes_of(unit));
+    put_bytes(&mut bytes, at, unit);
     disk.write(sector, &bytes)?;
     Ok(())
 }
