@@ -97,15 +97,28 @@ pub(crate) fn sum_of(unit: &Unit) -> Check {
     sum
 }
 
-/// A superblock of sequence 1 over op 0: its boot, head and number of replies, the checksum of the head's prepare, and that of the
-/// reply at place 1.
+/// A superblock: the op of its checkpoint, its boot, head and number of replies, the checksum of the head's prepare, and that of the
+/// reply at place 1. Of op 0 it is the first one, of sequence 1.
 #[derive(Clone, Copy)]
 pub(crate) struct Named {
+    pub(crate) op: u64,
     pub(crate) boot: u64,
     pub(crate) head: u64,
     pub(crate) replies: u64,
     pub(crate) head_checksum: Check,
     pub(crate) second: Check,
+}
+
+// Puts the checkpoint of an op, whose trailer is said to be one block, at address 1.
+fn put_checkpoint(bytes: &mut [u8], op: u64)
+    requires { 152 ≤ length bytes.old }
+{
+    put_u64(bytes, 72, 2);
+    put_u64(bytes, 80, op);
+    put_u64(bytes, 104, 1);
+    put_check(bytes, 112, &[1; 16]);
+    put_check(bytes, 128, &[2; 16]);
+    put_u64(bytes, 144, 100);
 }
 
 fn copy_of(named: &Named, number: u8) -> [u8; SECTOR] {
@@ -123,6 +136,9 @@ fn copy_of(named: &Named, number: u8) -> [u8; SECTOR] {
         put_u32(&mut bytes, at, value);
     }
     put_u64(&mut bytes, 72, 1);
+    if named.op > 0 {
+        put_checkpoint(&mut bytes, named.op);
+    }
     put_u64(&mut bytes, 88, named.head);
     put_u64(&mut bytes, 96, named.replies);
     put_u64(&mut bytes, 152, named.boot);

@@ -50,6 +50,7 @@ fn made_file() -> File {
     let second = reply(1, 6, 1, 2, 2, 2);
     File {
         named: Named {
+            op: 0,
             boot: 3,
             head: 3,
             replies: 2,
@@ -159,6 +160,27 @@ fn a_named_prepare_that_does_not_fit_is_stale(rt: HostRuntime) -> Result<(), Fai
     assert_eq!(rt;
         found_with(rt.alloc(), &nameless, &[])?,
         damaged(Zone::WalPrepares, 3, Class::Stale)
+    );
+    Ok(())
+}
+
+#[test]
+fn a_head_at_the_checkpoint_has_its_checksum(rt: HostRuntime) -> Result<(), Fail> {
+    let named = Named {
+        op: 4,
+        boot: 3,
+        head: 4,
+        replies: 4,
+        head_checksum: NONE,
+        second: NONE,
+    };
+    let mut disk = forge(rt.alloc(), &named, &[])?;
+    assert_eq!(rt;
+        surveyed(rt.alloc(), &mut disk, 2)?,
+        Err(OpenError::BadField {
+            field: Field::Head,
+            value: 0
+        })
     );
     Ok(())
 }
@@ -301,6 +323,7 @@ fn the_greatest_boot_is_refused_last(rt: HostRuntime) -> Result<(), Fail> {
 #[test]
 fn a_survey_of_either_version_is_forty_three_calls(rt: HostRuntime) -> Result<(), Fail> {
     let blank = Named {
+        op: 0,
         boot: 0,
         head: 0,
         replies: 0,
