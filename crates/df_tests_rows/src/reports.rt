@@ -98,10 +98,10 @@ findings 16
 #[test]
 fn inspect_lists_what_is_to_be_mended_and_mends_nothing(rt: HostRuntime) -> Result<(), Fail> {
     let mut disk = left_by(rt.alloc(), &STOPS[0])?;
-    for _ in 0..2 {
-        let events = disk.events();
+    let events = disk.events();
+    for again in 1..3u64 {
         expect_found(&rt, rt.alloc(), &mut disk, STOPS[0].4, GARBLED)?;
-        assert_eq!(rt; disk.events(), events + 1);
+        assert_eq!(rt; disk.events(), events + again);
     }
     Ok(())
 }
