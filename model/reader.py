@@ -1,9 +1,10 @@
 #!/usr/bin/env python3
 """A reader of the data file, written from docs/FORMAT.md alone. It shares nothing with the model beside it.
 
-    python3 model/reader.py FILE
+    python3 model/reader.py FILE [VERSION]
 
-Prints why the file is refused, or its layout, its cluster, its checkpoint, each prepare and each stored reply.
+Prints why the file is refused, where this version is asked for (1 by default), or its layout, its cluster, its checkpoint, each
+prepare and each stored reply.
 """
 
 import sys
@@ -52,10 +53,25 @@ def rank(copy):
     return number(copy, 72, 8), number(copy, 152, 8)
 
 
-def fields_of(copy):
+def names_of(f, copy):
+    """What a superblock of its version has behind the fields of both: the tests of these fields, each with what is told where it
+    fails; the offsets that are to be zero; and which prepares and replies it names."""
+    if f["Version"] == 1:
+        named = {"Pin": f["Op"], "PinChecksum": f["OpChecksum"], "Answered": 0, "ReplyChecksums": ()}
+        return (("Boot", f["Boot"] == 0, f["Boot"]),), range(160, SECTOR), named
+    head = number(copy, 160, 16)
+    sums = [number(copy, 192 + 16 * place, 16) for place in range(64)]
+    spare = next((place for place in range(f["Clients"], 64) if sums[place]), None)
+    is_head = (f["Head"] != 0 or head == 0) and (f["Head"] != f["Op"] or head == f["OpChecksum"])
+    tests = (("Boot", f["Boot"] <= TOP, f["Boot"]), ("Head", is_head, head), ("Replies", spare is None, spare))
+    named = {"Pin": f["Head"], "PinChecksum": head, "Answered": f["Replies"] + 1, "ReplyChecksums": sums}
+    return tests, [*range(176, 192), *range(1216, SECTOR)], named
+
+
+def fields_of(copy, version=1):
     """The fields of a superblock that passes the tests of version and fields."""
     f = {name: number(copy, at, size) for name, (at, size) in NUMBERS.items()}
-    if f["Version"] != 1:
+    if f["Version"] != version:
         raise Refused(f"Version found {f['Version']}")
     greatest = 4 + 1024 + 4 + 32 * f["Clients"] + (f["Blocks"] + 7) // 8 + 16 * f["Blocks"]
     has_trailer = f["TrailerAddress"] != 0
@@ -74,18 +90,18 @@ def fields_of(copy):
         ("TrailerAddress", f["TrailerAddress"] <= f["Blocks"] and (has_trailer or f["Op"] == 0)),
         ("TrailerChecksum", has_trailer or f["TrailerChecksum"] == 0),
         ("TrailerSize", 1 <= f["TrailerSize"] <= greatest if has_trailer else f["TrailerSize"] == 0),
-        ("Boot", f["Boot"] == 0),
     )
-    for name, passes in tests:
+    own, zeros, named = names_of(f, copy)
+    for name, passes, value in [(name, passes, f[name]) for name, passes in tests] + [*own]:
         if not passes:
-            raise Refused(f"BadField {name} {f[name]}")
-    for at in range(160, SECTOR):
+            raise Refused(f"BadField {name} {value}")
+    for at in zeros:
         if copy[at]:
             raise Refused(f"BadField Zero {at}")
-    return f
+    return f | named
 
 
-def superblock_of(file, checkpoints):
+def superblock_of(file, checkpoints, version=1):
     """The fields of the file's superblock, and the lowest copy that has it."""
     sectors = [bytes_at(file, SECTOR * place, SECTOR) for place in range(COPIES)]
     if not any(map(any, sectors)):
@@ -93,7 +109,7 @@ def superblock_of(file, checkpoints):
     copy = choose(sectors)
     if copy is None:
         raise Refused("NoQuorum " + " ".join(class_of_copy(sector, place) for place, sector in enumerate(sectors)))
-    f = fields_of(copy)
+    f = fields_of(copy, version)
     if f["TrailerAddress"] and not checkpoints:
         raise Refused(f"BadField TrailerAddress {f['TrailerAddress']}")
     f["Copy"] = number(copy, 16, 4)
@@ -105,27 +121,69 @@ def is_own(one, f):
     return not isinstance(one, str) and one["boot"] == f["Boot"]
 
 
-def tail_of(f, headers, prepares, known):
-    """The longest list of prepares that are taken and fit; with each client's last request, in order of place, the sessions
-    that are known first."""
-    tail, sessions = [], dict(known)
+def group_of(one):
+    """The first and the last op of a prepare's group; one that names no group is alone."""
+    return one["group"] or one["op"], one["group_last"] or one["op"]
+
+
+def is_over(one):
+    """Whether a prepare is the last of its group."""
+    return group_of(one)[1] <= one["op"]
+
+
+def lacking_of(f, prepares):
+    """The greatest op that the superblock names and whose slot doesn't show the prepare that is named; None where all are shown."""
+    op, wanted = f["Pin"], f["PinChecksum"]
+    while op > f["Op"]:
+        one = prepares[op % f["Slots"]]
+        if isinstance(one, str) or number(one["checksum"], 0, 16) != wanted:
+            return op
+        op, wanted = op - 1, one["parent"]
+    return None
+
+
+def is_taken(f, op, header, one):
+    """Whether this op's prepare is taken from its slot. Up to the pin its checksum is known."""
+    if isinstance(one, str) or one["op"] != op:
+        return False
+    if op <= f["Pin"]:
+        return True
+    speaks = not isinstance(header, str) and (header["op"] > op or (header["op"] == op and is_own(header, f)))
+    return is_own(one, f) and not (speaks and header["checksum"] != one["checksum"])
+
+
+def fits(f, one, before, sessions):
+    """Whether a prepare fits the one before it, if there is one, and the sessions up to it."""
+    op, last = one["op"], sessions.get(one["client"])
+    chained = one["parent"] == (number(before["checksum"], 0, 16) if before else f["OpChecksum"])
+    marked = one["mark"] >= (before["mark"] if before else 0) and one["mark"] + 8 >= op
+    if last:
+        follows = one["request"] == last["request"] + 1 and last["op"] <= one["mark"]
+    else:
+        follows = one["request"] == 1 and len(sessions) < f["Clients"]
+    grouped = group_of(one)[0] == op if before is None or is_over(before) else group_of(one) == group_of(before)
+    return chained and marked and follows and grouped and (op != f["Pin"] or is_over(one))
+
+
+def reach_of(f, headers, prepares, known):
+    """The longest list of prepares behind the checkpoint that are taken and fit; the sessions that are known first."""
+    reached, sessions = [], dict(known)
     for op in range(f["Op"] + 1, f["Op"] + f["Slots"] + 1):
         header, one = headers[op % f["Slots"]], prepares[op % f["Slots"]]
-        if not is_own(one, f) or one["op"] != op:
+        if not is_taken(f, op, header, one) or not fits(f, one, reached[-1] if reached else None, sessions):
             break
-        speaks = not isinstance(header, str) and (header["op"] > op or (header["op"] == op and is_own(header, f)))
-        if speaks and header["checksum"] != one["checksum"]:
-            break
-        before, last = tail[-1] if tail else None, sessions.get(one["client"])
-        chained = one["parent"] == (number(before["checksum"], 0, 16) if before else f["OpChecksum"])
-        marked = one["mark"] >= (before["mark"] if before else 0) and one["mark"] + 8 >= op
-        if last:
-            follows = one["request"] == last["request"] + 1 and last["op"] <= one["mark"]
-        else:
-            follows = one["request"] == 1 and len(sessions) < f["Clients"]
-        if not (chained and marked and follows):
-            break
-        tail.append(one)
+        reached.append(one)
+        sessions[one["client"]] = one
+    return reached
+
+
+def tail_of(f, reached, known):
+    """Of these prepares those up to the last whole group; with each client's last request, in order of place, the sessions that
+    are known first."""
+    tail, sessions = list(reached), dict(known)
+    while tail and not is_over(tail[-1]):
+        tail.pop()
+    for one in tail:
         sessions[one["client"]] = one
     return tail, sessions
 
@@ -150,18 +208,34 @@ def stored_of(f, tail, sessions, places):
         one = places[place]
         kept[client] = last
         if last["op"] <= stored:
-            if not is_own(one, f) or any(one[name] != last[name] for name in ("client", "request", "op")):
+            if not is_answer(f, place, one, last):
                 raise Refused(f"Damaged ClientReplies {place} {class_at(one)}")
             kept[client] = one
     return stored, kept
 
 
+def is_answer(f, place, one, last):
+    """Whether what a reply slot shows answers its client's last request. A reply that the superblock names has the checksum that it
+    has for the place, and any other one is of its boot."""
+    if isinstance(one, str) or any(one[name] != last[name] for name in ("client", "request", "op")):
+        return False
+    if one["op"] < f["Answered"]:
+        return number(one["checksum"], 0, 16) == f["ReplyChecksums"][place]
+    return is_own(one, f)
+
+
+def is_cut(one, head):
+    """Whether a prepare is of a group of several right above the head, which counts as a whole alone."""
+    first, last = group_of(one)
+    return one["boot"] > 0 and first == head + 1 and first < last and one["op"] > head
+
+
 def evidence_of(state):
-    """Each op that something in the file tells of: the op, and where it is told."""
-    f = state["fields"]
+    """Each op that something in the file tells of, where this head is found: the op, and where it is told."""
+    f, head = state["fields"], state["head"]
     told = [(f["Head"], "the superblock", 0)]
-    for ring, zone in (("headers", "WalHeaders"), ("prepares", "WalPrepares")):
-        told += [(one["op"], zone, slot) for slot, one in enumerate(state[ring]) if is_own(one, f)]
+    told += [(one["op"], "WalHeaders", slot) for slot, one in enumerate(state["headers"]) if is_own(one, f)]
+    told += [(one["op"], "WalPrepares", slot) for slot, one in enumerate(state["prepares"]) if is_own(one, f) and not is_cut(one, head)]
     for place, one in enumerate(state["places"]):
         told += [(max(one["op"], one["mark"]), "ClientReplies", place)] if is_own(one, f) else []
     return told
@@ -179,27 +253,42 @@ def later_of(state):
     return found
 
 
-def find(file, state, checkpoints=True, bodies=True):
-    """Fills in what the file has, as far as it isn't refused: the superblock's fields, its checkpoint, what each place of the
-    rings and of the replies shows, the tail, the sessions, the head, how many replies are stored, and those."""
-    f = state["fields"] = superblock_of(file, checkpoints)
+def damage_of(state, op):
+    """The refusal that blames the prepare slot of an op."""
+    slot = op % state["fields"]["Slots"]
+    return Refused(f"Damaged WalPrepares {slot} {class_at(state['prepares'][slot])}")
+
+
+def find(file, state, checkpoints=True, bodies=True, version=1):
+    """Fills in what the file has, as far as it isn't refused where this version is asked for: the superblock's fields, its
+    checkpoint, what each place of the rings and of the replies shows, the tail, the sessions, the head, how many replies are stored,
+    and those."""
+    f = state["fields"] = superblock_of(file, checkpoints, version)
     state.update(checkpoint_of(lambda address: shown(file, f, "Grid", address), f))
     state.update(rings_of(file, f, bodies))
     if later_of(state):
         raise Refused(f"Damaged Superblock {f['Copy']} Stale")
-    state["tail"], state["sessions"] = tail_of(f, state["headers"], state["prepares"], state["known"])
+    lacking = lacking_of(f, state["prepares"])
+    if lacking is not None:
+        raise damage_of(state, lacking)
+    reached = reach_of(f, state["headers"], state["prepares"], state["known"])
+    behind = f["Op"] + len(reached) + 1
+    if behind <= f["Pin"]:
+        raise damage_of(state, behind)
+    state["tail"], state["sessions"] = tail_of(f, reached, state["known"])
     head = state["head"] = f["Op"] + len(state["tail"])
     if max(op for op, _, _ in evidence_of(state)) > head:
-        slot = (head + 1) % f["Slots"]
-        raise Refused(f"Damaged WalPrepares {slot} {class_at(state['prepares'][slot])}")
+        raise damage_of(state, behind)
     state["stored"], state["replies"] = stored_of(f, state["tail"], state["sessions"], state["places"])
+    if f["Boot"] == TOP:
+        raise Refused("BootSpent")
 
 
-def state_of(file, checkpoints=True):
-    """All that is read of the file, with its referenced blocks. Without checkpoints a file that has one is refused, as by a
-    program that knows none."""
+def state_of(file, checkpoints=True, version=1):
+    """All that is read of the file, with its referenced blocks, where this version is asked for. Without checkpoints a file that
+    has one is refused, as by a program that knows none."""
     state = {}
-    find(file, state, checkpoints)
+    find(file, state, checkpoints, version=version)
     f, listed = state["fields"], state["references"].items()
     return state | {"blocks": {address: block_of(file, f, address, checksum) for address, checksum in listed}}
 
@@ -217,12 +306,12 @@ def text_of(one):
 
 
 def main():
-    if len(sys.argv) != 2:
-        sys.exit("usage: reader.py FILE")
+    if len(sys.argv) not in (2, 3) or sys.argv[2:] not in ([], ["1"], ["2"]):
+        sys.exit("usage: reader.py FILE [VERSION]")
     with open(sys.argv[1], "rb") as opened:
         file = opened.read()
     try:
-        state = state_of(file)
+        state = state_of(file, version=int((sys.argv[2:] or ["1"])[0]))
     except Refused as why:
         sys.exit(f"refused {why}")
     f = state["fields"]

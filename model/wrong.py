@@ -96,9 +96,13 @@ class Rules(wrong_grid.Rules):
             return one.request == 1
         return super().follows(one, sessions, content)
 
-    def tail(self, rings, content, sessions: tuple) -> tuple:
-        tail, sessions = super().tail(rings, content, sessions)
-        return tail, sessions[: content.clients]
+    def reach(self, rings, content, sessions: tuple) -> list:
+        self.clients = content.clients
+        return super().reach(rings, content, sessions)
+
+    def tail(self, reached: list, sessions: tuple) -> tuple:
+        tail, sessions = super().tail(reached, sessions)
+        return tail, sessions[: self.clients]
 
     def behind(self, rings, content) -> bool:
         if has("stamps of sequences are ignored"):
@@ -147,8 +151,8 @@ class Rules(wrong_grid.Rules):
         taken = has("a lost reply opens") or has("a reply of another request is taken") and other
         return None if taken else missing
 
-    def mended(self, rings, home, content, members: list) -> tuple:
-        table, to_mend = super().mended(rings, home, content, members)
+    def mended(self, rings, home, content, members: list, head: int) -> tuple:
+        table, to_mend = super().mended(rings, home, content, members, head)
         if has("an old header of an empty slot is written anew"):
             old = [slot for slot, one in enumerate(rings.headers) if isinstance(one, Unit) and not one.op]
             to_mend += [(Place(form.WAL_HEADERS, slot), units.STALE) for slot in old]

@@ -88,6 +88,12 @@ def is_own(one: Union[Unit, str], content: superblock.Content) -> bool:
     return isinstance(one, Unit) and one.boot == content.boot
 
 
+def is_cut(one: Unit, head: int) -> bool:
+    """Whether a prepare is of a group of several right above the head, which counts as a whole alone."""
+    first, last = one.group()
+    return one.boot > 0 and first == head + 1 and first < last and one.op > head
+
+
 class Rules(trailer.Trailers):
     """The rules of an open."""
 
@@ -103,12 +109,29 @@ class Rules(trailer.Trailers):
         return "Empty" if h == "Old" else "Empty mend"
 
     def fits(self, one: Unit, before: list, sessions: list, content: superblock.Content) -> bool:
-        """Whether a prepare fits those before it in the tail."""
+        """Whether a prepare fits those before it."""
         parent = before[-1].checksum if before else content.op_checksum
         least = max(before[-1].mark if before else 0, one.op - PIPELINE if one.op > PIPELINE else 0)
-        if one.parent != parent or not least <= one.mark < one.op:
+        if one.parent != parent or not least <= one.mark < one.op or not self.grouped(one, before, content):
             return False
         return self.follows(one, sessions, content)
+
+    def grouped(self, one: Unit, before: list, content: superblock.Content) -> bool:
+        """Whether a prepare's group goes with those before it: it goes on with one that isn't over, and else begins one. No group
+        goes past the ops that the superblock names."""
+        if before and not before[-1].ends_group():
+            return one.group() == before[-1].group()
+        return one.group()[0] == one.op and (one.op != content.pin() or one.ends_group())
+
+    def unknown(self, rings: Rings, content: superblock.Content) -> Optional[int]:
+        """The greatest op that the superblock names and whose prepare isn't shown."""
+        wanted = content.pin_checksum()
+        for op in range(content.pin(), content.op, -1):
+            one = rings.prepares[op % content.slots]
+            if not isinstance(one, Unit) or one.checksum != wanted:
+                return op
+            wanted = one.parent
+        return None
 
     def follows(self, one: Unit, sessions: list, content: superblock.Content) -> bool:
         """Whether a prepare's client may make this request."""
@@ -124,7 +147,8 @@ class Rules(trailer.Trailers):
 
     def lost(self, rings: Rings, content: superblock.Content, head: int) -> bool:
         """Whether something of the superblock's boot is seen that the tail doesn't reach."""
-        tops = [one.op for one in rings.logged() if is_own(one, content)] + [content.head]
+        tops = [one.op for one in rings.headers if is_own(one, content)] + [content.head]
+        tops += [one.op for one in rings.prepares if is_own(one, content) and not is_cut(one, head)]
         for one in rings.replies:
             tops += [one.op, one.mark] if is_own(one, content) else []
         return max(tops) > head
@@ -138,32 +162,61 @@ class Rules(trailer.Trailers):
         """The least place whose session has a stored reply that its slot doesn't show, with the class."""
         for place, session in enumerate(sessions):
             one = rings.replies[place]
-            shown = is_own(one, content) and Session(one.client, one.request, one.op) == session
-            if session.op <= replies and not shown:
+            if session.op <= replies and not self.answers(one, place, session, content):
                 return place, units.class_of(one)
         return None
 
-    def tail(self, rings: Rings, content: superblock.Content, sessions: tuple) -> tuple:
-        """The tail behind a checkpoint with these sessions, and the sessions after it."""
-        tail, sessions = [], list(sessions)
-        for op in range(content.op + 1, content.op + content.slots + 1):
-            slot = op % content.slots
-            one = rings.prepares[slot]
-            if not self.decision(rings.headers[slot], one, op, content.boot).startswith("Take"):
-                break
-            if not self.fits(one, tail, sessions, content):
-                break
-            tail.append(one)
-            sessions = after(sessions, one)
-        return tail, sessions
+    def answers(self, one: Union[Unit, str], place: int, session: Session, content: superblock.Content) -> bool:
+        """Whether what a reply slot shows answers a session: by the recorded checksum, where the superblock names the op."""
+        if not isinstance(one, Unit) or Session(one.client, one.request, one.op) != session:
+            return False
+        if one.op <= content.named():
+            return one.checksum == content.reply_checksums()[place]
+        return one.boot == content.boot
 
-    def mended(self, rings: Rings, home: Home, content: superblock.Content, members: list) -> tuple:
+    def takes(self, rings: Rings, op: int, content: superblock.Content) -> bool:
+        """Whether this op's prepare is taken from its slot; up to the pin its checksum is known."""
+        slot = op % content.slots
+        one = rings.prepares[slot]
+        if op <= content.pin():
+            return isinstance(one, Unit) and one.op == op
+        return self.decision(rings.headers[slot], one, op, content.boot).startswith("Take")
+
+    def reach(self, rings: Rings, content: superblock.Content, sessions: tuple) -> list:
+        """How far taken prepares go on behind a checkpoint with these sessions."""
+        reached, sessions = [], list(sessions)
+        for op in range(content.op + 1, content.op + content.slots + 1):
+            one = rings.prepares[op % content.slots]
+            if not self.takes(rings, op, content) or not self.fits(one, reached, sessions, content):
+                break
+            reached.append(one)
+            sessions = after(sessions, one)
+        return reached
+
+    def tail(self, reached: list, sessions: tuple) -> tuple:
+        """The tail, which ends where the last whole group does, and the sessions after it."""
+        whole = max((at for at, one in enumerate(reached, 1) if one.ends_group()), default=0)
+        sessions = list(sessions)
+        for one in reached[:whole]:
+            sessions = after(sessions, one)
+        return reached[:whole], sessions
+
+    def planned(self, header: Union[Unit, str], one: Union[Unit, str], op: int, head: int, content: superblock.Content) -> str:
+        """What is decided of a slot once the head is known: a named prepare is taken, and above the head one is cut off."""
+        if op <= content.pin():
+            return "Take" if isinstance(header, Unit) and header.checksum == one.checksum else "Take mend"
+        what = self.decision(header, one, op, content.boot)
+        if op > head and what == "Take mend":
+            return "Empty" if seen(header, op, content.boot) == "Old" else "Empty mend"
+        return what
+
+    def mended(self, rings: Rings, home: Home, content: superblock.Content, members: list, head: int) -> tuple:
         """The headers' table after mending, and what is mended."""
         to_mend = [(Place(SUPERBLOCK, copy), None) for copy in range(form.COPIES) if copy not in members]
         table = []
         for slot in range(content.slots):
             header, one = rings.headers[slot], rings.prepares[slot]
-            what = self.decision(header, one, op_of(slot, content), content.boot)
+            what = self.planned(header, one, op_of(slot, content), head, content)
             if what.endswith("mend"):
                 to_mend.append((Place(WAL_HEADERS, slot), units.class_of(header)))
             if what.startswith("Take"):
@@ -181,9 +234,9 @@ def after(sessions: list, one: Unit) -> list:
     return sessions + [new]
 
 
-def found(data: Optional[bytes], rules: Rules = Rules()) -> Found:
-    """What an open finds in a file."""
-    opened = superblock.opened(data or b"")
+def found(data: Optional[bytes], rules: Rules = Rules(), version: int = 1) -> Found:
+    """What an open finds in a file, where this version is asked for."""
+    opened = superblock.opened(data or b"", version)
     if opened.refusal:
         return Found(opened.refusal, opened.early, opened.content)
     home = opened.content.home()
@@ -205,22 +258,35 @@ def found_in(rings: Rings, opened: superblock.Opened, classes: list, rules: Rule
     home = content.home()
     if rules.behind(rings, content):
         return Found(f"Damaged Superblock {opened.members[0]} Stale", False, content)
-    tail, sessions = rules.tail(rings, content, checkpoint.sessions)
+    unknown = rules.unknown(rings, content)
+    if unknown is not None:
+        return Found(blamed(rings, content, unknown), False, content)
+    reached = rules.reach(rings, content, checkpoint.sessions)
+    behind = content.op + len(reached) + 1
+    if behind <= content.pin():
+        return Found(blamed(rings, content, behind), False, content)
+    tail, sessions = rules.tail(reached, checkpoint.sessions)
     head = content.op + len(tail)
     if rules.lost(rings, content, head):
-        slot = (head + 1) % content.slots
-        # A prepare with the wanted op that isn't taken or doesn't fit is stale too.
-        return Found(f"Damaged WalPrepares {slot} {units.class_of(rings.prepares[slot])}", False, content)
+        return Found(blamed(rings, content, behind), False, content)
     replies = rules.replies(rings, content, tail)
     missing = rules.missing(rings, content, sessions, replies)
     if missing:
         return Found(f"Damaged ClientReplies {missing[0]} {missing[1]}", False, content)
+    if content.boot == form.LIMIT:
+        return Found("BootSpent", False, content)
     stored = tuple((place, rings.replies[place]) for place, session in enumerate(sessions) if session.op <= replies)
     view = View(home, checkpoint, tuple(tail), replies, tuple(sessions), stored)
-    table, to_mend = rules.mended(rings, home, content, opened.members)
+    table, to_mend = rules.mended(rings, home, content, opened.members, head)
     to_mend = [(place, classes[place.index] if place.zone == SUPERBLOCK else name) for place, name in to_mend]
     waiting = {op: waiting_checksum(rings, content, op) for op in range(replies + 1, head + 1)}
     return Found(None, False, content, view, table, tuple(to_mend), waiting)
+
+
+def blamed(rings: Rings, content: superblock.Content, op: int) -> str:
+    """The refusal that blames an op's prepare slot: a prepare with the wanted op that isn't taken or doesn't fit is stale too."""
+    slot = op % content.slots
+    return f"Damaged WalPrepares {slot} {units.class_of(rings.prepares[slot])}"
 
 
 def waiting_checksum(rings: Rings, content: superblock.Content, op: int) -> bytes:

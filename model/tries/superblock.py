@@ -54,6 +54,17 @@ class Content(NamedTuple):
         """The checksums of the replies, by place."""
         return [self.behind[at : at + 16] for at in range(REPLIES, ZEROS, 16)]
 
+    def pin(self) -> int:
+        """The greatest op whose prepare the content names."""
+        return self.head if self.version == 2 else self.op
+
+    def pin_checksum(self) -> bytes:
+        return self.head_checksum() if self.version == 2 else self.op_checksum
+
+    def named(self) -> int:
+        """The greatest op whose reply the content names."""
+        return self.replies if self.version == 2 else 0
+
     def first_nonzero(self) -> Optional[int]:
         """The offset in the copy of the first byte that isn't zero where the version has no fields."""
         spare = [*range(HEAD_CHECKSUM, REPLIES), *range(ZEROS, len(self.behind))] if self.version == 2 else range(len(self.behind))
@@ -171,8 +182,8 @@ class Opened(NamedTuple):
         return [place for place in range(COPIES) if place not in self.members]
 
 
-def opened(data: bytes) -> Opened:
-    """What an open finds in the copies of a file."""
+def opened(data: bytes, version: int = 1) -> Opened:
+    """What an open finds in the copies of a file, where this version is asked for."""
     copies = all_seen(data)
     content = choose(copies)
     if all(copy == BLANK for copy in copies):
@@ -181,8 +192,8 @@ def opened(data: bytes) -> Opened:
         classes = (STALE if isinstance(copy, Content) else copy for copy in copies)
         return Opened(None, "NoQuorum " + " ".join(classes), True, [])
     members = [place for place, copy in enumerate(copies) if copy == content]
-    if fault(content):
-        return Opened(content, fault(content), True, members)
+    if fault(content, version):
+        return Opened(content, fault(content, version), True, members)
     # A program that knows no checkpoints refuses what names a trailer, which it finds behind the barrier.
     later = content.trailer_address and not knows("blocks")
     return Opened(content, f"BadField TrailerAddress {content.trailer_address}" if later else None, False, members)

@@ -124,6 +124,14 @@ class Unit(NamedTuple):
     def boot(self) -> int:
         return self.fields()["boot"]
 
+    def group(self) -> tuple:
+        """The first and the last op of a prepare's group; one that names no group is alone."""
+        f = self.fields()
+        return f["group"] or f["op"], f["group_last"] or f["op"]
+
+    def ends_group(self) -> bool:
+        return self.group()[1] <= self.op
+
     @property
     def client(self) -> int:
         return self.field("client")

@@ -5,7 +5,7 @@ pub use Rattle.df_layout.specs.declared.fields.Field.TheVariants.{TrailerChain}
 pub use Rattle.df_format.specs.SuperRules.{IsSuper}
 pub use Rattle.df_theory.specs.Shape.{Shape}
 pub use Rattle.df_theory.specs.Trailer.{IsCount, piece_size}
-pub use Rattle.df_units.specs.Format.{shape_of}
+pub use Rattle.df_units.specs.Format.{shape_as, shape_of}
 pub use Rattle.df_units.specs.Meaning.{content_of}
 pub use Rattle.df_units.specs.Superblocks.{AreFieldsOf}
 pub use Rattle.df_trailer.specs.Reading.{HasBit, HasRead, bytes_read, kept_at, referenced_below}

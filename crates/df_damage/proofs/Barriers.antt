@@ -1,11 +1,10 @@
 -- A disk that may be hurt, seen from behind the barrier of an open: its log rests on the view, its history began with the empty image, and what is shown was settled.
-use Rattle.std.proofs.Common.{◌≡◌, inl, inr, ℕ, ◌<◌, List, [], ◌∷◌, Some, sym, ◌∙◌, ap, subst, arith}
+use Rattle.std.proofs.Common.{◌≡◌, inl, inr, ℕ, ◌<◌, List, ◌∷◌, Some, sym, ◌∙◌, ap, subst, arith}
 use Rattle.df_base.specs.Image.{Image}
 use Rattle.df_base.specs.Log as logs
 use Rattle.df_base.specs.Log.{Sync}
 use Rattle.df_disk.specs.Told.{Told}
 use Rattle.df_layout.specs.declared.places.Zone.TheVariants.{Superblock}
-use Rattle.df_theory.specs.Chance.{InPool, InPools}
 use Rattle.df_theory.specs.Copies.{Agree}
 use Rattle.df_theory.specs.DamageLaws.{ShowsPool}
 use Rattle.df_theory.specs.Device.{units_log}
@@ -14,8 +13,8 @@ use Rattle.df_theory.specs.Holds.{Holds}
 use Rattle.df_theory.specs.HistoryLaws.{AreDistinct, ShowsSettled}
 use Rattle.df_theory.specs.Past.{FromEmpty, Was}
 use Rattle.df_theory.specs.Rests.{RestsOn}
-use Rattle.df_theory.specs.UnitLog.{UnitEvent, UnitLog, now, settled}
-use Rattle.df_theory.specs.Units.{AnyUnit, Content, CopyPlace, CopyUnit, Place, Units}
+use Rattle.df_theory.specs.UnitLog.{UnitLog, now, settled}
+use Rattle.df_theory.specs.Units.{Content, CopyPlace, CopyUnit, Place, Units}
 use Rattle.df_theory.specs.View.{View}
 use Rattle.df_theory.proofs.Laws.{disk_barrier_law, found_was_of_log_law, now_units, settled_law, pool_pools}
 use Rattle.df_units.specs.Bytes.{unit_at}
@@ -23,13 +22,13 @@ use Rattle.df_units.specs.Format.{format_of}
 use Rattle.df_units.specs.Meaning.{place_of}
 use Rattle.df_units.proofs.Laws.{blank_empty, is_format}
 use Rattle.df_recovery.specs.Below.{DataFile, shape}
-use Rattle.df_damage.specs.Disks.{IsAtRest, MayBeHurt}
+use Rattle.df_damage.specs.Disks.{IsAtRest, MayBeHurtAs}
 use Rattle.df_damage.specs.Hurt.{HasTwoCopies, IsUnhurtZone}
 use Rattle.df_damage.specs.Past.{WasHad}
 use Rattle.df_damage.proofs.Pasts.{AreAmong, among_images, from_blank, settled_blank, was_held}
 use Rattle.df_damage.proofs.Sectors.{in_zone, same_copies}
 
-module _ (file : DataFile) (view : View) (t : Told) (may : MayBeHurt file view t) where
+module _ {version : ℕ} (file : DataFile) (view : View) (t : Told) (may : MayBeHurtAs version file view t) where
   -- the log of units behind the barrier, and what is shown
   abbrev pub log : UnitLog
   log = units_log (format_of file.layout file.cluster) (logs.add Sync t.log)

@@ -1,7 +1,5 @@
 -- Damage makes no superblock of another file: a content that is chosen among the copies can be used, and is of this file.
-use Rattle.std.proofs.Common.{inl, ◌≡◌, ℕ, ◌<◌, Some, None, refl, sym, ◌∙◌, ap, subst}
-use Rattle.std.proofs.Math.Bridge.{le_prop}
-use Rattle.std.proofs.Math.Nat.{ℕ_set}
+use Rattle.std.proofs.Common.{◌≡◌, ℕ, ◌^◌, Some, None, sym, ◌∙◌, ap, subst, arith}
 use Rattle.df_disk.specs.Told.{Told}
 use Rattle.df_layout.specs.declared.layout.Layout.{Layout}
 use Rattle.df_layout.proofs.Laws.{same_layout}
@@ -9,26 +7,29 @@ use Rattle.df_format.specs.Copies.{Content, content_at}
 use Rattle.df_format.specs.SuperRules.{IsSuper}
 use Rattle.df_format.specs.declared.superblock.SuperFault.{SuperFault}
 use Rattle.df_format.specs.declared.superblock.SuperFields.{SuperFields}
-use Rattle.df_recovery.proofs.Laws.{asked_none}
+use Rattle.df_recovery.proofs.Laws.{as_none}
 use Rattle.df_quorum.specs.Quorum
 use Rattle.df_theory.specs.Found.{IsFound}
-use Rattle.df_theory.specs.Opens.{BadField, Opens, Refusal, Refused}
+use Rattle.df_theory.specs.Opens.{BadField, BootSpent, Opens, Refusal, Refused}
 use Rattle.df_theory.specs.Trailer.{IsReference}
 use Rattle.df_theory.specs.UnitLog.{settled}
-use Rattle.df_theory.specs.View.{PassesTests, View}
+use Rattle.df_theory.specs.View.{PassesTests, View, boot_of}
 use Rattle.df_theory.proofs.Laws.{fields_hold_law, no_bad_field_law}
 use Rattle.df_recovery.specs.Below.{parse_of, DataFile, State, shape}
 use Rattle.df_units.specs.Bytes.{unit_at}
 use Rattle.df_units.specs.Meaning.{content_of, layout_of}
 use Rattle.df_units.specs.Superblocks.{AreFieldsOf}
 use Rattle.df_units.proofs.Laws.{choice_chosen, passing_is_usable, shown_checks}
-use Rattle.df_recovery.specs.Opening.{fault_asked, HasFault, HasSuper, IsLayoutOf}
-use Rattle.df_recovery.specs.Surveys.{HasFile, IsOpened}
+use Rattle.df_recovery.specs.Opening.{fault_as, HasFaultAs, HasSuperAs, IsLayoutOf}
+use Rattle.df_recovery.specs.Surveys.{HasFile, IsAsked, IsOpenedAs}
 use Rattle.df_recovery.proofs.Laws.{same_file}
-use Rattle.df_damage.specs.Disks.{MayBeHurt}
-use Rattle.df_damage.proofs.Barriers.{distinct, empty, log, rests, shown, shows_settled}
+use Rattle.df_damage.specs.Disks.{MayBeHurtAs}
+use Rattle.df_damage.proofs.Barriers.{distinct, empty, log, rests, shown, shows_settled, was}
+use Rattle.df_damage.proofs.Later.{was_later}
+use Rattle.df_damage.proofs.Spent.{spent_found}
+use Rattle.df_damage.proofs.Versions.{known_file}
 
-module _ (file : DataFile) (view : View) (t : Told) (may : MayBeHurt file view t) where
+module _ {version : ℕ} (file : DataFile) (view : View) (t : Told) (may : MayBeHurtAs version file view t) where
   -- ---- what is chosen
 
   pub tests : (c : Content) → Quorum.IsChosen (content_at t.shown) c → PassesTests (shape file) (content_of c) × IsReference (layout_of file.layout) (content_of c)
@@ -40,17 +41,17 @@ module _ (file : DataFile) (view : View) (t : Told) (may : MayBeHurt file view t
   pub rules : (c : Content) → Quorum.IsChosen (content_at t.shown) c → AreFieldsOf file.layout file.cluster c.fields × IsSuper c.fields
   rules c chosen =
       let both = tests c chosen in
-      passing_is_usable 1 file.layout file.cluster file.named (parse_of (layout_of file.layout)) c (inl refl) (shown_checks t.shown chosen.agreed.first c may.whole chosen.agreed.at_first) both.0 both.1
+      passing_is_usable file.version file.layout file.cluster file.named (parse_of (layout_of file.layout)) c (known_file version file may.known may.version_is) (shown_checks t.shown chosen.agreed.first c may.whole chosen.agreed.at_first) both.0 both.1
 
   -- no test of it fails
-  pub no_fault : (fault : SuperFault) → HasFault t.shown fault → ⊥
+  pub no_fault : (fault : SuperFault) → HasFaultAs version t.shown fault → ⊥
   no_fault fault has =
-      let none : fault_asked has.content.fields ≡ None = asked_none has.content.fields (tests has.content has.chosen).0.version (rules has.content has.chosen).1 in
-      let some : fault_asked has.content.fields ≡ Some fault = has.broken in
+      let none : fault_as version has.content.fields ≡ None = as_none version has.content.fields ((tests has.content has.chosen).0.version ∙ may.version_is) (rules has.content has.chosen).1 in
+      let some : fault_as version has.content.fields ≡ Some fault = has.broken in
       cc
 
   -- its layout is the file's
-  pub own_layout : (layout : Layout) (f : SuperFields) → HasSuper t.shown f → IsLayoutOf layout f → layout ≡ file.layout
+  pub own_layout : (layout : Layout) (f : SuperFields) → HasSuperAs version t.shown f → IsLayoutOf layout f → layout ≡ file.layout
   own_layout layout f super is =
       let of = (rules super.content super.chosen).0 in
       same_layout layout file.layout
@@ -61,19 +62,27 @@ module _ (file : DataFile) (view : View) (t : Told) (may : MayBeHurt file view t
       (is.blocks ∙ ap (λ (g : SuperFields). g.blocks) (sym super.fields) ∙ of.blocks)
 
   -- a file that is read of it is this one
-  pub this_file : (other : DataFile) (f : SuperFields) → HasFile t.shown other f → other.layout ≡ file.layout → other ≡ file
-  this_file other f has of = same_file other file of (sym has.cluster ∙ ap (λ (g : SuperFields). g.cluster) (sym has.super.fields) ∙ (rules has.super.content has.super.chosen).0.cluster_is)
+  pub this_file : (other : DataFile) (f : SuperFields) → HasFile t.shown other f → IsAsked version file.layout other → other ≡ file
+  this_file other f has of =
+      same_file other file of.layout_is (sym has.cluster ∙ ap (λ (g : SuperFields). g.cluster) (sym has.super.fields) ∙ (rules has.super.content has.super.chosen).0.cluster_is) (of.version_is ∙ sym may.version_is)
 
-  pub opened_file : (s : State) → IsOpened file.layout t.shown s → s.file ≡ file
+  pub opened_file : (s : State) → IsOpenedAs version file.layout t.shown s → s.file ≡ file
   opened_file s is = this_file s.file s.fields is.has is.of
 
-  pub opened_found : (s : State) → (is : IsOpened file.layout t.shown s) → IsFound (shape file) (unit_at file.layout file.cluster t.shown) is.view
+  pub opened_found : (s : State) → (is : IsOpenedAs version file.layout t.shown s) → IsFound (shape file) (unit_at file.layout file.cluster t.shown) is.view
   opened_found s is = subst (λ (x : DataFile). IsFound (shape x) (unit_at file.layout x.cluster t.shown) is.view) (opened_file s is) is.found
 
   -- what refuses is a step of an open of this file
-  pub refused_here : (other : DataFile) (f : SuperFields) (r : Refusal) → HasFile t.shown other f → other.layout ≡ file.layout → Opens (shape other) (unit_at file.layout other.cluster t.shown) (Refused r) → Opens (shape file) (unit_at file.layout file.cluster t.shown) (Refused r)
+  pub refused_here : (other : DataFile) (f : SuperFields) (r : Refusal) → HasFile t.shown other f → IsAsked version file.layout other → Opens (shape other) (unit_at file.layout other.cluster t.shown) (Refused r) → Opens (shape file) (unit_at file.layout file.cluster t.shown) (Refused r)
   refused_here other f r has of opens = subst (λ (x : DataFile). Opens (shape x) (unit_at file.layout x.cluster t.shown) (Refused r)) (this_file other f has of) opens
 
   -- and no test of a trailer fails
   pub no_bad_field : Opens (shape file) (unit_at file.layout file.cluster t.shown) (Refused BadField) → ⊥
   no_bad_field opens = no_bad_field_law (shape file) (settled (log file view t may)) view (rests file view t may).grows (empty file view t may) (distinct file view t may) (shown file view t may) (shows_settled file view t may) opens
+
+  -- a boot that is spent is the file's: no earlier one was as great
+  pub spent_here : Opens (shape file) (unit_at file.layout file.cluster t.shown) (Refused BootSpent) → boot_of view ≡ 2 ^ 62
+  spent_here opens =
+      let found = spent_found (shape file) (unit_at file.layout file.cluster t.shown) opens in
+      let later = was_later (shape file) (settled (log file view t may)) view (rests file view t may).grows found.0 (was file view t may found.0 found.1) in
+      omega (arith, found.2, later.boots, (rests file view t may).holds.bears.sound.checkpoint.tests.boot)

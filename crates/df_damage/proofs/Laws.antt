@@ -1,15 +1,17 @@
 -- What the crates above cite: the laws of damage, as lemmas.
--- ---- which disks may be hurt, and what an open answers of them
+-- ---- which disks may be hurt, and what an open answers of them, whatever version it asks for
 pub use Rattle.df_damage.proofs.Left.{stopped_may_be_hurt, tidy_may_be_hurt}
-pub use Rattle.df_damage.proofs.NotRefused.{found_is_not_refused}
-pub use Rattle.df_damage.proofs.Opened.{checkpoint_stays, found_was_had, headers_may_be_hurt, headers_tell, two_copies_are_enough}
+pub use Rattle.df_damage.proofs.NotRefused.{found_is_not_refused_as}
+pub use Rattle.df_damage.proofs.Opened.{checkpoint_stays, found_was_had, headers_may_be_hurt_as, headers_tell, two_copies_are_enough_as}
 pub use Rattle.df_damage.proofs.Tails.{whole_tail_is_found}
-pub use Rattle.df_damage.proofs.Refused.{probe_is_of_hurt, refusals_are_of_damage, refusals_blame_hurt}
-pub use Rattle.df_damage.proofs.Answered.{answer_is_of_hurt}
+pub use Rattle.df_damage.proofs.Refused.{probe_is_of_hurt_as, refusals_are_of_damage, refusals_blame_hurt, spent_is_the_files, superblock_is_hurt}
+pub use Rattle.df_damage.proofs.Answered.{answer_is_of_hurt_as}
+-- ---- where version 1 is asked for
+pub use Rattle.df_damage.proofs.Firsts.{answer_is_of_hurt, found_is_not_refused, headers_may_be_hurt, probe_is_of_hurt, two_copies_are_enough}
 -- ---- what was written
 pub use Rattle.df_damage.proofs.Written.{had_is_written, opened_is_written}
 -- ---- logs begun anew
 pub use Rattle.df_damage.proofs.Begun.{added_is_told, honest_stays, same_goes_on, stops_alike}
 pub use Rattle.df_damage.proofs.Started.{hurt_may_begin}
 -- ---- what an open finds
-pub use Rattle.df_recovery.proofs.Laws.{asked_noted, course_on, file_is_read, filter_more, kept_is_answer, one_super, plain_super, refused_is_answer, same_file, scanned_of_file, slot_mends_more, super_is_written, version_one, waiting_count, written_is}
+pub use Rattle.df_recovery.proofs.Laws.{asked_noted, course_on, filter_more, head_found, numbered_by, one_super, plain_super, same_file, slot_mends_more, super_is_written, written_is}

@@ -13,12 +13,14 @@ use Rattle.df_recovery.specs.Below.{shape}
 use Rattle.df_damage.specs.Disks.{StoppedMayBeHurt, TidyMayBeHurt}
 
 pub tidy_may_be_hurt : TidyMayBeHurt
-tidy_may_be_hurt file view t is_log empty tidy image chance =
+tidy_may_be_hurt version file view t known of is_log empty tidy image chance =
     let fmt = format_of file.layout file.cluster in
     let sh = shape file in
     let units = now_units fmt t.log.start t.log.events in
     let whole : IsWhole sh (fmt.unit_at (logs.now t.log)) view = subst (λ (u : Units). IsWhole sh u view) units tidy.whole in (
       record {
+        known = known;
+        version_is = of;
         safe = safe_disk_law fmt sh t.log (is_format file.layout file.cluster) is_log (rests_safe sh (units_log fmt t.log) view tidy.rests);
         empty = empty;
         found = (found_law sh (fmt.unit_at (logs.now t.log)) view).0 (subst (λ (u : Units). Holds sh u view) units tidy.rests.holds);
@@ -30,11 +32,13 @@ tidy_may_be_hurt file view t is_log empty tidy image chance =
     )
 
 pub stopped_may_be_hurt : StoppedMayBeHurt
-stopped_may_be_hurt file view log changes shown safe empty loose chance held image later =
+stopped_may_be_hurt version file view log changes shown known of safe empty loose chance held image later =
     let fmt = format_of file.layout file.cluster in
     let sh = shape file in
     let is_log : IsLog (logs.add (Stop changes) log) = record { start = safe.is_log.start; events = (loose, safe.is_log.events) } in
     record {
+      known = known;
+      version_is = of;
       safe = safe_disk_law fmt sh (logs.add (Stop changes) log) (is_format file.layout file.cluster) is_log (rests_safe sh (units_log fmt (logs.add (Stop changes) log)) view (disk_stop_law fmt sh view log changes safe loose chance held));
       empty = empty;
       found = (found_law sh (fmt.unit_at (changed changes (logs.now log))) view).0 held;

@@ -1,6 +1,9 @@
 pub mod Pasts
 pub mod Sectors
 pub mod Barriers
+pub mod Versions
+pub mod Later
+pub mod Spent
 pub mod Files
 pub mod NotRefused
 pub mod Opened
@@ -11,4 +14,5 @@ pub mod Begun
 pub mod Started
 pub mod Answered
 pub mod Left
+pub mod Firsts
 pub mod Laws

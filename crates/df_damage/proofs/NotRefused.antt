@@ -1,8 +1,6 @@
 -- Where a view is found the superblock can be used, and each other answer of an open would be a second one.
 use Rattle.std.specs.Prelude.{Err}
-use Rattle.std.proofs.Common.{◌≡◌, inl, inr, ℕ, ◌<◌, refl, sym, ◌∙◌, ap, subst, arith}
-use Rattle.std.proofs.Math.Bridge.{le_prop}
-use Rattle.std.proofs.Math.Nat.{ℕ_set}
+use Rattle.std.proofs.Common.{◌≡◌, inl, inr, ℕ, refl, sym, ◌∙◌, ap, subst}
 use Rattle.df_base.specs.Image.{Image, IsImage}
 use Rattle.df_layout.specs.declared.layout.Layout.{Layout}
 use Rattle.df_layout.proofs.Laws.{same_layout}
@@ -21,15 +19,17 @@ use Rattle.df_units.specs.Superblocks.{AreFieldsOf}
 use Rattle.df_units.proofs.Laws.{chosen_choice, passing_is_usable, shown_checks}
 use Rattle.df_recovery.specs.Below.{parse_of, shape, DataFile}
 use Rattle.df_model.specs.declared.errors.OpenError.{OpenError}
-use Rattle.df_model.specs.declared.errors.OpenError.TheVariants.{NotFormatted, NoQuorum, Version, BadField, LayoutDiffers, Damaged, DiskFault}
-use Rattle.df_recovery.specs.Opening.{HasSuper, IsLayoutOf, Refuses}
-use Rattle.df_recovery.specs.Surveys.{HasFile, Surveys}
-use Rattle.df_recovery.proofs.Laws.{asked_none, one_super, super_or_refusal, same_file}
-use Rattle.df_damage.specs.Unrefused.{FoundIsNotRefused, IsNotRefused}
+use Rattle.df_model.specs.declared.errors.OpenError.TheVariants.{NotFormatted, NoQuorum, Version, BadField, LayoutDiffers, Damaged, DiskFault, BootSpent}
+use Rattle.df_recovery.specs.Opening.{HasSuperAs, IsLayoutOf, RefusesAs}
+use Rattle.df_recovery.specs.Surveys.{HasFile, IsAsked, SurveysAs}
+use Rattle.df_recovery.proofs.Laws.{as_none, one_super_as, super_or_refusal_as, same_file}
+use Rattle.df_damage.specs.Unrefused.{FoundIsNotRefused, IsNotRefusedAs}
+use Rattle.df_damage.specs.Versions.{IsKnown, IsUnspent}
+use Rattle.df_damage.proofs.Versions.{below_spent, known_file}
 
--- ---- the answers
+module _ (version : ℕ) (file : DataFile) (image : Image) (view : View) (known : IsKnown version) (is_version : file.version ≡ version) (whole : IsImage image) (found : IsFound (shape file) (unit_at file.layout file.cluster image) view) where
+  -- ---- the superblock
 
-module _ (file : DataFile) (image : Image) (view : View) (whole : IsImage image) (found : IsFound (shape file) (unit_at file.layout file.cluster image) view) where
   -- the choice among the copies is the view's content
   choice : (c : Content) × (content_of c ≡ view.checkpoint.content) × Quorum.IsChosen (content_at image) c
   choice = chosen_choice file.layout file.cluster image view.checkpoint.content whole found.chosen
@@ -41,17 +41,17 @@ module _ (file : DataFile) (image : Image) (view : View) (whole : IsImage image)
   rules =
       let tests : PassesTests (shape file) (content_of choice.0) = subst (PassesTests (shape file)) (sym choice.1) found.checkpoint.tests in
       let reference : IsReference (layout_of file.layout) (content_of choice.0) = subst (IsReference (layout_of file.layout)) (sym choice.1) found.checkpoint.trailer.reference in
-      passing_is_usable 1 file.layout file.cluster file.named (parse_of (layout_of file.layout)) choice.0 (inl refl) (shown_checks image choice.2.agreed.first choice.0 whole choice.2.agreed.at_first) tests reference
+      passing_is_usable file.version file.layout file.cluster file.named (parse_of (layout_of file.layout)) choice.0 (known_file version file known is_version) (shown_checks image choice.2.agreed.first choice.0 whole choice.2.agreed.at_first) tests reference
 
-  super : HasSuper image fields
-  super = record { content = choice.0; chosen = choice.2; fields = refl; usable = asked_none fields (subst (PassesTests (shape file)) (sym choice.1) found.checkpoint.tests).version rules.1 }
+  super : HasSuperAs version image fields
+  super = record { content = choice.0; chosen = choice.2; fields = refl; usable = as_none version fields ((subst (PassesTests (shape file)) (sym choice.1) found.checkpoint.tests).version ∙ is_version) rules.1 }
 
-  usable : (error : OpenError) → Refuses image error → ⊥
-  usable error refuses = super_or_refusal image fields error super refuses
+  pub found_is_usable : (error : OpenError) → RefusesAs version image error → ⊥
+  found_is_usable error refuses = super_or_refusal_as version image fields error super refuses
 
-  own_layout : (layout : Layout) (f : SuperFields) → HasSuper image f → IsLayoutOf layout f → layout ≡ file.layout
+  own_layout : (layout : Layout) (f : SuperFields) → HasSuperAs version image f → IsLayoutOf layout f → layout ≡ file.layout
   own_layout layout f has is =
-      let same : f ≡ fields = one_super image f fields has super in
+      let same : f ≡ fields = one_super_as version version image f fields has super in
       same_layout layout file.layout
       (is.slots ∙ ap (λ (g : SuperFields). g.slots) same ∙ rules.0.slots)
       (is.message_size ∙ ap (λ (g : SuperFields). g.message_size) same ∙ rules.0.message_size)
@@ -59,28 +59,31 @@ module _ (file : DataFile) (image : Image) (view : View) (whole : IsImage image)
       (is.block_size ∙ ap (λ (g : SuperFields). g.block_size) same ∙ rules.0.block_size)
       (is.blocks ∙ ap (λ (g : SuperFields). g.blocks) same ∙ rules.0.blocks)
 
-  -- another refusal would be of this very file, which has one answer
-  unrefused : (other : DataFile) (f : SuperFields) (r : Refusal) → HasFile image other f → other.layout ≡ file.layout → Opens (shape other) (unit_at file.layout other.cluster image) (Refused r) → ⊥
-  unrefused other f r has of opens =
-      let cluster : other.cluster ≡ file.cluster = sym has.cluster ∙ ap (λ (g : SuperFields). g.cluster) (one_super image f fields has.super super) ∙ rules.0.cluster_is in
-      let here : Opens (shape file) (unit_at file.layout file.cluster image) (Refused r) =
-      subst (λ (x : DataFile). Opens (shape x) (unit_at file.layout x.cluster image) (Refused r)) (same_file other file of cluster) opens in
-      let none = (found.checkpoint.tests.of.one found.checkpoint.tests.version).0 in
-      let both : Refused r ≡ Found view = one_answer_law (shape file) (unit_at file.layout file.cluster image) (Refused r) (Found view) here (Opened view found (omega (arith, none))) in
-      cc
+  -- ---- the answers
 
-  answered : (error : OpenError) → Surveys file.layout image (Err error) → error ≡ DiskFault
-  answered NotFormatted is = absurd (usable NotFormatted is)
-  answered (NoQuorum classes) is = absurd (usable (NoQuorum classes) is)
-  answered (Version number) is = absurd (usable (Version number) is)
-  answered (BadField field value) (inl is) = absurd (usable (BadField field value) is)
-  answered (BadField field value) (inr is) = absurd (unrefused is.file is.fields Refusal.BadField is.has is.of is.opens)
-  answered (LayoutDiffers reserved there) is = absurd (is.differ (own_layout there is.fields is.super is.found_is))
-  answered (Damaged place class) is = absurd (unrefused is.file is.fields (Refusal.Damaged is.at) is.has is.of is.opens)
-  answered DiskFault is = refl
+  module _ (unspent : IsUnspent version view) where
+    -- another refusal would be of this very file, which has one answer
+    unrefused : (other : DataFile) (f : SuperFields) (r : Refusal) → HasFile image other f → IsAsked version file.layout other → Opens (shape other) (unit_at file.layout other.cluster image) (Refused r) → ⊥
+    unrefused other f r has of opens =
+        let cluster : other.cluster ≡ file.cluster = sym has.cluster ∙ ap (λ (g : SuperFields). g.cluster) (one_super_as other.version version image f fields has.super super) ∙ rules.0.cluster_is in
+        let here : Opens (shape file) (unit_at file.layout file.cluster image) (Refused r) =
+        subst (λ (x : DataFile). Opens (shape x) (unit_at file.layout x.cluster image) (Refused r)) (same_file other file of.layout_is cluster (of.version_is ∙ sym is_version)) opens in
+        let both : Refused r ≡ Found view = one_answer_law (shape file) (unit_at file.layout file.cluster image) (Refused r) (Found view) here (Opened view found (below_spent version file view known is_version unspent found.checkpoint.tests)) in
+        cc
 
-  not_refused : IsNotRefused file image
-  not_refused = record { usable = usable; layout = λ layout shown. own_layout layout shown.fields shown.super shown.numbers; answered = answered }
+    answered : (error : OpenError) → SurveysAs version file.layout image (Err error) → error ≡ DiskFault
+    answered NotFormatted is = absurd (found_is_usable NotFormatted is)
+    answered (NoQuorum classes) is = absurd (found_is_usable (NoQuorum classes) is)
+    answered (Version number) is = absurd (found_is_usable (Version number) is)
+    answered (BadField field value) (inl is) = absurd (found_is_usable (BadField field value) is)
+    answered (BadField field value) (inr is) = absurd (unrefused is.file is.fields Refusal.BadField is.has is.of is.opens)
+    answered (LayoutDiffers reserved there) is = absurd (is.differ (own_layout there is.fields is.super is.found_is))
+    answered (Damaged place class) is = absurd (unrefused is.file is.fields (Refusal.Damaged is.at) is.has is.of is.opens)
+    answered DiskFault is = refl
+    answered BootSpent is = absurd (unrefused is.file is.fields Refusal.BootSpent is.has is.of is.opens)
 
-pub found_is_not_refused : FoundIsNotRefused
-found_is_not_refused file image view whole found = not_refused file image view whole found
+    not_refused : IsNotRefusedAs version file image
+    not_refused = record { usable = found_is_usable; layout = λ layout shown. own_layout layout shown.fields shown.super shown.numbers; answered = answered }
+
+pub found_is_not_refused_as : FoundIsNotRefused
+found_is_not_refused_as version file image view known is_version unspent whole found = not_refused version file image view known is_version whole found unspent

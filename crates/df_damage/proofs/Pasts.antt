@@ -1,7 +1,7 @@
 -- A view that a history had is held by one of its settled images, and a history whose start shows nothing began with the empty image.
-use Rattle.std.proofs.Common.{◌≡◌, ◌⊎◌, inl, inr, List, [], ◌∷◌, Some, None, refl, sym, subst}
+use Rattle.std.proofs.Common.{◌≡◌, ◌⊎◌, inl, inr, List, [], ◌∷◌, None, refl, sym, subst}
 use Rattle.df_base.specs.Image.{Image}
-use Rattle.df_theory.specs.Units.{CopyPlace, CopyUnit, Place, Units}
+use Rattle.df_theory.specs.Units.{Place, Units}
 use Rattle.df_theory.specs.Shape.{Shape}
 use Rattle.df_theory.specs.View.{View}
 use Rattle.df_theory.specs.Holds.{Holds}

@@ -1,15 +1,18 @@
 -- Why an open refuses a disk that may be hurt.
-use Rattle.std.proofs.Common.{◌≡◌, ◌⊎◌, inl, inr, ℕ, ◌%◌, ◌<◌, refl, sym, ◌∙◌, ap, subst, arith}
+use Rattle.std.proofs.Common.{◌≡◌, ◌⊎◌, inl, inr, ℕ, ◌+◌, ◌%◌, ◌<◌, List, [], ◌∷◌, refl, sym, ◌∙◌, ap, subst, arith}
+use Rattle.std.proofs.lemmas.Bool.{cases_eq}
 use Rattle.std.specs.Prelude.{Err}
 use Rattle.df_base.specs.Image.{IsImage}
 use Rattle.df_base.specs.Log as logs
 use Rattle.df_base.proofs.Laws.{now_is_image}
 use Rattle.df_disk.specs.Told.{Told}
+use Rattle.df_layout.specs.declared.damage.Class.{Class}
 use Rattle.df_layout.specs.declared.places.Place.{Place}
+use Rattle.df_layout.specs.declared.places.Zone.{Zone}
 use Rattle.df_layout.specs.Zones.{file_sectors}
 use Rattle.df_format.specs.declared.superblock.SuperFault.TheVariants.{BadField as BrokenField, Version as OtherVersion}
 use Rattle.df_model.specs.declared.errors.OpenError.{OpenError}
-use Rattle.df_model.specs.declared.errors.OpenError.TheVariants.{BadField, Damaged, DiskFault, LayoutDiffers, NoQuorum, NotFormatted, Version}
+use Rattle.df_model.specs.declared.errors.OpenError.TheVariants.{BadField, BootSpent, Damaged, DiskFault, LayoutDiffers, NoQuorum, NotFormatted, Version}
 use Rattle.df_theory.specs.Copies.{Agree}
 use Rattle.df_theory.specs.DamageLaws as laws
 use Rattle.df_theory.specs.Found.{IsFound}
@@ -19,49 +22,80 @@ use Rattle.df_theory.specs.UnitLog.{now}
 use Rattle.df_theory.specs.Units
 use Rattle.df_theory.specs.Units.{BlockPlace, CopyPlace, HeaderPlace, PreparePlace, ReplyPlace}
 use Rattle.df_theory.specs.View.{View}
-use Rattle.df_theory.proofs.Laws.{blame_law, never_behind_law}
+use Rattle.df_theory.proofs.Laws.{blame_law, in_one, never_behind_law}
 use Rattle.df_units.specs.Bytes.{unit_at}
 use Rattle.df_units.specs.Meaning.{place_of}
 use Rattle.df_units.proofs.Laws.{chosen_choice, is_format, unbooted_alone}
-use Rattle.df_recovery.specs.Opening.{Refuses}
-use Rattle.df_recovery.specs.Surveys.{Surveys}
-use Rattle.df_recovery.proofs.Laws.{asked_none, super_or_refusal}
+use Rattle.df_recovery.specs.Opening.{RefusesAs}
+use Rattle.df_recovery.specs.Surveys.{SurveysAs}
+use Rattle.df_recovery.proofs.Laws.{as_none, super_or_refusal_as}
 use Rattle.df_recovery.specs.Below.{DataFile, shape}
-use Rattle.df_damage.specs.Disks.{MayBeHurt}
+use Rattle.df_damage.specs.Disks.{MayBeHurtAs}
 use Rattle.df_damage.specs.Hurt.{IsHurtFile, IsHurtPlace, IsUnhurt}
-use Rattle.df_damage.specs.Refusals.{BlamesHurt, IsBlamed, MayBeOfDamage, ProbeIsOfHurt, RefusalsAreOfDamage, RefusalsBlameHurt}
+use Rattle.df_damage.specs.Refusals.{BlamesHurt, IsBlamed, MayBeOfDamage, NamesSuperblock, ProbeIsOfHurt, RefusalsAreOfDamage, RefusalsBlameHurt, SpentIsTheFiles, SuperblockIsHurt}
+use Rattle.df_damage.specs.Versions.{IsUnspent}
 use Rattle.df_damage.proofs.Barriers.{agreed_rest, left, log, pooled, rests, shown}
-use Rattle.df_damage.proofs.Files.{no_bad_field, no_fault, own_layout, refused_here, rules, tests}
-use Rattle.df_damage.proofs.NotRefused.{found_is_not_refused}
+use Rattle.df_damage.proofs.Files.{no_bad_field, no_fault, own_layout, refused_here, rules, spent_here, tests}
+use Rattle.df_damage.proofs.NotRefused.{found_is_not_refused_as, found_is_usable}
 use Rattle.df_damage.proofs.Sectors.{in_zone, place_differs, search}
+use Rattle.df_damage.proofs.Versions.{below_spent}
 
-module _ (file : DataFile) (view : View) (t : Told) (may : MayBeHurt file view t) where
-  -- ---- which refusals come
+pub spent_is_the_files : SpentIsTheFiles
+spent_is_the_files version file view t may is = spent_here file view t may (refused_here file view t may is.file is.fields opens.BootSpent is.has is.of is.opens)
 
-  of_damage : (e : OpenError) → Surveys file.layout t.shown (Err e) → (e ≡ DiskFault → ⊥) → MayBeOfDamage e
-  of_damage NotFormatted is other = tt
-  of_damage (NoQuorum classes) is other = tt
-  of_damage (Version found) is other = absurd (no_fault file view t may (OtherVersion found) is)
-  of_damage (BadField field value) (inl is) other = absurd (no_fault file view t may (BrokenField field value) is)
-  of_damage (BadField field value) (inr is) other = absurd (no_bad_field file view t may (refused_here file view t may is.file is.fields opens.BadField is.has is.of is.opens))
-  of_damage (LayoutDiffers reserved found) is other = absurd (is.differ (own_layout file view t may found is.fields is.super is.found_is))
-  of_damage (Damaged place class) is other = tt
-  of_damage DiskFault is other = absurd (other refl)
-
+module _ {version : ℕ} (file : DataFile) (view : View) (t : Told) (may : MayBeHurtAs version file view t) where
   -- ---- where no sector of the file is hurt, none comes
 
   unhurt_found : ((sector : ℕ) → sector < file_sectors file.layout → IsUnhurt t sector) → IsFound (shape file) (unit_at file.layout file.cluster t.shown) view
   unhurt_found unhurt = subst (λ (u : Units.Units). IsFound (shape file) u view)
       (λ i place. (is_format file.layout file.cluster).local (logs.now t.log) t.shown place (λ sector here. sym (unhurt sector (in_zone file.layout place sector here).2)) i) may.found
 
-  some_hurt : (e : OpenError) → Surveys file.layout t.shown (Err e) → (e ≡ DiskFault → ⊥) → IsHurtFile file.layout t
-  some_hurt e is other = elim (search t.shown (logs.now t.log) 0 (file_sectors file.layout)) [
-    | inl found ↦ record { sector = found.sector; inside = omega (arith, found.below); hurt = found.differs }
-    | inr same ↦ absurd (other ((found_is_not_refused file t.shown view may.whole (unhurt_found (λ sector inside. same sector (omega arith) (omega (arith, inside))))).answered e is))
+  -- a sector of the file is hurt, or its view is found
+  hurt_or_found : IsHurtFile file.layout t ⊎ IsFound (shape file) (unit_at file.layout file.cluster t.shown) view
+  hurt_or_found = elim (search t.shown (logs.now t.log) 0 (file_sectors file.layout)) [
+    | inl found ↦ inl (record { sector = found.sector; inside = omega (arith, found.below); hurt = found.differs })
+    | inr same ↦ inr (unhurt_found (λ sector inside. same sector (omega arith) (omega (arith, inside))))
   ]
 
-  pub are_of_damage : (e : OpenError) → Surveys file.layout t.shown (Err e) → (e ≡ DiskFault → ⊥) → MayBeOfDamage e × IsHurtFile file.layout t
-  are_of_damage e is other = (of_damage e is other, some_hurt e is other)
+  -- ---- which refusals come
+
+  -- of the superblock
+  copies_of_damage : (e : OpenError) → RefusesAs version t.shown e → MayBeOfDamage e
+  copies_of_damage NotFormatted is = tt
+  copies_of_damage (NoQuorum classes) is = tt
+  copies_of_damage (Version found) is = absurd (no_fault file view t may (OtherVersion found) is)
+  copies_of_damage (BadField field value) is = absurd (no_fault file view t may (BrokenField field value) is)
+  copies_of_damage (LayoutDiffers reserved found) is = absurd is
+  copies_of_damage (Damaged place class) is = absurd is
+  copies_of_damage DiskFault is = absurd is
+  copies_of_damage BootSpent is = absurd is
+
+  copies_hurt : (e : OpenError) → RefusesAs version t.shown e → IsHurtFile file.layout t
+  copies_hurt e is = elim hurt_or_found [
+    | inl hurt ↦ hurt
+    | inr found ↦ absurd (found_is_usable version file t.shown view may.known may.version_is may.whole found e is)
+  ]
+
+  module _ (unspent : IsUnspent version view) where
+    of_damage : (e : OpenError) → SurveysAs version file.layout t.shown (Err e) → (e ≡ DiskFault → ⊥) → MayBeOfDamage e
+    of_damage NotFormatted is other = tt
+    of_damage (NoQuorum classes) is other = tt
+    of_damage (Version found) is other = absurd (no_fault file view t may (OtherVersion found) is)
+    of_damage (BadField field value) (inl is) other = absurd (no_fault file view t may (BrokenField field value) is)
+    of_damage (BadField field value) (inr is) other = absurd (no_bad_field file view t may (refused_here file view t may is.file is.fields opens.BadField is.has is.of is.opens))
+    of_damage (LayoutDiffers reserved found) is other = absurd (is.differ (own_layout file view t may found is.fields is.super is.found_is))
+    of_damage (Damaged place class) is other = tt
+    of_damage DiskFault is other = absurd (other refl)
+    of_damage BootSpent is other = absurd (omega (arith, spent_is_the_files version file view t may is, below_spent version file view may.known may.version_is unspent may.found.checkpoint.tests))
+
+    some_hurt : (e : OpenError) → SurveysAs version file.layout t.shown (Err e) → (e ≡ DiskFault → ⊥) → IsHurtFile file.layout t
+    some_hurt e is other = elim hurt_or_found [
+      | inl hurt ↦ hurt
+      | inr found ↦ absurd (other ((found_is_not_refused_as version file t.shown view may.known may.version_is unspent may.whole found).answered e is))
+    ]
+
+    pub are_of_damage : (e : OpenError) → SurveysAs version file.layout t.shown (Err e) → (e ≡ DiskFault → ⊥) → MayBeOfDamage e × IsHurtFile file.layout t
+    are_of_damage e is other = (of_damage e is other, some_hurt e is other)
 
   -- ---- whom they blame
 
@@ -78,19 +112,53 @@ module _ (file : DataFile) (view : View) (t : Told) (may : MayBeHurt file view t
     | inr same ↦ absurd (hurt same)
   ]
 
-  -- each prepare of the tail was appended alone, so that its slot is all there is of its group: no boot made it
-  alone : (p : Units.Message) → In p view.tail → p.header.group ≡ p.header.op
-  alone p at =
+  -- of a group of the tail one slot is hurt, or each shows what it should
+  record IsHurtOf (group : ℕ) (ps : List Units.Message) : Type 0 where
+    prepare : Units.Message
+    there : In prepare ps
+    own : prepare.header.group ≡ group
+    hurt : IsHurtPlace file.layout t (PreparePlace (prepare.header.op % file.layout.slots))
+
+  abbrev AreUnhurtOf : ℕ → List Units.Message → Type 0
+  AreUnhurtOf group ps = (q : Units.Message) → In q ps → q.header.group ≡ group → unit_at file.layout file.cluster t.shown (PreparePlace (q.header.op % file.layout.slots)) ≡ now (log file view t may) (PreparePlace (q.header.op % file.layout.slots))
+
+  one_of : (group : ℕ) (ps : List Units.Message) → IsHurtOf group ps ⊎ AreUnhurtOf group ps
+  one_of group [] = inr (λ q at own. absurd at)
+  one_of group (p ∷ ps) = elim (one_of group ps) [
+    | inl found ↦ inl (record { prepare = found.prepare; there = inr found.there; own = found.own; hurt = found.hurt })
+    | inr rest ↦ elim (hurt_or (PreparePlace (p.header.op % file.layout.slots))) [
+      | inr same ↦ inr (λ q at own. elim at [
+        | inl here ↦ subst (λ (x : Units.Message). unit_at file.layout file.cluster t.shown (PreparePlace (x.header.op % file.layout.slots)) ≡ now (log file view t may) (PreparePlace (x.header.op % file.layout.slots))) (sym here) same
+        | inr later ↦ rest q later own
+      ])
+      | inl hurt ↦ elim (cases_eq p.header.group group) [
+        | inl is ↦ inl (record { prepare = p; there = inl refl; own = is; hurt = hurt })
+        | inr other ↦ inr (λ q at own. elim at [
+          | inl here ↦ absurd (other (ap (λ (x : Units.Message). x.header.group) (sym here) ∙ own))
+          | inr later ↦ rest q later own
+        ])
+      ]
+    ]
+  ]
+
+  lost_of : (p : Units.Message) → (laws.IsGroupUnhurt (shape file) (log file view t may) view (shown file view t may) p → ⊥) → IsHurtOf p.header.group view.tail
+  lost_of p none = elim (one_of p.header.group view.tail) [
+    | inl found ↦ found
+    | inr unhurt ↦ absurd (none unhurt)
+  ]
+
+  -- in version 1 each prepare of the tail was appended alone, so that its slot is all there is of its group: no boot made it
+  alone : file.version ≡ 1 → (p : Units.Message) → In p view.tail → p.header.group ≡ p.header.op
+  alone one p at =
       let slot = p.header.op % file.layout.slots in
       let here = (may.found.tail.takes p at).shown in
-      let first = may.found.checkpoint.tests.of.one may.found.checkpoint.tests.version in
+      let first = may.found.checkpoint.tests.of.one (may.found.checkpoint.tests.version ∙ one) in
       let whole : IsImage (logs.now t.log) = now_is_image t.log.start t.log.events may.safe.is_log.start may.safe.is_log.events in
       (unbooted_alone file.layout file.cluster (logs.now t.log) whole slot p here (omega (arith, (may.found.not_behind.prepare slot p here).2, first.0))).first
 
-  group_unhurt : (p : Units.Message) → In p view.tail → unit_at file.layout file.cluster t.shown (PreparePlace (p.header.op % file.layout.slots)) ≡ now (log file view t may) (PreparePlace (p.header.op % file.layout.slots)) → laws.IsGroupUnhurt (shape file) (log file view t may) view (shown file view t may) p
-  group_unhurt p at same q there group =
-      let op : p.header.op ≡ q.header.op = sym (alone p at) ∙ sym group ∙ alone q there in
-      subst (λ (o : ℕ). unit_at file.layout file.cluster t.shown (PreparePlace (o % file.layout.slots)) ≡ now (log file view t may) (PreparePlace (o % file.layout.slots))) op same
+  group_of_one : (p q : Units.Message) → In p view.tail → In q view.tail → q.header.group ≡ p.header.group → file.version ≡ 1 → q ≡ p
+  group_of_one p q at there group one =
+      in_one file.layout.clients (view.checkpoint.content.op + 1) view.checkpoint.content.op_checksum 0 view.checkpoint.parts.sessions view.tail q p may.found.tail.chain there at (sym (alone one q there) ∙ group ∙ alone one p at)
 
   blamed : (at : Units.Place) → laws.BlamesHurt (shape file) (log file view t may) view (shown file view t may) (opens.Damaged at) → IsBlamed file view t (place_of at).zone (place_of at).index
   blamed (CopyPlace n) blames = blames
@@ -99,7 +167,7 @@ module _ (file : DataFile) (view : View) (t : Told) (may : MayBeHurt file view t
   blamed (BlockPlace a) blames = hurt_there (BlockPlace a) blames
   blamed (ReplyPlace k) blames = elim (hurt_or (ReplyPlace k)) [
     | inl there ↦ inl there
-    | inr same ↦ let lacks = blames same in inr (record {
+    | inr same ↦ let lacks = blames same in let one = lost_of lacks.1 lacks.8 in inr (record {
       session = lacks.0;
       at = lacks.3;
       prepare = lacks.1;
@@ -108,54 +176,83 @@ module _ (file : DataFile) (view : View) (t : Told) (may : MayBeHurt file view t
       found = lacks.2;
       is_tail = lacks.6;
       later = lacks.7;
-      hurt = elim (hurt_or (PreparePlace (lacks.1.header.op % file.layout.slots))) [
-        | inl hurt ↦ hurt
-        | inr own ↦ absurd (lacks.8 (group_unhurt lacks.1 lacks.4 own))
-      ];
+      lost = one.prepare;
+      lost_in_tail = one.there;
+      group = one.own;
+      alone = group_of_one lacks.1 one.prepare lacks.4 one.there one.own;
+      hurt = one.hurt;
     })
   ]
 
   module _ (agreed : Agree (unit_at file.layout file.cluster t.shown) view.checkpoint.content) where
     -- a superblock is chosen that can be used
-    usable : (e : OpenError) → Refuses t.shown e → ⊥
+    usable : (e : OpenError) → RefusesAs version t.shown e → ⊥
     usable e refuses =
         let chosen = (never_behind_law (shape file) (log file view t may) view (shown file view t may) (rests file view t may) (pooled file view t may) agreed).0 in
         let choice = chosen_choice file.layout file.cluster t.shown view.checkpoint.content may.whole chosen in
-        super_or_refusal t.shown choice.0.fields e (record { content = choice.0; chosen = choice.2; fields = refl; usable = asked_none choice.0.fields (tests file view t may choice.0 choice.2).0.version (rules file view t may choice.0 choice.2).1 }) refuses
+        super_or_refusal_as version t.shown choice.0.fields e (record {
+          content = choice.0;
+          chosen = choice.2;
+          fields = refl;
+          usable = as_none version choice.0.fields ((tests file view t may choice.0 choice.2).0.version ∙ may.version_is) (rules file view t may choice.0 choice.2).1;
+        }) refuses
 
-    pub blames : (e : OpenError) → Surveys file.layout t.shown (Err e) → (e ≡ DiskFault → ⊥) → BlamesHurt file view t e
-    blames NotFormatted is other = usable NotFormatted is
-    blames (NoQuorum classes) is other = usable (NoQuorum classes) is
-    blames (Version found) is other = of_damage (Version found) is other
-    blames (BadField field value) is other = of_damage (BadField field value) is other
-    blames (LayoutDiffers reserved found) is other = of_damage (LayoutDiffers reserved found) is other
-    blames (Damaged place class) is other =
+    blames_place : (place : Place) (class : Class) → SurveysAs version file.layout t.shown (Err (Damaged place class)) → IsBlamed file view t place.zone place.index
+    blames_place place class is =
         let refused = refused_here file view t may is.file is.fields (opens.Damaged is.at) is.has is.of is.opens in
         let who = blame_law (shape file) (log file view t may) view (shown file view t may) (opens.Damaged is.at) (rests file view t may) may.no_chance agreed refused in
         subst (λ (p : Place). IsBlamed file view t p.zone p.index) is.at_is (blamed is.at who)
-    blames DiskFault is other = other refl
 
--- ---- a look at the copies
+    -- the superblock is never named
+    unnamed : (e : OpenError) → SurveysAs version file.layout t.shown (Err e) → NamesSuperblock e → ⊥
+    unnamed NotFormatted is names = usable NotFormatted is
+    unnamed (NoQuorum classes) is names = usable (NoQuorum classes) is
+    unnamed (Version found) is names = names
+    unnamed (BadField field value) is names = names
+    unnamed (LayoutDiffers reserved found) is names = names
+    unnamed (Damaged place class) is names = subst (λ (zone : Zone). IsBlamed file view t zone place.index) names (blames_place place class is)
+    unnamed DiskFault is names = names
+    unnamed BootSpent is names = names
 
--- a refusal of the superblock is one of an open
-refused_opens : (file : DataFile) (t : Told) (e : OpenError) → Refuses t.shown e → Surveys file.layout t.shown (Err e) × (e ≡ DiskFault → ⊥)
-refused_opens file t NotFormatted refuses = (refuses, λ is. cc)
-refused_opens file t (NoQuorum classes) refuses = (refuses, λ is. cc)
-refused_opens file t (Version found) refuses = (refuses, λ is. cc)
-refused_opens file t (BadField field value) refuses = (inl refuses, λ is. cc)
-refused_opens file t (LayoutDiffers reserved found) refuses = absurd refuses
-refused_opens file t (Damaged place class) refuses = absurd refuses
-refused_opens file t DiskFault refuses = absurd refuses
+    pub blames : IsUnspent version view → (e : OpenError) → SurveysAs version file.layout t.shown (Err e) → (e ≡ DiskFault → ⊥) → BlamesHurt file view t e
+    blames unspent NotFormatted is other = usable NotFormatted is
+    blames unspent (NoQuorum classes) is other = usable (NoQuorum classes) is
+    blames unspent (Version found) is other = of_damage unspent (Version found) is other
+    blames unspent (BadField field value) is other = of_damage unspent (BadField field value) is other
+    blames unspent (LayoutDiffers reserved found) is other = of_damage unspent (LayoutDiffers reserved found) is other
+    blames unspent (Damaged place class) is other = blames_place place class is
+    blames unspent DiskFault is other = other refl
+    blames unspent BootSpent is other = of_damage unspent BootSpent is other
 
-pub probe_is_of_hurt : ProbeIsOfHurt
-probe_is_of_hurt file view t may = record {
+  -- one of two copies that agree is hurt, or both show what they should
+  copy_hurt_or : ((n : ℕ) × IsHurtPlace file.layout t (CopyPlace n)) ⊎ Agree (unit_at file.layout file.cluster t.shown) view.checkpoint.content
+  copy_hurt_or =
+      let here = (rests file view t may).holds.chosen.agreed in
+      elim (hurt_or (CopyPlace here.first)) [
+        | inl first ↦ inl (here.first, first)
+        | inr at_first ↦ elim (hurt_or (CopyPlace here.second)) [
+          | inl second ↦ inl (here.second, second)
+          | inr at_second ↦ inr (record { first = here.first; second = here.second; apart = here.apart; inside = here.inside; at_first = at_first ∙ here.at_first; at_second = at_second ∙ here.at_second })
+        ]
+      ]
+
+-- ---- the laws
+
+pub superblock_is_hurt : SuperblockIsHurt
+superblock_is_hurt version file view t e may is names = elim (copy_hurt_or file view t may) [
+  | inl hurt ↦ hurt
+  | inr agreed ↦ absurd (unnamed file view t may agreed e is names)
+]
+
+pub probe_is_of_hurt_as : ProbeIsOfHurt
+probe_is_of_hurt_as version file view t may = record {
   layout = λ shown_layout is. own_layout file view t may shown_layout is.fields is.super is.numbers;
-  refused = λ e refuses. let opens_so = refused_opens file t e refuses in are_of_damage file view t may e opens_so.0 opens_so.1;
+  refused = λ e refuses. (copies_of_damage file view t may e refuses, copies_hurt file view t may e refuses);
   usable = λ rest two e refuses. usable file view t may (agreed_rest file view t may rest two) e refuses;
 }
 
 pub refusals_are_of_damage : RefusalsAreOfDamage
-refusals_are_of_damage file view t e may is other = are_of_damage file view t may e is other
+refusals_are_of_damage version file view t e may unspent is other = are_of_damage file view t may unspent e is other
 
 pub refusals_blame_hurt : RefusalsBlameHurt
-refusals_blame_hurt file view t e may rest two is other = blames file view t may (agreed_rest file view t may rest two) e is other
+refusals_blame_hurt version file view t e may unspent rest two is other = blames file view t may (agreed_rest file view t may rest two) unspent e is other

@@ -28,7 +28,7 @@ copy_agrees : (sh : Shape) (v : View) (n : ℕ) (c : Content) → Agrees sh v (C
 copy_agrees sh v n c agrees = subst (AgreesCopy v n) (sym (same_content c agrees.0 agrees.1)) agrees.2
 
 pub hurt_may_begin : HurtMayBegin
-hurt_may_begin file view found t may finds same =
+hurt_may_begin version file view found t may finds same =
     let f = format_of file.layout file.cluster in
     let sh = shape file in
     let log : UnitLog = units_log f (logs.add Sync t.log) in

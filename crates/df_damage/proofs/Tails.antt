@@ -12,8 +12,8 @@ use Rattle.df_damage.proofs.Files.{opened_found}
 use Rattle.df_damage.proofs.Opened.{headers_tell}
 
 pub whole_tail_is_found : WholeTailIsFound
-whole_tail_is_found file view t s may whole headers copies is p there =
-    let told = headers_tell file view t s may headers is in
+whole_tail_is_found version file view t s may whole headers copies is p there =
+    let told = headers_tell version file view t s may headers is in
     let slot = p.header.op % file.layout.slots in
     let bears = (rests file view t may).holds.bears in
     let above = chain_ops file.layout.clients _ _ _ _ view.tail p bears.sound.chain there in

@@ -43,6 +43,6 @@ had_is_written file log later view had (new, grew, same) = record {
 }
 
 pub opened_is_written : OpenedIsWritten
-opened_is_written file view t s later may is grew =
-    let had = found_was_had file view t s may is in
+opened_is_written version file view t s later may is grew =
+    let had = found_was_had version file view t s may is in
     subst (λ (x : DataFile). WasWritten x later is.view) (sym had.0) (had_is_written file (logs.add Sync t.log) later is.view had.1 grew)

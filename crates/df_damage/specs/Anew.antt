@@ -10,7 +10,7 @@ use Rattle.df_units.specs.Bytes.{unit_at}
 use Rattle.df_model.specs.Views.{KeepsCheckpoint}
 use Rattle.df_recovery.specs.Below.{DataFile, shape}
 use Rattle.df_recovery.specs.Plan.{AreDistinct}
-use Rattle.df_damage.specs.Disks.{MayBeHurt}
+use Rattle.df_damage.specs.Disks.{MayBeHurtAs}
 
 -- the log begun anew now
 abbrev pub begun : Told → Told
@@ -77,5 +77,5 @@ StopsAlike =
 -- Whatever of a file is hurt, a log may be begun anew at what it shows, where an open finds the file's own checkpoint there.
 abbrev pub HurtMayBegin : Type 0
 HurtMayBegin =
-    (file : DataFile) (view found : View) (t : Told) → MayBeHurt file view t → IsFound (shape file) (unit_at file.layout file.cluster t.shown) found → KeepsCheckpoint view found
+    (version : ℕ) (file : DataFile) (view found : View) (t : Told) → MayBeHurtAs version file view t → IsFound (shape file) (unit_at file.layout file.cluster t.shown) found → KeepsCheckpoint view found
     → MayBegin file found t.shown

@@ -1,5 +1,5 @@
 -- All that damage can do to the answer of an open: one record for a state that is found, and one for a refusal.
-use Rattle.std.specs.Prelude.{◌≡◌, ◌⊎◌, Option, Some, Result, Ok, Err}
+use Rattle.std.specs.Prelude.{◌≡◌, ◌⊎◌, ℕ, Option, Some, Result, Ok, Err}
 use Rattle.df_base.specs.Log.{Sync, add}
 use Rattle.df_disk.specs.Told.{Told}
 use Rattle.df_layout.specs.declared.layout.Layout.{Layout}
@@ -11,14 +11,15 @@ use Rattle.df_model.specs.declared.errors.OpenError.TheVariants.{DiskFault}
 use Rattle.df_theory.specs.Found.{IsFound}
 use Rattle.df_theory.specs.View.{View}
 use Rattle.df_units.specs.Bytes.{unit_at}
-use Rattle.df_recovery.specs.Surveys.{Surveys}
+use Rattle.df_recovery.specs.Surveys.{SurveysAs}
 use Rattle.df_recovery.specs.Below.{DataFile, Represents, State, shape}
 use Rattle.df_damage.specs.Anew.{MayBegin}
-use Rattle.df_damage.specs.Disks.{IsAtRest, MayBeHurt}
+use Rattle.df_damage.specs.Disks.{IsAtRest, MayBeHurt, MayBeHurtAs}
 use Rattle.df_damage.specs.Hurt.{HasTwoCopies, IsHurtFile, IsHurtInside, IsUnhurtZone}
 use Rattle.df_damage.specs.Openings.{HasEachHeader}
 use Rattle.df_damage.specs.Past.{WasHad}
 use Rattle.df_damage.specs.Refusals.{BlamesHurt, MayBeOfDamage}
+use Rattle.df_damage.specs.Versions.{IsUnspent}
 
 -- what is hurt isn't needed: copies, at rest and at most two, or header sectors
 abbrev pub IsNeedless : DataFile → Told → Type 0
@@ -50,8 +51,9 @@ AnswersHurt file view t (Err e) = (e ≡ DiskFault → ⊥) → RefusesHurt file
 
 -- so it is answered of each disk that may be hurt
 abbrev pub AnswerIsOfHurt : Type 0
-AnswerIsOfHurt = (file : DataFile) (view : View) (t : Told) (result : Result State OpenError) → MayBeHurt file view t → Surveys file.layout t.shown result → AnswersHurt file view t result
+AnswerIsOfHurt =
+    (version : ℕ) (file : DataFile) (view : View) (t : Told) (result : Result State OpenError) → MayBeHurtAs version file view t → IsUnspent version view → SurveysAs version file.layout t.shown result → AnswersHurt file view t result
 
--- so an open with rooms of this layout answers, where the disk tells what it shows
+-- so an open with rooms of this layout answers, which asks for version 1, where the disk tells what it shows
 abbrev pub TellsHurt : Layout → Option Told → Result State OpenError → Type 0
 TellsHurt layout told result = (file : DataFile) (view : View) (t : Told) → told ≡ Some t → layout ≡ file.layout → MayBeHurt file view t → AnswersHurt file view t result

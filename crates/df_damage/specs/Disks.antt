@@ -12,14 +12,21 @@ use Rattle.df_theory.specs.View.{View}
 use Rattle.df_units.specs.Bytes.{unit_at}
 use Rattle.df_units.specs.Format.{format_of}
 use Rattle.df_recovery.specs.Below.{DataFile, shape}
+use Rattle.df_damage.specs.Versions.{IsKnown}
 
--- the log of the disk is safe and began with an empty disk, and this view is found in what it leaves; what is shown is any image, so long as no unit of it came about by chance, seen from behind the barrier of an open
-pub record MayBeHurt (file : DataFile) (view : View) (t : Told) : Type 0 where
+-- the file is of the version that an open asks for, the log of the disk is safe and began with an empty disk, and this view is found in what it leaves; what is shown is any image, so long as no unit of it came about by chance, seen from behind the barrier of an open
+pub record MayBeHurtAs (version : ℕ) (file : DataFile) (view : View) (t : Told) : Type 0 where
+  pub known : IsKnown version
+  pub version_is : file.version ≡ version
   pub safe : IsSafeDisk (format_of file.layout file.cluster) (shape file) t.log
   pub empty : t.log.start ≡ blank
   pub found : IsFound (shape file) (unit_at file.layout file.cluster (now t.log)) view
   pub whole : IsImage t.shown
   pub no_chance : NoChanceOf (format_of file.layout file.cluster) (add Sync t.log) t.shown
+
+-- where version 1 is asked for
+abbrev pub MayBeHurt : DataFile → View → Told → Type 0
+MayBeHurt file view t = MayBeHurtAs 1 file view t
 
 -- the file is at rest: its log leaves four equal superblock copies
 pub record IsAtRest (file : DataFile) (log : Log) : Type 0 where
@@ -31,12 +38,12 @@ pub record IsAtRest (file : DataFile) (log : Log) : Type 0 where
 -- a tidy file on a disk that began empty: whatever it shows now, it may be hurt, it is at rest, and its log leaves nothing to mend
 abbrev pub TidyMayBeHurt : Type 0
 TidyMayBeHurt =
-    (file : DataFile) (view : View) (t : Told) → IsLog t.log → t.log.start ≡ blank → IsTidy (shape file) (units_log (format_of file.layout file.cluster) t.log) view → IsImage t.shown → NoChanceOf (format_of file.layout file.cluster) (add Sync t.log) t.shown
-    → MayBeHurt file view t × IsAtRest file t.log × IsWhole (shape file) (unit_at file.layout file.cluster (now t.log)) view
+    (version : ℕ) (file : DataFile) (view : View) (t : Told) → IsKnown version → file.version ≡ version → IsLog t.log → t.log.start ≡ blank → IsTidy (shape file) (units_log (format_of file.layout file.cluster) t.log) view → IsImage t.shown → NoChanceOf (format_of file.layout file.cluster) (add Sync t.log) t.shown
+    → MayBeHurtAs version file view t × IsAtRest file t.log × IsWhole (shape file) (unit_at file.layout file.cluster (now t.log)) view
 
 -- and after a stop at a moment at which the log was safe, with the view that the stop left
 abbrev pub StoppedMayBeHurt : Type 0
 StoppedMayBeHurt =
-    (file : DataFile) (view : View) (log : Log) (changes : List (ℕ × List ℕ)) (shown : Image) → IsSafeDisk (format_of file.layout file.cluster) (shape file) log → log.start ≡ blank → AreLoose log.events changes
+    (version : ℕ) (file : DataFile) (view : View) (log : Log) (changes : List (ℕ × List ℕ)) (shown : Image) → IsKnown version → file.version ≡ version → IsSafeDisk (format_of file.layout file.cluster) (shape file) log → log.start ≡ blank → AreLoose log.events changes
     → NoChanceOf (format_of file.layout file.cluster) log (changed changes (now log)) → Held (shape file) (unit_at file.layout file.cluster (changed changes (now log))) view → IsImage shown → NoChanceOf (format_of file.layout file.cluster) (add Sync (add (Stop changes) log)) shown
-    → MayBeHurt file view (record { log = add (Stop changes) log; shown = shown })
+    → MayBeHurtAs version file view (record { log = add (Stop changes) log; shown = shown })

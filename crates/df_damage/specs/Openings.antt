@@ -10,35 +10,41 @@ use Rattle.df_theory.specs.Units.{Header, HeaderPlace, HeaderUnit, Message}
 use Rattle.df_theory.specs.View.{View}
 use Rattle.df_units.specs.Bytes.{unit_at}
 use Rattle.df_model.specs.Views.{KeepsCheckpoint, KeepsView}
-use Rattle.df_recovery.specs.Surveys.{IsOpened}
+use Rattle.df_recovery.specs.Surveys.{IsOpenedAs}
 use Rattle.df_recovery.specs.Below.{DataFile, State, shape}
-use Rattle.df_damage.specs.Disks.{IsAtRest, MayBeHurt}
+use Rattle.df_damage.specs.Disks.{IsAtRest, MayBeHurtAs}
 use Rattle.df_damage.specs.Hurt.{HasTwoCopies, IsHurtInside, IsUnhurtZone}
 use Rattle.df_damage.specs.Past.{WasHad}
-use Rattle.df_damage.specs.Unrefused.{IsNotRefused}
+use Rattle.df_damage.specs.Unrefused.{IsNotRefusedAs}
+use Rattle.df_damage.specs.Versions.{IsUnspent}
 
 -- what is found is of this file, and the file had it
 abbrev pub FoundWasHad : Type 0
-FoundWasHad = (file : DataFile) (view : View) (t : Told) (s : State) → MayBeHurt file view t → (is : IsOpened file.layout t.shown s) → (s.file ≡ file) × WasHad file (add Sync t.log) is.view
+FoundWasHad = (version : ℕ) (file : DataFile) (view : View) (t : Told) (s : State) → MayBeHurtAs version file view t → (is : IsOpenedAs version file.layout t.shown s) → (s.file ≡ file) × WasHad file (add Sync t.log) is.view
 
 -- the file is opened as it was left: nothing refuses, and a state that is found has this view
-pub record OpensAsLeft (file : DataFile) (view : View) (t : Told) : Type 0 where
+pub record OpensAsLeftAs (version : ℕ) (file : DataFile) (view : View) (t : Told) : Type 0 where
   pub found : IsFound (shape file) (unit_at file.layout file.cluster t.shown) view
-  pub opens : IsNotRefused file t.shown
-  pub finds : (s : State) → (is : IsOpened file.layout t.shown s) → (s.file ≡ file) × KeepsView view is.view
+  pub opens : IsNotRefusedAs version file t.shown
+  pub finds : (s : State) → (is : IsOpenedAs version file.layout t.shown s) → (s.file ≡ file) × KeepsView view is.view
+
+-- where version 1 is asked for
+abbrev pub OpensAsLeft : DataFile → View → Told → Type 0
+OpensAsLeft file view t = OpensAsLeftAs 1 file view t
 
 -- a file at rest of which at most two superblock copies are hurt, and nothing else, is opened as it was left
 abbrev pub TwoCopiesAreEnough : Type 0
-TwoCopiesAreEnough = (file : DataFile) (view : View) (t : Told) → MayBeHurt file view t → IsAtRest file t.log → HasTwoCopies t → IsHurtInside file.layout t Superblock → OpensAsLeft file view t
+TwoCopiesAreEnough =
+    (version : ℕ) (file : DataFile) (view : View) (t : Told) → MayBeHurtAs version file view t → IsUnspent version view → IsAtRest file t.log → HasTwoCopies t → IsHurtInside file.layout t Superblock → OpensAsLeftAs version file view t
 
 -- so is one of which header sectors alone are hurt, at rest or not
 abbrev pub HeadersMayBeHurt : Type 0
-HeadersMayBeHurt = (file : DataFile) (view : View) (t : Told) → MayBeHurt file view t → IsHurtInside file.layout t WalHeaders → OpensAsLeft file view t
+HeadersMayBeHurt = (version : ℕ) (file : DataFile) (view : View) (t : Told) → MayBeHurtAs version file view t → IsUnspent version view → IsHurtInside file.layout t WalHeaders → OpensAsLeftAs version file view t
 
 -- at rest, with at most two copies and any other sectors hurt, a state that is found has the file's checkpoint
 abbrev pub CheckpointStays : Type 0
 CheckpointStays =
-    (file : DataFile) (view : View) (t : Told) (s : State) → MayBeHurt file view t → IsAtRest file t.log → HasTwoCopies t → (is : IsOpened file.layout t.shown s) → KeepsCheckpoint view is.view
+    (version : ℕ) (file : DataFile) (view : View) (t : Told) (s : State) → MayBeHurtAs version file view t → IsAtRest file t.log → HasTwoCopies t → (is : IsOpenedAs version file.layout t.shown s) → KeepsCheckpoint view is.view
 
 -- the tail has the prepare of each header of the ring whose op is above the checkpoint
 abbrev pub HasEachHeader : DataFile → Told → View → Type 0
@@ -48,11 +54,11 @@ HasEachHeader file t found =
 -- with no header sector hurt a state that is found has each of these prepares, whatever else is hurt; with no copy hurt either it has the file's checkpoint
 abbrev pub HeadersTell : Type 0
 HeadersTell =
-    (file : DataFile) (view : View) (t : Told) (s : State) → MayBeHurt file view t → IsUnhurtZone file.layout t WalHeaders → (is : IsOpened file.layout t.shown s)
+    (version : ℕ) (file : DataFile) (view : View) (t : Told) (s : State) → MayBeHurtAs version file view t → IsUnhurtZone file.layout t WalHeaders → (is : IsOpenedAs version file.layout t.shown s)
     → HasEachHeader file t is.view × (IsUnhurtZone file.layout t Superblock → KeepsCheckpoint view is.view)
 
 -- where the log leaves nothing to mend, too, as behind each finished session, a state that is found has every prepare of the tail
 abbrev pub WholeTailIsFound : Type 0
 WholeTailIsFound =
-    (file : DataFile) (view : View) (t : Told) (s : State) → MayBeHurt file view t → IsWhole (shape file) (unit_at file.layout file.cluster (now t.log)) view → IsUnhurtZone file.layout t WalHeaders → IsUnhurtZone file.layout t Superblock
-    → (is : IsOpened file.layout t.shown s) → (p : Message) → In p view.tail → In p is.view.tail
+    (version : ℕ) (file : DataFile) (view : View) (t : Told) (s : State) → MayBeHurtAs version file view t → IsWhole (shape file) (unit_at file.layout file.cluster (now t.log)) view → IsUnhurtZone file.layout t WalHeaders → IsUnhurtZone file.layout t Superblock
+    → (is : IsOpenedAs version file.layout t.shown s) → (p : Message) → In p view.tail → In p is.view.tail

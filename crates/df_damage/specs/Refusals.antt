@@ -1,25 +1,26 @@
 -- Why an open refuses a disk that may be hurt.
-use Rattle.std.specs.Prelude.{◌≡◌, ◌⊎◌, ◌<◌, ◌+◌, ◌%◌, ℕ, List, length, Some, Err}
+use Rattle.std.specs.Prelude.{◌≡◌, ◌⊎◌, ◌<◌, ◌+◌, ◌%◌, ◌^◌, ℕ, List, length, Some, Err}
 use Rattle.std.specs.List.{slice_get}
 use Rattle.df_disk.specs.Told.{Told}
 use Rattle.df_layout.specs.declared.layout.Layout.{Layout}
 use Rattle.df_layout.specs.declared.places.Zone.{Zone}
 use Rattle.df_layout.specs.declared.places.Zone.TheVariants.{ClientReplies, Grid, Superblock, WalHeaders, WalPrepares}
 use Rattle.df_model.specs.declared.errors.OpenError.{OpenError}
-use Rattle.df_model.specs.declared.errors.OpenError.TheVariants.{BadField, Damaged, DiskFault, LayoutDiffers, NoQuorum, NotFormatted, Version}
+use Rattle.df_model.specs.declared.errors.OpenError.TheVariants.{BadField, BootSpent, Damaged, DiskFault, LayoutDiffers, NoQuorum, NotFormatted, Version}
 use Rattle.df_theory.specs.Found.{IsTail}
 use Rattle.df_theory.specs.Tails.{In}
-use Rattle.df_theory.specs.Units.{BlockPlace, Message, PreparePlace, ReplyPlace, Session}
-use Rattle.df_theory.specs.View.{View, sessions}
+use Rattle.df_theory.specs.Units.{BlockPlace, CopyPlace, Message, PreparePlace, ReplyPlace, Session}
+use Rattle.df_theory.specs.View.{View, boot_of, sessions}
 use Rattle.df_units.specs.Bytes.{unit_at}
-use Rattle.df_recovery.specs.Found.{IsLayoutShown}
-use Rattle.df_recovery.specs.Opening.{Refuses}
-use Rattle.df_recovery.specs.Surveys.{Surveys}
+use Rattle.df_recovery.specs.Found.{IsLayoutShownAs}
+use Rattle.df_recovery.specs.Opening.{RefusesAs}
+use Rattle.df_recovery.specs.Surveys.{SurveysAs}
 use Rattle.df_recovery.specs.Below.{DataFile, shape}
-use Rattle.df_damage.specs.Disks.{IsAtRest, MayBeHurt}
+use Rattle.df_damage.specs.Disks.{IsAtRest, MayBeHurtAs}
 use Rattle.df_damage.specs.Hurt.{HasTwoCopies, IsHurtFile, IsHurtPlace}
+use Rattle.df_damage.specs.Versions.{IsUnspent}
 
--- the refusals of a file that damage explains: no copies, no two that agree, or a place that is named; a version, a field or a layout never
+-- the refusals of a file that damage explains: no copies, no two that agree, or a place that is named; a version, a field, a layout or a spent boot never
 abbrev pub MayBeOfDamage : OpenError → Type 0
 MayBeOfDamage NotFormatted = Unit {0}
 MayBeOfDamage (NoQuorum classes) = Unit {0}
@@ -28,22 +29,41 @@ MayBeOfDamage (BadField field value) = ⊥
 MayBeOfDamage (LayoutDiffers reserved found) = ⊥
 MayBeOfDamage (Damaged place class) = Unit {0}
 MayBeOfDamage DiskFault = ⊥
+MayBeOfDamage BootSpent = ⊥
 
 -- with rooms of the file's layout no other refusal comes, and none where no sector of the file is hurt; a fault of the disk in the open itself is none of these
 abbrev pub RefusalsAreOfDamage : Type 0
 RefusalsAreOfDamage =
-    (file : DataFile) (view : View) (t : Told) (e : OpenError) → MayBeHurt file view t → Surveys file.layout t.shown (Err e) → (e ≡ DiskFault → ⊥) → MayBeOfDamage e × IsHurtFile file.layout t
+    (version : ℕ) (file : DataFile) (view : View) (t : Told) (e : OpenError) → MayBeHurtAs version file view t → IsUnspent version view → SurveysAs version file.layout t.shown (Err e) → (e ≡ DiskFault → ⊥)
+    → MayBeOfDamage e × IsHurtFile file.layout t
+
+-- where a boot is said to be spent it is the file's own that is: damage raises none
+abbrev pub SpentIsTheFiles : Type 0
+SpentIsTheFiles = (version : ℕ) (file : DataFile) (view : View) (t : Told) → MayBeHurtAs version file view t → SurveysAs version file.layout t.shown (Err BootSpent) → boot_of view ≡ 2 ^ 62
+
+-- the refusals that name the superblock: it shows nothing, no two of its copies agree, or a unit is of a later checkpoint or boot than the choice
+abbrev pub NamesSuperblock : OpenError → Type 0
+NamesSuperblock NotFormatted = Unit {0}
+NamesSuperblock (NoQuorum classes) = Unit {0}
+NamesSuperblock (Damaged place class) = place.zone ≡ Superblock
+NamesSuperblock e = ⊥
+
+-- they come only where a copy is hurt
+abbrev pub SuperblockIsHurt : Type 0
+SuperblockIsHurt =
+    (version : ℕ) (file : DataFile) (view : View) (t : Told) (e : OpenError) → MayBeHurtAs version file view t → SurveysAs version file.layout t.shown (Err e) → NamesSuperblock e
+    → (n : ℕ) × IsHurtPlace file.layout t (CopyPlace n)
 
 -- what a look at the copies answers, before there are rooms: the file's layout, or a refusal that is of damage, and none at rest while two copies stand
-pub record ProbesHurt (file : DataFile) (t : Told) : Type 0 where
-  pub layout : (shown : Layout) → IsLayoutShown t.shown shown → shown ≡ file.layout
-  pub refused : (e : OpenError) → Refuses t.shown e → MayBeOfDamage e × IsHurtFile file.layout t
-  pub usable : IsAtRest file t.log → HasTwoCopies t → (e : OpenError) → Refuses t.shown e → ⊥
+pub record ProbesHurt (version : ℕ) (file : DataFile) (t : Told) : Type 0 where
+  pub layout : (shown : Layout) → IsLayoutShownAs version t.shown shown → shown ≡ file.layout
+  pub refused : (e : OpenError) → RefusesAs version t.shown e → MayBeOfDamage e × IsHurtFile file.layout t
+  pub usable : IsAtRest file t.log → HasTwoCopies t → (e : OpenError) → RefusesAs version t.shown e → ⊥
 
 abbrev pub ProbeIsOfHurt : Type 0
-ProbeIsOfHurt = (file : DataFile) (view : View) (t : Told) → MayBeHurt file view t → ProbesHurt file t
+ProbeIsOfHurt = (version : ℕ) (file : DataFile) (view : View) (t : Told) → MayBeHurtAs version file view t → ProbesHurt version file t
 
--- the prepare of a later op of the client at this place of the table stood in a slot that is hurt: of an op that the tail that is found doesn't reach
+-- a later op of the client at this place of the table, which the tail that is found doesn't reach: the slot of its prepare is hurt, or that of another one of its group, of which there is none in version 1
 pub record LacksLater (file : DataFile) (view : View) (t : Told) (k : ℕ) : Type 0 where
   pub session : Session
   pub at : slice_get (sessions view) k ≡ Some session
@@ -53,9 +73,13 @@ pub record LacksLater (file : DataFile) (view : View) (t : Told) (k : ℕ) : Typ
   pub found : List Message
   pub is_tail : IsTail (shape file) (unit_at file.layout file.cluster t.shown) view.checkpoint found
   pub later : view.checkpoint.content.op + length found < prepare.header.op
-  pub hurt : IsHurtPlace file.layout t (PreparePlace (prepare.header.op % file.layout.slots))
+  pub lost : Message
+  pub lost_in_tail : In lost view.tail
+  pub group : lost.header.group ≡ prepare.header.group
+  pub alone : file.version ≡ 1 → lost ≡ prepare
+  pub hurt : IsHurtPlace file.layout t (PreparePlace (lost.header.op % file.layout.slots))
 
--- what is blamed is hurt: a block, the slot of a prepare, that of a reply or of a later prepare of its client; never a copy or a header
+-- what is blamed is hurt: a block, the slot of a prepare, that of a reply or one of a later prepare of its client; never a copy or a header
 abbrev pub IsBlamed : DataFile → View → Told → Zone → ℕ → Type 0
 IsBlamed file view t Superblock n = ⊥
 IsBlamed file view t WalHeaders s = ⊥
@@ -71,4 +95,5 @@ BlamesHurt file view t e = ⊥
 -- at rest, with at most two superblock copies hurt, no other refusal comes
 abbrev pub RefusalsBlameHurt : Type 0
 RefusalsBlameHurt =
-    (file : DataFile) (view : View) (t : Told) (e : OpenError) → MayBeHurt file view t → IsAtRest file t.log → HasTwoCopies t → Surveys file.layout t.shown (Err e) → (e ≡ DiskFault → ⊥) → BlamesHurt file view t e
+    (version : ℕ) (file : DataFile) (view : View) (t : Told) (e : OpenError) → MayBeHurtAs version file view t → IsUnspent version view → IsAtRest file t.log → HasTwoCopies t → SurveysAs version file.layout t.shown (Err e)
+    → (e ≡ DiskFault → ⊥) → BlamesHurt file view t e

@@ -1,4 +1,5 @@
 -- What was written at a place, and what a view needs of it.
+use Rattle.std.specs.Prelude.{ℕ}
 use Rattle.df_base.specs.Log.{Log, Sync, add}
 use Rattle.df_base.specs.Moments.{Extends}
 use Rattle.df_disk.specs.Told.{Told}
@@ -10,9 +11,9 @@ use Rattle.df_theory.specs.UnitLog.{UnitLog}
 use Rattle.df_theory.specs.Units.{AnyUnit, Place}
 use Rattle.df_theory.specs.View.{View}
 use Rattle.df_units.specs.Format.{format_of}
-use Rattle.df_recovery.specs.Surveys.{IsOpened}
+use Rattle.df_recovery.specs.Surveys.{IsOpenedAs}
 use Rattle.df_recovery.specs.Below.{DataFile, State, shape}
-use Rattle.df_damage.specs.Disks.{MayBeHurt}
+use Rattle.df_damage.specs.Disks.{MayBeHurtAs}
 use Rattle.df_damage.specs.Past.{WasHad}
 
 -- the unit was written at its place: it was settled there, or stood whole in a write, now or at an earlier moment of the log
@@ -36,4 +37,4 @@ HadIsWritten = (file : DataFile) (log later : Log) (view : View) → WasHad file
 -- and so with the one that an open finds on a disk that may be hurt, however the log went on behind its barrier
 abbrev pub OpenedIsWritten : Type 0
 OpenedIsWritten =
-    (file : DataFile) (view : View) (t : Told) (s : State) (later : Log) → MayBeHurt file view t → (is : IsOpened file.layout t.shown s) → Extends later (add Sync t.log) → WasWritten s.file later is.view
+    (version : ℕ) (file : DataFile) (view : View) (t : Told) (s : State) (later : Log) → MayBeHurtAs version file view t → (is : IsOpenedAs version file.layout t.shown s) → Extends later (add Sync t.log) → WasWritten s.file later is.view

@@ -175,42 +175,15 @@ module _ (cluster : ℕ) (named : (0 < cluster) × (cluster < 2 ^ 128)) (h : Hea
   fits Trailer version is = fits_body (made Trailer) body named.1 is.0.parent (omega arith) is.0.op.1 is.0.request.1 is.0.mark (omega (arith, is.0.checkpoint.1)) is.1 (omega arith) (omega arith)
       (version_fits Trailer (made Trailer) (none_fits 0 0) (version_made Trailer version))
 
+  whole : (g : Header) → FitsFields (for_body g body) → 0 < g.cluster → ObeysKind g.kind (for_body g body) → ObeysVersion g.kind g → ObeysRules (for_body g body)
+  whole g fits cluster kind version = record { fits = fits; cluster = cluster; size = omega arith; kind = kind; version = version_obeys g.kind g version }
+
   pub given_obeys : (kind : Kind) → ObeysVersion kind h → Gives kind h body → ObeysRules (for_body (of_kind kind cluster h) body)
-  given_obeys Reserved version is = record {
-    fits = fits Reserved version is;
-    cluster = named.0;
-    size = omega arith;
-    kind = obeys_kind Reserved is;
-    version = version_obeys Reserved (made Reserved) (version_made Reserved version);
-  }
-  given_obeys AsPrepare version is = record {
-    fits = fits AsPrepare version is;
-    cluster = named.0;
-    size = omega arith;
-    kind = obeys_kind AsPrepare is;
-    version = version_obeys AsPrepare (made AsPrepare) (version_made AsPrepare version);
-  }
-  given_obeys Reply version is = record {
-    fits = fits Reply version is;
-    cluster = named.0;
-    size = omega arith;
-    kind = obeys_kind Reply is;
-    version = version_obeys Reply (made Reply) (version_made Reply version);
-  }
-  given_obeys Block version is = record {
-    fits = fits Block version is;
-    cluster = named.0;
-    size = omega arith;
-    kind = obeys_kind Block is;
-    version = version_obeys Block (made Block) (version_made Block version);
-  }
-  given_obeys Trailer version is = record {
-    fits = fits Trailer version is;
-    cluster = named.0;
-    size = omega arith;
-    kind = obeys_kind Trailer is;
-    version = version_obeys Trailer (made Trailer) (version_made Trailer version);
-  }
+  given_obeys Reserved version is = whole (made Reserved) (fits Reserved version is) named.0 (obeys_kind Reserved is) (version_made Reserved version)
+  given_obeys AsPrepare version is = whole (made AsPrepare) (fits AsPrepare version is) named.0 (obeys_kind AsPrepare is) (version_made AsPrepare version)
+  given_obeys Reply version is = whole (made Reply) (fits Reply version is) named.0 (obeys_kind Reply is) (version_made Reply version)
+  given_obeys Block version is = whole (made Block) (fits Block version is) named.0 (obeys_kind Block is) (version_made Block version)
+  given_obeys Trailer version is = whole (made Trailer) (fits Trailer version is) named.0 (obeys_kind Trailer is) (version_made Trailer version)
 
 -- ---- a unit has what its kind names, and nothing else
 
@@ -218,71 +191,46 @@ module _ (cluster : ℕ) (named : (0 < cluster) × (cluster < 2 ^ 128)) (h : Hea
 ungrouped : (kind : Kind) (h : Header) → (HasGroup kind h.op h.group h.group_last → IsUngrouped h.group h.group_last) → ObeysVersion kind h → IsUngrouped h.group h.group_last
 ungrouped kind h alone is = elim is [ inl first ↦ record { none_first = first.group; none_last = first.group_last } | inr second ↦ alone second.group ]
 
+ungroup : (kind : Kind) (h : Header) → (HasGroup kind h.op h.group h.group_last → IsUngrouped h.group h.group_last) → ObeysVersion kind h → h ≡ record h { group = 0; group_last = 0 }
+ungroup kind h alone is i = let none = ungrouped kind h alone is in record h { group = none.none_first i; group_last = none.none_last i }
+
+-- nor a message's fields, where its kind has none
+bare : (kind : Kind) (h : Header) → (HasGroup kind h.op h.group h.group_last → IsUngrouped h.group h.group_last) → ObeysVersion kind h → h.parent ≡ no_checksum → h.client ≡ 0 → h.request ≡ 0 → h.mark ≡ 0 → h.checkpoint ≡ 0
+    → h ≡ record h { parent = no_checksum; client = 0; request = 0; mark = 0; checkpoint = 0; group = 0; group_last = 0 }
+bare kind h alone is parent client request mark checkpoint i = record (ungroup kind h alone is i) { parent = parent i; client = client i; request = request i; mark = mark i; checkpoint = checkpoint i }
+
 -- a reserved header no boot
 unbooted : (h : Header) → ObeysVersion Reserved h → h.boot ≡ 0
 unbooted h is = elim is [ inl first ↦ first.boot | inr second ↦ second.boot ]
 
 again : (kind : Kind) (h : Header) (body : List ℕ) → h.kind ≡ kind → ObeysKind kind h → ObeysVersion kind h → IsBodyOf h body → record h { checksum = no_checksum } ≡ for_body (of_kind kind h.cluster h) body
-again Reserved h body same is version has =
-    let boot = unbooted h version in
-    let none = ungrouped Reserved h (λ group. group) version in
-    λ i. record h {
-      checksum = no_checksum;
-      checksum_body = has.checksum i;
-      parent = is.parent i;
-      client = is.client i;
-      op = is.op i;
-      request = is.request i;
-      mark = is.mark i;
-      checkpoint = is.checkpoint i;
-      size = has.size i;
-      kind = same i;
-      block_kind = is.block_kind i;
-      boot = boot i;
-      group = none.none_first i;
-      group_last = none.none_last i;
-    }
-again AsPrepare h body same is version has = λ i. record h { checksum = no_checksum; checksum_body = has.checksum i; size = has.size i; kind = same i; block_kind = is.block_kind i }
-again Reply h body same is version has =
-    let none = ungrouped Reply h (λ group. group) version in
-    λ i. record h {
-      checksum = no_checksum;
-      checksum_body = has.checksum i;
-      size = has.size i;
-      kind = same i;
-      block_kind = is.block_kind i;
-      group = none.none_first i;
-      group_last = none.none_last i;
-    }
-again Block h body same is version has =
-    let none = ungrouped Block h (λ group. group) version in
-    λ i. record h {
-      checksum = no_checksum;
-      checksum_body = has.checksum i;
-      parent = is.parent i;
-      client = is.client i;
-      request = is.request i;
-      mark = is.mark i;
-      checkpoint = is.checkpoint i;
-      size = has.size i;
-      slot = is.slot i;
-      kind = same i;
-      group = none.none_first i;
-      group_last = none.none_last i;
-    }
-again Trailer h body same is version has =
-    let none = ungrouped Trailer h (λ group. group) version in
-    λ i. record h {
-      checksum = no_checksum;
-      checksum_body = has.checksum i;
-      client = is.client i;
-      size = has.size i;
-      slot = is.slot i;
-      kind = same i;
-      block_kind = is.block_kind i;
-      group = none.none_first i;
-      group_last = none.none_last i;
-    }
+again Reserved h body same is version has i = record (bare Reserved h (λ group. group) version is.parent is.client is.request is.mark is.checkpoint i) {
+  checksum = no_checksum;
+  checksum_body = has.checksum i;
+  op = is.op i;
+  size = has.size i;
+  kind = same i;
+  block_kind = is.block_kind i;
+  boot = unbooted h version i;
+}
+again AsPrepare h body same is version has i = record h { checksum = no_checksum; checksum_body = has.checksum i; size = has.size i; kind = same i; block_kind = is.block_kind i }
+again Reply h body same is version has i = record (ungroup Reply h (λ group. group) version i) { checksum = no_checksum; checksum_body = has.checksum i; size = has.size i; kind = same i; block_kind = is.block_kind i }
+again Block h body same is version has i = record (bare Block h (λ group. group) version is.parent is.client is.request is.mark is.checkpoint i) {
+  checksum = no_checksum;
+  checksum_body = has.checksum i;
+  size = has.size i;
+  slot = is.slot i;
+  kind = same i;
+}
+again Trailer h body same is version has i = record (ungroup Trailer h (λ group. group) version i) {
+  checksum = no_checksum;
+  checksum_body = has.checksum i;
+  client = is.client i;
+  size = has.size i;
+  slot = is.slot i;
+  kind = same i;
+  block_kind = is.block_kind i;
+}
 
 resealed : (h : Header) → IsSealed h → sealed (record h { checksum = no_checksum }) ≡ h
 unfolding spelling_rest tail_of

@@ -55,6 +55,7 @@ open_refusal (opens.BadField field value) = line_of (spaced (codes "refused BadF
 open_refusal (opens.LayoutDiffers reserved found) = line_of (spaced (codes "refused LayoutDiffers") (spaced (layout_text reserved) (layout_text found)))
 open_refusal (opens.Damaged place class) = damaged_text place class
 open_refusal opens.DiskFault = []
+open_refusal opens.BootSpent = codes "refused BootSpent\n"
 
 -- why a file isn't made; a failing disk has no line
 abbrev pub format_refusal : FormatError → List ℕ

@@ -66,6 +66,7 @@ fn open_line(error: &OpenError) -> Line
         OpenError::LayoutDiffers { reserved, found } => layout_differs_line(&reserved, &found),
         OpenError::Damaged { place, class } => damaged_line(place, class),
         OpenError::DiskFault => text_line(""),
+        OpenError::BootSpent => text_line("refused BootSpent\n"),
     }
 }
 

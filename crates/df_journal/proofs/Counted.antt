@@ -1,9 +1,9 @@
 -- The counters are the greatest numbers.
 use Rattle.std.proofs.Common.{◌≡◌, ◌==◌, ◌↔◌, inl, inr, ℕ, ◌+◌, ◌<◌, ◌≤◌, Bool, true, false, List, length, get_or, Option, Some, None, refl, sym, ◌∙◌, ap, subst, arith, max}
-use Rattle.std.specs.Prelude.{Result, Ok, Err, IsTrue, IsFalse}
+use Rattle.std.specs.Prelude.{Result, Ok, Err, IsTrue, IsFalse, nat_lt, ◌&&◌}
 use Rattle.std.specs.Bool.{OnFalse}
 use Rattle.std.specs.List.{slice_get}
-use Rattle.std.proofs.lemmas.Bool.{cases_eq, cases_lt, cond-true, cond-false, eq-eqb, ne_eqb}
+use Rattle.std.proofs.lemmas.Bool.{cases_Bool, cases_eq, cases_lt, cond-true, cond-false, eq-eqb, eqb-true, lt-ltb, ltb-true, ne_eqb}
 use Rattle.std.proofs.lemmas.Option.{slice_get_cases, slice_get-get_or}
 use Rattle.df_layout.specs.declared.damage.Class.{Class}
 use Rattle.df_format.specs.declared.header.Header.{Header as FileHeader}
@@ -11,11 +11,12 @@ use Rattle.df_stamps.specs.declared.counters.Counters.{Counters}
 use Rattle.df_stamps.specs.Evidence.{IsBehind, IsComplete, IsLost, IsUpToDate}
 use Rattle.df_theory.specs.Units.{AnyUnit, Content, Header, HeaderPlace, HeaderUnit, Message, PreparePlace, PrepareUnit, Units}
 use Rattle.df_theory.specs.Shape.{Shape, slots}
+use Rattle.df_theory.specs.Tails.{BindsHead, IsCutOff}
 use Rattle.df_theory.specs.Found.{NotBehind, NotLost}
 use Rattle.df_units.specs.Meaning.{header_of}
 use Rattle.df_buffers.specs.declared.slots.SlotSeen.{SlotSeen}
 use Rattle.df_journal.specs.Shows.{ShowsHeader, ShowsPrepare, ShowsTable}
-use Rattle.df_journal.specs.Counts.{CountsAll, CountsOps, CountsOwn, CountsRings, OwnAreAlone, RingsWithin, boot_in, checkpoint_in, in_boot, op_in, own_op, with_unit}
+use Rattle.df_journal.specs.Counts.{CountsAll, CountsBinding, CountsBound, CountsOps, CountsOwn, CountsRings, OwnAreAlone, RingsWithin, binding_op, boot_in, bound_op, checkpoint_in, in_boot, is_cut_off, op_in, own_op, with_unit}
 
 -- ---- the rings
 
@@ -40,34 +41,38 @@ pub boot_is : (r : Result FileHeader Class) → boot_in r ≡ number_in (λ h. h
 boot_is (Ok h) = refl
 boot_is (Err class) = refl
 
--- in the first k slots the numbers are at most n
-abbrev pub SlotsWithin : (Header → ℕ) → ℕ → ℕ → List SlotSeen → Type 0
-SlotsWithin number n k table = (s : ℕ) (seen : SlotSeen) → s < k → slice_get table s ≡ Some seen → (number_in number seen.header ≤ n) × (number_in number seen.prepare ≤ n)
+-- in the first k slots the one number of what the header ring shows, and the other one of what the ring of prepares shows, are at most n
+abbrev pub SlotsWithin : (Header → ℕ) → (Header → ℕ) → ℕ → ℕ → List SlotSeen → Type 0
+SlotsWithin number other n k table = (s : ℕ) (seen : SlotSeen) → s < k → slice_get table s ≡ Some seen → (number_in number seen.header ≤ n) × (number_in other seen.prepare ≤ n)
 
 -- this is the greatest of them
+abbrev pub IsTopOf : (Header → ℕ) → (Header → ℕ) → List SlotSeen → ℕ → ℕ → Type 0
+IsTopOf number other table k top = (n : ℕ) → (top ≤ n) ↔ SlotsWithin number other n k table
+
+-- of one number of both
 abbrev pub IsTop : (Header → ℕ) → List SlotSeen → ℕ → ℕ → Type 0
-IsTop number table k top = (n : ℕ) → (top ≤ n) ↔ SlotsWithin number n k table
+IsTop number table k top = IsTopOf number number table k top
 
-pub top_none : (number : Header → ℕ) (table : List SlotSeen) → IsTop number table 0 0
-top_none number table n = (λ le s seen less at. absurd (omega arith), λ all. omega arith)
+pub top_none : (number other : Header → ℕ) (table : List SlotSeen) → IsTopOf number other table 0 0
+top_none number other table n = (λ le s seen less at. absurd (omega arith), λ all. omega arith)
 
-pub top_more : (number : Header → ℕ) (table : List SlotSeen) (k top a b : ℕ) (seen : SlotSeen) → slice_get table k ≡ Some seen → a ≡ number_in number seen.header → b ≡ number_in number seen.prepare
-    → IsTop number table k top → IsTop number table (k + 1) (max (max top a) b)
-top_more number table k top a b seen at is_a is_b is n = (to, from)
+pub top_more : (number other : Header → ℕ) (table : List SlotSeen) (k top a b : ℕ) (seen : SlotSeen) → slice_get table k ≡ Some seen → a ≡ number_in number seen.header → b ≡ number_in other seen.prepare
+    → IsTopOf number other table k top → IsTopOf number other table (k + 1) (max (max top a) b)
+top_more number other table k top a b seen at is_a is_b is n = (to, from)
   where
-    to : max (max top a) b ≤ n → SlotsWithin number n (k + 1) table
-    to le s other less there = elim (cases_lt s k) [
-      | inl before ↦ (is n).0 (omega arith) s other before there
+    to : max (max top a) b ≤ n → SlotsWithin number other n (k + 1) table
+    to le s there less found = elim (cases_lt s k) [
+      | inl before ↦ (is n).0 (omega arith) s there before found
       | inr here ↦
           let same : s ≡ k = omega arith in
-          let both : Some other ≡ Some seen = sym there ∙ ap (slice_get table) same ∙ at in
-          let one : seen ≡ other = cc in
-          subst (λ (x : SlotSeen). (number_in number x.header ≤ n) × (number_in number x.prepare ≤ n)) one (omega arith, omega arith)
+          let both : Some there ≡ Some seen = sym found ∙ ap (slice_get table) same ∙ at in
+          let one : seen ≡ there = cc in
+          subst (λ (x : SlotSeen). (number_in number x.header ≤ n) × (number_in other x.prepare ≤ n)) one (omega arith, omega arith)
     ]
 
-    from : SlotsWithin number n (k + 1) table → max (max top a) b ≤ n
+    from : SlotsWithin number other n (k + 1) table → max (max top a) b ≤ n
     from all =
-        let before : top ≤ n = (is n).1 (λ s other less there. all s other (omega arith) there) in
+        let before : top ≤ n = (is n).1 (λ s there less found. all s there (omega arith) found) in
         let here = all k seen (omega arith) at in
         omega (arith, before, here.0, here.1, is_a, is_b)
 
@@ -91,26 +96,34 @@ within_prepare number n x (Ok g) (p, is, same) all = subst (λ (k : Header). num
 within_prepare number n x (Err class) is all = omega arith
 
 module _ (image : Units) (table : List SlotSeen) (shows : ShowsTable image table) where
-  pub rings_within : (number : Header → ℕ) (n : ℕ) → SlotsWithin number n (length table) table ↔ RingsWithin image number n
-  rings_within number n = (
-    to,
-    λ rings s seen less at. (
-      within_header number n (image (HeaderPlace s)) seen.header (shows.each s seen at).header (rings.header s),
-      within_prepare number n (image (PreparePlace s)) seen.prepare (shows.each s seen at).prepare (rings.prepare s),
+  pub both_within : (number other : Header → ℕ) (n : ℕ) → SlotsWithin number other n (length table) table
+      ↔ (((s : ℕ) (h : Header) → image (HeaderPlace s) ≡ Some (HeaderUnit h) → number h ≤ n) × ((s : ℕ) (p : Message) → image (PreparePlace s) ≡ Some (PrepareUnit p) → other p.header ≤ n))
+  both_within number other n = (
+    λ all. (headers all, prepares all),
+    λ both s seen less at. (
+      within_header number n (image (HeaderPlace s)) seen.header (shows.each s seen at).header (both.0 s),
+      within_prepare other n (image (PreparePlace s)) seen.prepare (shows.each s seen at).prepare (both.1 s),
     ),
   )
     where
-      to : SlotsWithin number n (length table) table → RingsWithin image number n
-      to all = record {
-        header = λ s h shown. elim (slice_get_cases table s).1 [
-          | inl there ↦ header_within number n (image (HeaderPlace s)) there.0.header h (shows.each s there.0 there.2).header shown (all s there.0 there.1 there.2).0
-          | inr past ↦ let both : None ≡ Some (HeaderUnit h) = sym (shows.no_header s past.0) ∙ shown in absurd (cc)
-        ];
-        prepare = λ s p shown. elim (slice_get_cases table s).1 [
-          | inl there ↦ prepare_within number n (image (PreparePlace s)) there.0.prepare p (shows.each s there.0 there.2).prepare shown (all s there.0 there.1 there.2).1
-          | inr past ↦ let both : None ≡ Some (PrepareUnit p) = sym (shows.no_prepare s past.0) ∙ shown in absurd (cc)
-        ];
-      }
+      headers : SlotsWithin number other n (length table) table → (s : ℕ) (h : Header) → image (HeaderPlace s) ≡ Some (HeaderUnit h) → number h ≤ n
+      headers all s h shown = elim (slice_get_cases table s).1 [
+        | inl there ↦ header_within number n (image (HeaderPlace s)) there.0.header h (shows.each s there.0 there.2).header shown (all s there.0 there.1 there.2).0
+        | inr past ↦ let both : None ≡ Some (HeaderUnit h) = sym (shows.no_header s past.0) ∙ shown in absurd (cc)
+      ]
+
+      prepares : SlotsWithin number other n (length table) table → (s : ℕ) (p : Message) → image (PreparePlace s) ≡ Some (PrepareUnit p) → other p.header ≤ n
+      prepares all s p shown = elim (slice_get_cases table s).1 [
+        | inl there ↦ prepare_within other n (image (PreparePlace s)) there.0.prepare p (shows.each s there.0 there.2).prepare shown (all s there.0 there.1 there.2).1
+        | inr past ↦ let both : None ≡ Some (PrepareUnit p) = sym (shows.no_prepare s past.0) ∙ shown in absurd (cc)
+      ]
+
+  pub rings_within : (number : Header → ℕ) (n : ℕ) → SlotsWithin number number n (length table) table ↔ RingsWithin image number n
+  rings_within number n =
+      let both = both_within number number n in (
+        λ all. record { header = (both.0 all).0; prepare = (both.0 all).1 },
+        λ rings. both.1 (rings.header, rings.prepare),
+      )
 
 -- the counters of the first k slots
 pub record CountsSlots (table : List SlotSeen) (k : ℕ) (seen : Counters) : Type 0 where
@@ -120,16 +133,16 @@ pub record CountsSlots (table : List SlotSeen) (k : ℕ) (seen : Counters) : Typ
 
 pub slots_none : (table : List SlotSeen) (seen : Counters) → seen.ring_op ≡ 0 → seen.checkpoint ≡ 0 → seen.boot ≡ 0 → CountsSlots table 0 seen
 slots_none table seen op checkpoint boot = record {
-  ring_op = subst (IsTop (λ h. h.op) table 0) (sym op) (top_none (λ h. h.op) table);
-  checkpoint = subst (IsTop (λ h. h.checkpoint) table 0) (sym checkpoint) (top_none (λ h. h.checkpoint) table);
-  boot = subst (IsTop (λ h. h.boot) table 0) (sym boot) (top_none (λ h. h.boot) table);
+  ring_op = subst (IsTop (λ h. h.op) table 0) (sym op) (top_none (λ h. h.op) (λ h. h.op) table);
+  checkpoint = subst (IsTop (λ h. h.checkpoint) table 0) (sym checkpoint) (top_none (λ h. h.checkpoint) (λ h. h.checkpoint) table);
+  boot = subst (IsTop (λ h. h.boot) table 0) (sym boot) (top_none (λ h. h.boot) (λ h. h.boot) table);
 }
 
 pub slots_more : (table : List SlotSeen) (k : ℕ) (seen : Counters) (slot : SlotSeen) → slice_get table k ≡ Some slot → CountsSlots table k seen → CountsSlots table (k + 1) (with_unit (with_unit seen slot.header) slot.prepare)
 slots_more table k seen slot at is = record {
-  ring_op = top_more (λ h. h.op) table k seen.ring_op (op_in slot.header) (op_in slot.prepare) slot at (op_is slot.header) (op_is slot.prepare) is.ring_op;
-  checkpoint = top_more (λ h. h.checkpoint) table k seen.checkpoint (checkpoint_in slot.header) (checkpoint_in slot.prepare) slot at (checkpoint_is slot.header) (checkpoint_is slot.prepare) is.checkpoint;
-  boot = top_more (λ h. h.boot) table k seen.boot (boot_in slot.header) (boot_in slot.prepare) slot at (boot_is slot.header) (boot_is slot.prepare) is.boot;
+  ring_op = top_more (λ h. h.op) (λ h. h.op) table k seen.ring_op (op_in slot.header) (op_in slot.prepare) slot at (op_is slot.header) (op_is slot.prepare) is.ring_op;
+  checkpoint = top_more (λ h. h.checkpoint) (λ h. h.checkpoint) table k seen.checkpoint (checkpoint_in slot.header) (checkpoint_in slot.prepare) slot at (checkpoint_is slot.header) (checkpoint_is slot.prepare) is.checkpoint;
+  boot = top_more (λ h. h.boot) (λ h. h.boot) table k seen.boot (boot_in slot.header) (boot_in slot.prepare) slot at (boot_is slot.header) (boot_is slot.prepare) is.boot;
 }
 
 then_iff : {A B C : Type 0} → A ↔ B → B ↔ C → A ↔ C
@@ -195,6 +208,60 @@ complete image c head seen counts alone = (
       },
 )
 
+-- ---- where prepares may have been cut off
+
+both_true : (a b : Bool) → (a && b) ≡ true → (a ≡ true) × (b ≡ true)
+both_true true b is = (refl, is)
+both_true false b is = let both : false ≡ true = is in absurd (cc)
+
+true_both : (a b : Bool) → a ≡ true → b ≡ true → (a && b) ≡ true
+true_both a b one two = ap (λ (x : Bool). x && b) one ∙ two
+
+cut_off : (top : ℕ) (h : Header) → is_cut_off top h ≡ true ↔ IsCutOff top h
+cut_off top h = (to, from)
+  where
+    to : is_cut_off top h ≡ true → IsCutOff top h
+    to is =
+        let one = both_true (nat_lt 0 h.boot) ((h.group == top + 1) && (nat_lt h.group h.group_last && nat_lt top h.op)) is in
+        let two = both_true (h.group == top + 1) (nat_lt h.group h.group_last && nat_lt top h.op) one.1 in
+        let three = both_true (nat_lt h.group h.group_last) (nat_lt top h.op) two.1 in
+        record { boot = ltb-true 0 h.boot one.0; first = eqb-true h.group (top + 1) two.0; several = ltb-true h.group h.group_last three.0; above = ltb-true top h.op three.1 }
+
+    from : IsCutOff top h → is_cut_off top h ≡ true
+    from is =
+        let three = true_both (nat_lt h.group h.group_last) (nat_lt top h.op) (lt-ltb h.group h.group_last is.several) (lt-ltb top h.op is.above) in
+        let two = true_both (h.group == top + 1) (nat_lt h.group h.group_last && nat_lt top h.op) (eq-eqb h.group (top + 1) is.first) three in
+        true_both (nat_lt 0 h.boot) ((h.group == top + 1) && (nat_lt h.group h.group_last && nat_lt top h.op)) (lt-ltb 0 h.boot is.boot) two
+
+-- a prepare binds the head exactly where its op that does isn't above it
+binds : (boot top : ℕ) (h : Header) → binding_op boot top h ≤ top ↔ (h.boot ≡ boot → BindsHead top h)
+binds boot top h = elim (cases_Bool (is_cut_off top h)) [
+  | inl cut ↦ (λ le own. inr ((cut_off top h).0 cut), λ all. omega (arith, cond-true (is_cut_off top h) 0 (in_boot boot (λ x. x.op) h) cut))
+  | inr whole ↦
+      let is : binding_op boot top h ≡ in_boot boot (λ x. x.op) h = cond-false (is_cut_off top h) 0 (in_boot boot (λ x. x.op) h) whole in (
+        λ le own. inl (own_within boot top (λ x. x.op) h (omega (arith, le, is)) own),
+        λ all. omega (arith, is, within_own boot top (λ x. x.op) h (λ own. elim (all own) [ inl low ↦ low | inr cut ↦ let both : true ≡ false = sym ((cut_off top h).1 cut) ∙ whole in absurd (cc) ])),
+      )
+]
+
+pub complete_bound : (image : Units) (c : Content) (head : ℕ) (seen : Counters) → CountsBound c.boot head image seen → IsComplete seen c.head head ↔ NotLost image c head
+complete_bound image c head seen counts = (
+  λ is.
+      let op = (counts.ring_op head).0 is.ring_op in
+      let reply = (counts.replies head).0 is.reply_top in
+      record {
+        header = λ s h shown. own_within c.boot head (λ x. x.op) h (op.header s h shown);
+        prepare = λ s p shown. (binds c.boot head p.header).0 (op.prepare s p shown);
+        superblock = is.superblock;
+        reply = λ k r shown own. (own_within c.boot head (λ x. x.op) r.header (reply.0 k r shown) own, own_within c.boot head (λ x. x.mark) r.header (reply.1 k r shown) own);
+      },
+  λ is. record {
+    ring_op = (counts.ring_op head).1 (record { header = λ s h shown. within_own c.boot head (λ x. x.op) h (is.header s h shown); prepare = λ s p shown. (binds c.boot head p.header).1 (is.prepare s p shown) });
+    reply_top = (counts.replies head).1 (λ k r shown. within_own c.boot head (λ x. x.op) r.header (λ own. (is.reply k r shown own).0), λ k r shown. within_own c.boot head (λ x. x.mark) r.header (λ own. (is.reply k r shown own).1));
+    superblock = is.superblock;
+  },
+)
+
 pub record Tells (b : Bool) (N : Type 0) : Type 0 where
   pub yes : IsTrue b ↔ (N → ⊥)
   pub no : IsFalse b ↔ N
@@ -217,11 +284,20 @@ behind_tells sh image c seen b boot sequence op slot_count found none counts boo
       | inr (inr booted) ↦ omega (arith, booted, good.boot)
     ])
 
+-- whatever is counted
+lost_by : (image : Units) (c : Content) (seen : Counters) (b : Bool) (superblock_head head : ℕ) → IsTrue b ↔ IsLost seen superblock_head head → OnFalse b (IsComplete seen superblock_head head)
+    → IsComplete seen c.head head ↔ NotLost image c head → c.head ≡ superblock_head → Tells b (NotLost image c head)
+lost_by image c seen b superblock_head head found none complete_is is =
+    let iff : IsComplete seen superblock_head head ↔ NotLost image c head = subst (λ (k : ℕ). IsComplete seen k head ↔ NotLost image c head) is complete_is in
+    tells b found none iff (λ bad good. elim bad [ inl ring ↦ omega (arith, ring, good.ring_op) | inr (inl reply) ↦ omega (arith, reply, good.reply_top) | inr (inr own) ↦ omega (arith, own, good.superblock) ])
+
 pub lost_tells : (image : Units) (c : Content) (seen : Counters) (b : Bool) (superblock_head head : ℕ) → IsTrue b ↔ IsLost seen superblock_head head → OnFalse b (IsComplete seen superblock_head head)
     → CountsOwn c.boot image seen → OwnAreAlone image c.boot → c.head ≡ superblock_head → Tells b (NotLost image c head)
-lost_tells image c seen b superblock_head head found none counts alone is =
-    let iff : IsComplete seen superblock_head head ↔ NotLost image c head = subst (λ (k : ℕ). IsComplete seen k head ↔ NotLost image c head) is (complete image c head seen counts alone) in
-    tells b found none iff (λ bad good. elim bad [ inl ring ↦ omega (arith, ring, good.ring_op) | inr (inl reply) ↦ omega (arith, reply, good.reply_top) | inr (inr own) ↦ omega (arith, own, good.superblock) ])
+lost_tells image c seen b superblock_head head found none counts alone is = lost_by image c seen b superblock_head head found none (complete image c head seen counts alone) is
+
+pub bound_tells : (image : Units) (c : Content) (seen : Counters) (b : Bool) (superblock_head head : ℕ) → IsTrue b ↔ IsLost seen superblock_head head → OnFalse b (IsComplete seen superblock_head head)
+    → CountsBound c.boot head image seen → c.head ≡ superblock_head → Tells b (NotLost image c head)
+bound_tells image c seen b superblock_head head found none counts is = lost_by image c seen b superblock_head head found none (complete_bound image c head seen counts) is
 
 -- ---- turns of the loops, by what is read at an index
 
@@ -244,7 +320,28 @@ own_turn boot table k top one two d e within first second is =
     let same : get_or table k e ≡ get_or table k d = cc in
     let counted : two ≡ max (max top (own_op boot (get_or table k d).header)) (own_op boot (get_or table k d).prepare) = second ∙ ap (λ (x : SlotSeen). max one (own_op boot x.prepare)) same ∙ ap (λ (x : ℕ). max x (own_op boot (get_or table k d).prepare)) first in
     subst (IsTop (in_boot boot (λ h. h.op)) table (k + 1)) (sym counted)
-    (top_more (in_boot boot (λ h. h.op)) table k top (own_op boot (get_or table k d).header) (own_op boot (get_or table k d).prepare) (get_or table k d) at (own_op_is boot (get_or table k d).header) (own_op_is boot (get_or table k d).prepare) is)
+    (top_more (in_boot boot (λ h. h.op)) (in_boot boot (λ h. h.op)) table k top (own_op boot (get_or table k d).header) (own_op boot (get_or table k d).prepare) (get_or table k d) at (own_op_is boot (get_or table k d).header) (own_op_is boot (get_or table k d).prepare) is)
 
 pub ops_count : (boot : ℕ) (table : List SlotSeen) (top : ℕ) (image : Units) → IsTop (in_boot boot (λ h. h.op)) table (length table) top → ShowsTable image table → CountsOps boot image top
 ops_count boot table top image is shows n = then_iff (is n) (rings_within image table shows (in_boot boot (λ h. h.op)) n)
+
+-- and of what binds the head
+pub bound_op_is : (boot top : ℕ) (r : Result FileHeader Class) → bound_op boot top r ≡ number_in (binding_op boot top) r
+bound_op_is boot top (Ok h) = refl
+bound_op_is boot top (Err class) = refl
+
+pub bound_turn : (boot head : ℕ) (table : List SlotSeen) (k top one two : ℕ) (d e : SlotSeen) → k < length table → one ≡ max top (own_op boot (get_or table k d).header) → two ≡ max one (bound_op boot head (get_or table k e).prepare)
+    → IsTopOf (in_boot boot (λ h. h.op)) (binding_op boot head) table k top → IsTopOf (in_boot boot (λ h. h.op)) (binding_op boot head) table (k + 1) two
+bound_turn boot head table k top one two d e within first second is =
+    let at : slice_get table k ≡ Some (get_or table k d) = slice_get-get_or table k d within in
+    let other : slice_get table k ≡ Some (get_or table k e) = slice_get-get_or table k e within in
+    let both : Some (get_or table k e) ≡ Some (get_or table k d) = sym other ∙ at in
+    let same : get_or table k e ≡ get_or table k d = cc in
+    let counted : two ≡ max (max top (own_op boot (get_or table k d).header)) (bound_op boot head (get_or table k d).prepare) = second ∙ ap (λ (x : SlotSeen). max one (bound_op boot head x.prepare)) same ∙ ap (λ (x : ℕ). max x (bound_op boot head (get_or table k d).prepare)) first in
+    subst (IsTopOf (in_boot boot (λ h. h.op)) (binding_op boot head) table (k + 1)) (sym counted)
+    (top_more (in_boot boot (λ h. h.op)) (binding_op boot head) table k top (own_op boot (get_or table k d).header) (bound_op boot head (get_or table k d).prepare) (get_or table k d) at (own_op_is boot (get_or table k d).header) (bound_op_is boot head (get_or table k d).prepare) is)
+
+pub bound_count : (boot head : ℕ) (table : List SlotSeen) (top : ℕ) (image : Units) → IsTopOf (in_boot boot (λ h. h.op)) (binding_op boot head) table (length table) top → ShowsTable image table → CountsBinding boot head image top
+bound_count boot head table top image is shows n =
+    let both = both_within image table shows (in_boot boot (λ h. h.op)) (binding_op boot head) n in
+    then_iff (is n) (λ all. record { header = (both.0 all).0; prepare = (both.0 all).1 }, λ rings. both.1 (rings.header, rings.prepare))

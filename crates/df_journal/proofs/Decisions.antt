@@ -1,8 +1,8 @@
 -- What the table decides of a slot is what the theory decides of the image.
-use Rattle.std.proofs.Common.{◌≡◌, ◌==◌, inl, inr, ℕ, ◌%◌, ◌<◌, ◌^◌, ◌≤◌, length, List, Option, Some, sym, ◌∙◌, ap, subst, arith}
-use Rattle.std.specs.Prelude.{Result, Ok, Err}
+use Rattle.std.proofs.Common.{◌≡◌, ◌==◌, inl, inr, ℕ, ◌%◌, ◌<◌, ◌^◌, ◌≤◌, length, List, Option, Some, None, sym, ◌∙◌, ap, subst, arith}
+use Rattle.std.specs.Prelude.{Result, Ok, Err, Bool, true, not, nat_le, nat_lt, if◌then◌else◌}
 use Rattle.std.specs.List.{slice_get}
-use Rattle.std.proofs.lemmas.Bool.{cases_eq, cond-true, cond-false, eq-eqb, ne_eqb}
+use Rattle.std.proofs.lemmas.Bool.{cases_Bool, cases_eq, cond-true, cond-false, eq-eqb, ne_eqb}
 use Rattle.df_base.proofs.Laws.{length-check_of, AreBytes-check_of}
 use Rattle.df_layout.specs.declared.damage.Class.{Class}
 use Rattle.df_layout.specs.declared.layout.Layout.{Layout}
@@ -19,15 +19,17 @@ use Rattle.df_format.proofs.Laws.{valid_belongs}
 use Rattle.df_layout.specs.declared.places.Zone.TheVariants.{WalPrepares}
 use Rattle.df_theory.specs.Units
 use Rattle.df_theory.specs.Units.{AnyUnit, HeaderPlace, IsAlone, PreparePlace, PrepareUnit}
-use Rattle.df_units.specs.Meaning.{header_of}
-use Rattle.df_units.proofs.Laws.{first_alone}
+use Rattle.df_units.specs.Meaning.{header_of, number_of}
+use Rattle.df_units.proofs.Laws.{first_alone, one_number}
 use Rattle.df_theory.specs.Cases
 use Rattle.df_buffers.specs.declared.slots.SlotSeen.{SlotSeen}
 use Rattle.df_places.specs.Units.{IsThere}
 use Rattle.df_journal.specs.Scan.{Scan}
 use Rattle.df_journal.proofs.Ops.{one_op}
-use Rattle.df_journal.specs.Seen.{HasChecks, IsOfCheck, IsOpOf, IsTaken, decision_on, seen_in}
-use Rattle.df_journal.specs.Shows.{IsHeaderThere, IsTable, ShowsHeader, ShowsPrepare, ShowsSlot, Tells}
+use Rattle.df_journal.specs.declared.table.Start.{Start}
+use Rattle.df_journal.specs.Planned.{has_header_of, named, named_by, named_on, planned, planned_on, shows_header}
+use Rattle.df_journal.specs.Seen.{HasChecks, IsOfCheck, IsOpOf, IsTaken, TakesNow, decision_on, seen_in}
+use Rattle.df_journal.specs.Shows.{IsHeaderThere, IsTable, ShowsHeader, ShowsPrepare, ShowsSlot, Tells, TellsRings}
 
 header_seen : (b o : ℕ) (x : Option AnyUnit) (r : Result Header Class) → ShowsHeader x r → Cases.seen_header b o x ≡ seen_in b o r
 header_seen b o x (Ok h) is = ap (Cases.seen_header b o) is
@@ -61,10 +63,10 @@ prepare_check layout cluster s (Err class) is = tt
 pub slot_checks : (layout : Layout) (cluster s : ℕ) (table : List SlotSeen) (seen : SlotSeen) → IsTable layout cluster table → slice_get table s ≡ Some seen → HasChecks seen
 slot_checks layout cluster s table seen is at = (header_check layout cluster s seen.header (is.each s seen at).header, prepare_check layout cluster s seen.prepare (is.each s seen at).prepare)
 
--- ---- a prepare that is taken is a unit
+-- ---- a prepare that is shown is a unit
 
-pub taken_unit : (layout : Layout) (cluster s boot op : ℕ) (table : List SlotSeen) (seen : SlotSeen) (h : Header) → IsTable layout cluster table → slice_get table s ≡ Some seen → IsTaken boot op seen h → IsThere layout cluster (place_in WalPrepares s) (Ok h)
-taken_unit layout cluster s boot op table seen h is at taken = subst (λ (r : Result Header Class). IsThere layout cluster (place_in WalPrepares s) r) taken.shown (is.each s seen at).prepare
+pub shown_unit : (layout : Layout) (cluster s : ℕ) (table : List SlotSeen) (seen : SlotSeen) (h : Header) → IsTable layout cluster table → slice_get table s ≡ Some seen → seen.prepare ≡ Ok h → IsThere layout cluster (place_in WalPrepares s) (Ok h)
+shown_unit layout cluster s table seen h is at shown = subst (λ (r : Result Header Class). IsThere layout cluster (place_in WalPrepares s) r) shown (is.each s seen at).prepare
 
 pub taken_parent : (layout : Layout) (cluster s : ℕ) (h : Header) → IsThere layout cluster (place_in WalPrepares s) (Ok h) → IsCheck h.parent
 taken_parent layout cluster s h (body, is) = is.sealed.rules.fits.parent
@@ -112,10 +114,74 @@ taken_alone layout cluster s h (body, is) none =
     let version : ObeysVersion Prepare h = subst (λ (kind : Kind). ObeysVersion kind h) in_slot.kind is.sealed.rules.version in
     first_alone Prepare h version (λ same. cc) none
 
--- the decision that is given on a slot
-pub decided_slot : (layout : Layout) (image : Units.Units) (scan : Scan) (slot op o : ℕ) (seen : SlotSeen) (d : Cases.Decision) → Tells layout image scan → slice_get scan.slots slot ≡ Some seen → IsOpOf (length scan.slots) scan.start.op slot op
+-- both of its checksums have sixteen bytes
+pub shown_checks : (layout : Layout) (cluster s : ℕ) (table : List SlotSeen) (seen : SlotSeen) (h : Header) → IsTable layout cluster table → slice_get table s ≡ Some seen → seen.prepare ≡ Ok h → IsCheck h.checksum × IsCheck h.parent
+shown_checks layout cluster s table seen h is at shown =
+    let there = shown_unit layout cluster s table seen h is at shown in
+    (taken_check layout cluster s h there, taken_parent layout cluster s h there)
+
+-- what isn't taken from the entry of a slot isn't taken from that slot
+pub not_taken : (start : Start) (op : ℕ) (table : List SlotSeen) (s t : ℕ) (seen other : SlotSeen) (h : Header) → s ≡ t → slice_get table s ≡ Some seen → slice_get table t ≡ Some other → TakesNow start op seen None → IsTaken start op other h → ⊥
+not_taken start op table s t seen other h same here there none taken =
+    let both : Some other ≡ Some seen = sym there ∙ ap (slice_get table) (sym same) ∙ here in
+    let one : other ≡ seen = cc in
+    none h (subst (λ (x : SlotSeen). IsTaken start op x h) one taken)
+
+-- ---- the decision that is given on a slot
+
+pub rings_of : (layout : Layout) (image : Units.Units) (scan : Scan) → Tells layout image scan → TellsRings layout image scan
+rings_of layout image scan tells = record { table = tells.table; shows = tells.shows }
+
+-- the op that a slot is asked for is that op
+own_op : (layout : Layout) (scan : Scan) (slot op o : ℕ) → length scan.slots ≡ layout.slots → IsOpOf (length scan.slots) scan.start.op slot op → IsOpOf layout.slots scan.start.op slot o → op ≡ o
+own_op layout scan slot op o size own of = one_op layout.slots scan.start.op slot op o (subst (λ (n : ℕ). IsOpOf n scan.start.op slot op) size own) of
+
+pub decided_slot : (layout : Layout) (image : Units.Units) (scan : Scan) (slot op o : ℕ) (seen : SlotSeen) (d : Cases.Decision) → TellsRings layout image scan → slice_get scan.slots slot ≡ Some seen → IsOpOf (length scan.slots) scan.start.op slot op
     → (HasChecks seen → d ≡ decision_on scan.start.boot op seen) → IsOpOf layout.slots scan.start.op slot o → d ≡ Cases.decision layout.slots scan.start.boot image o
 decided_slot layout image scan slot op o seen d tells at own is of =
-    let same : op ≡ o = one_op layout.slots scan.start.op slot op o (subst (λ (n : ℕ). IsOpOf n scan.start.op slot op) tells.table.size own) of in
+    let same : op ≡ o = own_op layout scan slot op o tells.table.size own of in
     is (slot_checks layout scan.start.cluster slot scan.slots seen tells.table at) ∙ ap (λ (k : ℕ). decision_on scan.start.boot k seen) same
     ∙ sym (decision_is layout.slots scan.start.boot o image seen (subst (λ (k : ℕ). ShowsSlot image k seen) (sym of.slot_is) (tells.shows.each slot seen at)))
+
+-- ---- and once the head is known
+
+-- what tells two checksums apart tells their numbers apart
+pub same_sums : (a b : List ℕ) (told : Bool) → (told ≡ true → a ≡ b) → (a ≡ b → told ≡ true) → IsCheck a → IsCheck b → told ≡ (number_of a == number_of b)
+same_sums a b told to from one two = elim (cases_eq (number_of a) (number_of b)) [
+  | inl same ↦ from (one_number a b one two same) ∙ sym (eq-eqb (number_of a) (number_of b) same)
+  | inr other ↦ elim (cases_Bool told) [
+    | inl passes ↦ absurd (other (ap number_of (to passes)))
+    | inr fails ↦ fails ∙ sym (ne_eqb (number_of a) (number_of b) other)
+  ]
+]
+
+shows_is : (checksum : List ℕ) (x : Option AnyUnit) (r : Result Header Class) → ShowsHeader x r → shows_header (number_of checksum) x ≡ has_header_of checksum r
+shows_is checksum x (Ok h) is = ap (shows_header (number_of checksum)) is
+shows_is checksum x (Err class) is = ap (shows_header (number_of checksum)) is
+
+named_is : (x y : Option AnyUnit) (header prepare : Result Header Class) → ShowsHeader x header → ShowsPrepare y prepare → named x y ≡ named_by header prepare
+named_is x y header (Ok h) shows (p, is, same) =
+    ap (named x) is ∙ ap (λ (n : ℕ). Cases.Take (not (shows_header n x))) (ap (λ (g : Units.Header). g.checksum) same) ∙ ap (λ (b : Bool). Cases.Take (not b)) (shows_is h.checksum x header shows)
+named_is x y header (Err class) shows is = ap (named x) is
+
+-- what a head that is found says of the table's decision
+above_is : (n top o : ℕ) (start : Start) (image : Units.Units) (seen : SlotSeen) → ShowsSlot image (o % n) seen
+    → Cases.decided n start.boot top image o ≡ (if nat_lt top o then Cases.cut (seen_in start.boot o seen.header) (decision_on start.boot o seen) else decision_on start.boot o seen)
+above_is n top o start image seen shows =
+    let decision = decision_is n start.boot o image seen shows in
+    let header = header_seen start.boot o (image (HeaderPlace (o % n))) seen.header shows.header in
+    ap (λ (d : Cases.Decision). if nat_lt top o then Cases.cut (Cases.seen_header start.boot o (image (HeaderPlace (o % n)))) d else d) decision
+    ∙ ap (λ (x : Cases.Seen). if nat_lt top o then Cases.cut x (decision_on start.boot o seen) else decision_on start.boot o seen) header
+
+planned_is : (n top o : ℕ) (start : Start) (image : Units.Units) (seen : SlotSeen) → ShowsSlot image (o % n) seen → planned n start top image o ≡ planned_on start top o seen
+planned_is n top o start image seen shows =
+    let name = named_is (image (HeaderPlace (o % n))) (image (PreparePlace (o % n))) seen.header seen.prepare shows.header shows.prepare in
+    ap (λ (d : Cases.Decision). if nat_le o start.head then d else Cases.decided n start.boot top image o) name
+    ∙ ap (λ (d : Cases.Decision). if nat_le o start.head then named_on seen else d) (above_is n top o start image seen shows)
+
+pub planned_slot : (layout : Layout) (image : Units.Units) (scan : Scan) (slot op o top : ℕ) (seen : SlotSeen) (d : Cases.Decision) → TellsRings layout image scan → slice_get scan.slots slot ≡ Some seen → IsOpOf (length scan.slots) scan.start.op slot op
+    → (HasChecks seen → d ≡ planned_on scan.start top op seen) → IsOpOf layout.slots scan.start.op slot o → d ≡ planned layout.slots scan.start top image o
+planned_slot layout image scan slot op o top seen d tells at own is of =
+    let same : op ≡ o = own_op layout scan slot op o tells.table.size own of in
+    is (slot_checks layout scan.start.cluster slot scan.slots seen tells.table at) ∙ ap (λ (k : ℕ). planned_on scan.start top k seen) same
+    ∙ sym (planned_is layout.slots top o scan.start image seen (subst (λ (k : ℕ). ShowsSlot image k seen) (sym of.slot_is) (tells.shows.each slot seen at)))

@@ -10,7 +10,7 @@ pub use Rattle.df_theory.specs.Cases.{IsTake, decision}
 pub use Rattle.df_theory.specs.Found.{NotBehind, NotLost, slot_behind}
 pub use Rattle.df_theory.specs.Sessions.{MayAsk}
 pub use Rattle.df_theory.specs.Shape.{Shape, slots}
-pub use Rattle.df_theory.specs.Tails.{Fits}
+pub use Rattle.df_theory.specs.Tails.{Fits, FitsGroup}
 pub use Rattle.df_theory.specs.Units.{Content, Message, Units}
 pub use Rattle.df_theory.specs.View.{Checkpoint}
 pub use Rattle.df_units.specs.Meaning.{header_of, number_of}

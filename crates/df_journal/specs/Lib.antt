@@ -3,6 +3,8 @@ pub mod Seen
 pub mod Shows
 pub mod Scanned
 pub mod Counts
+pub mod Known
+pub mod Planned
 pub mod Tail
 pub mod Append
 pub mod Below

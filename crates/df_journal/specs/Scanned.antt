@@ -12,7 +12,7 @@ use Rattle.df_buffers.specs.declared.slots.SlotSeen.{SlotSeen}
 use Rattle.df_places.specs.Units.{header_at}
 use Rattle.df_journal.specs.Scan.{IsOfVersionOne, Scan, entry}
 use Rattle.df_journal.specs.Seen.{class_of}
-use Rattle.df_journal.specs.Shows.{IsSlot, IsTable, Tells}
+use Rattle.df_journal.specs.Shows.{IsSlot, IsTable, Tells, TellsRings}
 
 -- what an image shows at a slot
 abbrev pub seen_at : Layout → ℕ → Image → ℕ → SlotSeen
@@ -37,7 +37,11 @@ pub record IsScanned (layout : Layout) (told : Option Told) (scan : Scan) : Type
 abbrev pub header_first : Layout → ℕ → ℕ
 header_first layout slot = (span_of layout (place_in WalHeaders slot)).first
 
--- a table that was scanned says what the image shows, in the words of the theory; of a file of version 1
+-- a table that was scanned says what the image shows, in the words of the theory
+abbrev pub RingsAreShown : Type 0
+RingsAreShown = (layout : Layout) (t : Told) (scan : Scan) → IsScanned layout (Some t) scan → TellsRings layout (Bytes.unit_at layout scan.start.cluster t.shown) scan
+
+-- and of a file of version 1
 abbrev pub ScannedIsShown : Type 0
 ScannedIsShown = (layout : Layout) (t : Told) (scan : Scan) → IsOfVersionOne scan.start → IsScanned layout (Some t) scan → Tells layout (Bytes.unit_at layout scan.start.cluster t.shown) scan
 

@@ -1,5 +1,5 @@
 -- What is decided of a slot by what the table of slots says of it.
-use Rattle.std.specs.Prelude.{◌≡◌, ◌<◌, ◌≤◌, ◌+◌, ◌%◌, ℕ, Option, Some, None, Result, Ok, Err}
+use Rattle.std.specs.Prelude.{◌≡◌, ◌⊎◌, ◌<◌, ◌≤◌, ◌+◌, ◌%◌, ℕ, Option, Some, None, Result, Ok, Err}
 use Rattle.df_layout.specs.declared.damage.Class.{Class}
 use Rattle.df_layout.specs.declared.damage.Class.TheVariants.{Stale}
 use Rattle.df_format.specs.declared.header.Header.{Header}
@@ -7,6 +7,7 @@ use Rattle.df_format.specs.Spelling.{IsCheck}
 use Rattle.df_theory.specs.Cases.{Decision, IsTake, Nothing, Seen, case, seen as seen_of_header}
 use Rattle.df_units.specs.Meaning.{header_of}
 use Rattle.df_buffers.specs.declared.slots.SlotSeen.{SlotSeen}
+use Rattle.df_journal.specs.declared.table.Start.{Start}
 
 -- what a ring shows, where the op is wanted in this boot
 abbrev pub seen_in : ℕ → ℕ → Result Header Class → Seen
@@ -26,17 +27,25 @@ IsOfCheck (Err class) = Unit {0}
 abbrev pub HasChecks : SlotSeen → Type 0
 HasChecks seen = IsOfCheck seen.header × IsOfCheck seen.prepare
 
--- the prepare with this header is taken
-pub record IsTaken (boot op : ℕ) (seen : SlotSeen) (h : Header) : Type 0 where
+-- the prepare with this header is taken: above the head that the superblock names by the table, and up to that head, where its checksum is known, as it is shown
+pub record IsTaken (start : Start) (op : ℕ) (seen : SlotSeen) (h : Header) : Type 0 where
   pub shown : seen.prepare ≡ Ok h
   pub op_is : h.op ≡ op
-  pub boot_is : h.boot ≡ boot
-  pub take : IsTake (decision_on boot op seen)
+  pub take : start.head < op → IsTake (decision_on start.boot op seen)
+
+-- that op's prepare may be taken from the slot: the superblock names it, or the table takes it
+abbrev pub MayTake : Start → ℕ → SlotSeen → Type 0
+MayTake start op seen = (op ≤ start.head) ⊎ IsTake (decision_on start.boot op seen)
+
+-- the prepare that is shown, if it has the op
+abbrev pub ShowsNow : ℕ → SlotSeen → Option Header → Type 0
+ShowsNow op seen None = (h : Header) → seen.prepare ≡ Ok h → h.op ≡ op → ⊥
+ShowsNow op seen (Some h) = (seen.prepare ≡ Ok h) × (h.op ≡ op)
 
 -- as an answer
-abbrev pub TakesNow : ℕ → ℕ → SlotSeen → Option Header → Type 0
-TakesNow boot op seen None = IsTake (decision_on boot op seen) → ⊥
-TakesNow boot op seen (Some h) = IsTaken boot op seen h
+abbrev pub TakesNow : Start → ℕ → SlotSeen → Option Header → Type 0
+TakesNow start op seen None = (h : Header) → IsTaken start op seen h → ⊥
+TakesNow start op seen (Some h) = IsTaken start op seen h
 
 -- the class of a slot where another unit is wanted
 abbrev pub class_of : Result Header Class → Class

@@ -47,7 +47,12 @@ pub record IsTable (layout : Layout) (cluster : ℕ) (table : List SlotSeen) : T
   pub size : length table ≡ layout.slots
   pub each : (s : ℕ) (seen : SlotSeen) → slice_get table s ≡ Some seen → IsSlot layout cluster s seen
 
--- the table, which is one of this layout, says what the rings of an image show, of a file of version 1
+-- the table, which is one of this layout, says what the rings of an image show
+pub record TellsRings (layout : Layout) (image : Units.Units) (scan : Scan) : Type 0 where
+  pub table : IsTable layout scan.start.cluster scan.slots
+  pub shows : ShowsTable image scan.slots
+
+-- the same, of a file of version 1
 pub record Tells (layout : Layout) (image : Units.Units) (scan : Scan) : Type 0 where
   pub version : IsOfVersionOne scan.start
   pub table : IsTable layout scan.start.cluster scan.slots

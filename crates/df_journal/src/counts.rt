@@ -1,12 +1,13 @@
 // The greatest numbers of the units in the two rings, and what they say of a state with those of the replies.
-ghost use Rattle.std.specs.Prelude.{◌≡◌, ◌↔◌, IsTrue, IsFalse, max};
+ghost use Rattle.std.specs.Prelude.{◌≡◌, ◌↔◌, ◌<◌, ◌^◌, IsTrue, IsFalse, max};
 ghost use Rattle.std.specs.Bool.{OnFalse};
 ghost use Rattle.df_stamps.specs.Evidence.{IsComplete};
-ghost use Rattle.df_journal.specs.Below.{Content, Units, Shape, slots as shape_slots, NotBehind, NotLost};
+ghost use Rattle.df_journal.specs.Below.{Content, Units, Shape, slots as shape_slots, NotBehind, NotLost, header_of};
 ghost use Rattle.df_journal.specs.Shows.{ShowsTable};
-ghost use Rattle.df_journal.specs.Counts.{CountsAll, CountsOps, CountsOwn, CountsRings, OwnAreAlone, boot_in, checkpoint_in, op_in, own_op, with_unit};
+ghost use Rattle.df_journal.specs.Counts.{CountsAll, CountsBinding, CountsBound, CountsOps, CountsOwn, CountsRings, OwnAreAlone, boot_in, bound_op, checkpoint_in, is_cut_off, op_in, own_op, with_unit};
 
 use crate::SlotTable;
+use crate::groups::{group_first, group_last};
 use df_format::Header;
 use df_layout::Class;
 use df_stamps::{Counters, behind, lost};
@@ -90,6 +91,58 @@ pub fn ring_top(found: &SlotTable, boot: u64) -> u64
     top
 }
 
+// Whether a prepare is of a group of several that begins right above this op, and so was cut off there.
+fn is_cut_off(header: &Header, top: u64) -> bool
+    requires { top < 2 ^ 63 }
+    ensures { result ≡ is_cut_off top (header_of header.now) }
+{
+    let first = group_first(header);
+    header.boot > 0 && first == top + 1 && first < group_last(header) && header.op > top
+}
+
+// The op of a prepare that binds the head in this boot, 0 of any other.
+fn bound_op(seen: &Result<Header, Class>, boot: u64, top: u64) -> u64
+    requires { top < 2 ^ 63 }
+    ensures { result ≡ bound_op boot top seen.now }
+{
+    match seen {
+        Ok(header) => {
+            if header.boot != boot || is_cut_off(header, top) {
+                0
+            } else {
+                header.op
+            }
+        }
+        Err(_) => 0,
+    }
+}
+
+// The greater of a number and the op of a prepare that binds the head.
+fn raised_bound(greatest: u64, seen: &Result<Header, Class>, boot: u64, top: u64) -> u64
+    requires { top < 2 ^ 63 }
+    ensures { result ≡ max greatest (bound_op boot top seen.now) }
+{
+    greatest.max(bound_op(seen, boot, top))
+}
+
+/// The greatest op that binds the head in this boot, 0 where none does, where the head that is found is `top`: of a header of this
+/// boot, and of a prepare of it that wasn't cut off with its group above that head.
+pub fn bound_top(found: &SlotTable, boot: u64, top: u64) -> u64
+    requires { top < 2 ^ 63 }
+    ensures { (image : Units) → ShowsTable image found.now.slots → CountsBinding boot top image result }
+{
+    let mut greatest = 0;
+    for slot in &found.slots {
+        greatest = raised_bound(
+            raised(greatest, &slot.header, boot),
+            &slot.prepare,
+            boot,
+            top,
+        );
+    }
+    greatest
+}
+
 /// Whether a unit is of a later checkpoint than that of this sequence and op, or of a later boot.
 pub fn is_behind(seen: &Counters, sequence: u64, op: u64, slots: u32, boot: u64) -> bool
     ensures behind { (sh : Shape) (image : Units) (c : Content) → CountsAll image seen.now → c.boot ≡ boot → c.sequence ≡ sequence → c.op ≡ op → shape_slots sh ≡ slots
@@ -100,14 +153,18 @@ pub fn is_behind(seen: &Counters, sequence: u64, op: u64, slots: u32, boot: u64)
     behind(seen, sequence, op, slots, boot)
 }
 
-/// Whether a unit of the superblock's boot shows an op above the head; the counters are those of this boot's own units, and each
-/// of its prepares is a group by itself.
+/// Whether a unit of the superblock's boot shows an op above the head; the counters are those of this boot's own units, prepares
+/// aside that were cut off with their group above that head. Where each prepare of the boot is a group by itself, none was.
 pub fn is_lost(own: &Counters, superblock_head: u64, head: u64) -> bool
     ensures lost { (image : Units) (c : Content) → CountsOwn c.boot image own.now → OwnAreAlone image c.boot → c.head ≡ superblock_head
         → IsTrue result ↔ (NotLost image c head → ⊥) }
     ensures none { (image : Units) (c : Content) → CountsOwn c.boot image own.now → OwnAreAlone image c.boot → c.head ≡ superblock_head
         → IsFalse result ↔ NotLost image c head }
     ensures counters { OnFalse result (IsComplete own.now superblock_head head) }
+    ensures bound { (image : Units) (c : Content) → CountsBound c.boot head image own.now → c.head ≡ superblock_head
+        → IsTrue result ↔ (NotLost image c head → ⊥) }
+    ensures unbound { (image : Units) (c : Content) → CountsBound c.boot head image own.now → c.head ≡ superblock_head
+        → IsFalse result ↔ NotLost image c head }
 {
     lost(own, superblock_head, head)
 }

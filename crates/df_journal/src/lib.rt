@@ -5,6 +5,10 @@
 mod appends;
 mod counts;
 mod fits;
+mod groups;
+mod known;
+mod plans;
+mod reach;
 mod reads;
 mod seen;
 mod settling;
@@ -12,7 +16,9 @@ mod table;
 mod tail;
 
 pub use appends::{append, put};
-pub use counts::{count_rings, is_behind, is_lost, ring_top};
+pub use counts::{bound_top, count_rings, is_behind, is_lost, ring_top};
+pub use known::{lacking_known, slot_of};
+pub use reach::{Reach, find_reach};
 pub use reads::{scan, scanned_is_shown};
 pub use settling::settle;
 pub use table::{SlotTable, Start};

@@ -3,8 +3,10 @@ ghost use Rattle.std.specs.Prelude.{◌≡◌, ◌<◌, ◌≤◌, ◌^◌, ℕ,
 ghost use Rattle.df_journal.specs.Below.{Layout as AnyLayout, Units, decision as decided, decision_of};
 ghost use Rattle.df_journal.specs.Scan.{entry, with_slot};
 ghost use Rattle.df_journal.specs.Seen.{IsOpOf, class_of, header_of_seen};
-ghost use Rattle.df_journal.specs.Shows.{Tells};
+ghost use Rattle.df_journal.specs.Planned.{planned};
+ghost use Rattle.df_journal.specs.Shows.{Tells, TellsRings};
 
+use crate::plans::planned_of;
 use crate::seen::decision_on;
 use df_buffers::SlotSeen;
 use df_cases::Decision;
@@ -119,6 +121,8 @@ impl SlotTable {
         requires { slot < length self.now.slots }
         ensures model { (layout : AnyLayout) (image : Units) (o : ℕ) → Tells layout image self.now → IsOpOf layout.slots self.now.start.op slot o
             → decision_of result ≡ decided layout.slots self.now.start.boot image o }
+        ensures rings { (layout : AnyLayout) (image : Units) (o : ℕ) → TellsRings layout image self.now → IsOpOf layout.slots self.now.start.op slot o
+            → decision_of result ≡ decided layout.slots self.now.start.boot image o }
     {
         let op = op_of(
             self.slots.as_slice().len() as u64,
@@ -126,6 +130,22 @@ impl SlotTable {
             u64::from(slot),
         );
         decision_on(&self.seen(slot), op, self.start.boot)
+    }
+
+    /// What is decided of a slot once the head is known, which isn't below the one that the superblock names. Up to that one the
+    /// slot's prepare is known by its checksum: it is taken, and the header mended where it isn't that prepare's. Above it the
+    /// table decides, and above the head a prepare that it would take was cut off with its group.
+    pub fn planned(&self, slot: u32, head: u64) -> Decision
+        requires { slot < length self.now.slots }
+        ensures model { (layout : AnyLayout) (image : Units) (o : ℕ) → TellsRings layout image self.now → IsOpOf layout.slots self.now.start.op slot o
+            → decision_of result ≡ planned layout.slots self.now.start head image o }
+    {
+        let op = op_of(
+            self.slots.as_slice().len() as u64,
+            self.start.op,
+            u64::from(slot),
+        );
+        planned_of(&self.seen(slot), &self.start, op, head)
     }
 
     /// The header of the valid prepare that is shown in a slot.

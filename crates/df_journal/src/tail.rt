@@ -1,12 +1,11 @@
-// The tail: the longest list of taken prepares behind the checkpoint, each of which fits what precedes it.
+// The tail: the longest list of taken prepares behind the checkpoint, each of which fits what precedes it. Here is the end of one,
+// and the search of a file of version 1, where each prepare is a group by itself.
 ghost use Rattle.std.specs.Prelude.{◌≡◌, ◌≤◌, ◌<◌, ◌+◌, ◌^◌, List, [], IfSome};
 ghost use Rattle.df_journal.specs.Below.{IsCheck, Session, Message, Units, Shape, slots, slot_behind as blamed, Checkpoint};
 ghost use Rattle.df_journal.specs.Shows.{IsTable, Tells};
-ghost use Rattle.df_journal.specs.Tail.{AreNumbered, AreUnstored, EndsAt, FindsTail, GoesOn, IsSound, StartsAt, tail_to};
+ghost use Rattle.df_journal.specs.Tail.{AreNumbered, AreUnstored, EndsAt, FindsTail, StartsAt, tail_to};
 
-use crate::SlotTable;
-use crate::fits::fits;
-use crate::seen::taken;
+use crate::{SlotTable, find_reach};
 use df_base::Check;
 use df_format::Header;
 use df_layout::Layout;
@@ -22,7 +21,7 @@ pub struct Tail {
 }
 
 // The end of a tail without prepares.
-fn empty_tail(op: u64, checksum: &Check) -> Tail
+pub(crate) fn empty_tail(op: u64, checksum: &Check) -> Tail
     ensures { result ≡ record { op = op; checksum = checksum.now; mark = 0 } }
 {
     let checksum = *checksum;
@@ -34,7 +33,7 @@ fn empty_tail(op: u64, checksum: &Check) -> Tail
 }
 
 // The end of a tail whose last prepare has this header.
-fn tail_to(header: &Header) -> Tail
+pub(crate) fn tail_to(header: &Header) -> Tail
     ensures { result ≡ tail_to header.now }
 {
     let checksum = header.checksum;
@@ -45,33 +44,7 @@ fn tail_to(header: &Header) -> Tail
     }
 }
 
-// The header of the prepare that comes next in this boot, if there is one.
-fn next(
-    layout: &Layout,
-    found: &SlotTable,
-    boot: u64,
-    last: &Tail,
-    sessions: &SessionTable,
-) -> Option<Header>
-    requires table { IsTable layout.now found.now.start.cluster found.now.slots }
-    requires op { last.now.op < 2 ^ 63 }
-    requires checksum { IsCheck last.now.checksum }
-    requires places { sessions.now.max ≡ layout.now.clients }
-    ensures next { GoesOn layout.now boot found.now.slots last.now sessions.now.sessions result }
-    ensures op { IfSome result (λ h. h.op ≡ last.now.op + 1) }
-    ensures sound { IfSome result (IsSound sessions.now) }
-{
-    let op = last.op + 1;
-    let seen = found.seen((op % u64::from(layout.slots)) as u32);
-    let header = taken(&seen, op, boot)?;
-    if fits(last, sessions, layout.clients, &header) {
-        Some(header)
-    } else {
-        None
-    }
-}
-
-/// The end of the tail behind the checkpoint that a scan started from, whose prepare has this checksum (zeros where its op is
+/// The end of the tail behind the checkpoint that a scan of a file of version 1 started from, whose prepare has this checksum (zeros where its op is
 /// 0). The sessions, at first the checkpoint's, become those after the tail.
 pub fn find_tail(
     layout: &Layout,
@@ -94,19 +67,7 @@ pub fn find_tail(
     ensures unstored { AreUnstored sessions.old.sessions → AreUnstored sessions.new.sessions }
     ensures numbered { AreNumbered sessions.old.sessions → AreNumbered sessions.new.sessions }
 {
-    let first = found.start.op;
-    let boot = found.start.boot;
-    let mut last = empty_tail(first, checksum);
-    while last.op - first < u64::from(layout.slots) {
-        match next(layout, found, boot, &last, sessions) {
-            Some(header) => {
-                sessions.apply(header.client, header.request, header.op);
-                last = tail_to(&header);
-            }
-            None => return last,
-        }
-    }
-    last
+    find_reach(layout, found, checksum, sessions).tail
 }
 
 /// The slot that is blamed where something was lost behind a tail: that of the next op. Its class is the table's.

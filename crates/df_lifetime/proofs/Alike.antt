@@ -14,7 +14,7 @@ use Rattle.df_model.specs.Memory.{Memory, memory_of}
 use Rattle.df_model.specs.Work.{opened}
 use Rattle.df_replica.specs.Below.{DataFile, IsOpened, State as Replica, memory, shape, spelling}
 use Rattle.df_replica.specs.Reading.{shown_of}
-use Rattle.df_replica.proofs.Laws.{one_super, same_file}
+use Rattle.df_replica.proofs.Laws.{one_super, same_file, super_shown}
 use Rattle.df_session.specs.Below.{AgreeShown}
 use Rattle.df_top.specs.OneText.{ShowSame}
 
@@ -23,14 +23,14 @@ module _ (layout : Layout) (a b : Image) (same : ShowSame layout a b) where
   units_alike cluster i place = same.units cluster place i
 
   module _ (s u : Replica) (one : IsOpened layout a s) (other : IsOpened layout b u) where
-    chosen : IsChosen (content_at b) one.has.super.content
-    chosen = subst (λ (shown : ℕ → Option Content). IsChosen shown one.has.super.content) (λ i n. same.copies n i) one.has.super.chosen
-
     pub fields_alike : s.fields ≡ u.fields
-    fields_alike = one_super b s.fields u.fields (record { content = one.has.super.content; chosen = chosen; fields = one.has.super.fields; usable = one.has.super.usable }) other.has.super
+    fields_alike =
+        let own = super_shown layout a s one in
+        let chosen : IsChosen (content_at b) own.content = subst (λ (shown : ℕ → Option Content). IsChosen shown own.content) (λ i n. same.copies n i) own.chosen in
+        one_super b s.fields u.fields (record { content = own.content; chosen = chosen; fields = own.fields; usable = own.usable }) (super_shown layout b u other)
 
     pub file_alike : s.file ≡ u.file
-    file_alike = same_file s.file u.file (one.of ∙ sym other.of) (sym one.has.cluster ∙ ap (λ (f : SuperFields). f.cluster) fields_alike ∙ other.has.cluster)
+    file_alike = same_file s.file u.file (one.of.layout_is ∙ sym other.of.layout_is) (sym one.has.cluster ∙ ap (λ (f : SuperFields). f.cluster) fields_alike ∙ other.has.cluster) (one.of.version_is ∙ sym other.of.version_is)
 
     pub view_alike : one.view ≡ other.view
     view_alike =

@@ -26,7 +26,8 @@ pub one_file : (file : DataFile) (layout : Layout) (image : Image) (view : View)
 one_file file layout image view s same found is =
     let chosen : IsChosen (unit_at layout s.file.cluster image) view.checkpoint.content = chosen_for file.layout layout file.cluster s.file.cluster image view.checkpoint.content found.chosen in
     let one : is.view.checkpoint.content ≡ view.checkpoint.content = one_chosen_law (unit_at layout s.file.cluster image) is.view.checkpoint.content view.checkpoint.content is.found.chosen chosen in
-    same_file s.file file (is.of ∙ same) (sym is.found.checkpoint.tests.cluster ∙ ap (λ (c : Content). c.cluster) one ∙ found.checkpoint.tests.cluster)
+    same_file s.file file (is.of.layout_is ∙ same) (sym is.found.checkpoint.tests.cluster ∙ ap (λ (c : Content). c.cluster) one ∙ found.checkpoint.tests.cluster)
+    (sym is.found.checkpoint.tests.version ∙ ap (λ (c : Content). c.version) one ∙ found.checkpoint.tests.version)
 
 -- ---- one thing is told
 

@@ -27,10 +27,10 @@ use Rattle.df_lifetime.proofs.Next.{stays}
 
 -- ---- a state that is found makes sense
 
-pub start_makes_sense : (file : DataFile) (image : Image) (view : View) → IsImage image → IsFound (shape file) (unit_at file.layout file.cluster image) view → IsWork (shape file) (spelling file) (start_of file image view)
-start_makes_sense file image view whole found =
+pub start_makes_sense : (file : DataFile) (image : Image) (view : View) → file.version ≡ 1 → IsImage image → IsFound (shape file) (unit_at file.layout file.cluster image) view → IsWork (shape file) (spelling file) (start_of file image view)
+start_makes_sense file image view version whole found =
     let choice = chosen_choice file.layout file.cluster image view.checkpoint.content whole found.chosen in
-    found_law (shape file) (spelling file) (unit_at file.layout file.cluster image) view (codec_of file) (record { version = refl; names = names_none choice.0 view.checkpoint.content choice.1 found.checkpoint.tests.version })
+    found_law (shape file) (spelling file) (unit_at file.layout file.cluster image) view (codec_of file) (record { version = version; names = names_none choice.0 view.checkpoint.content choice.1 (found.checkpoint.tests.version ∙ version) })
     (of_places file.layout file.cluster file.named (parse_of (layout_of file.layout)) image whole) found
 
 -- ---- what was answered stays, whatever is done next
@@ -63,9 +63,9 @@ module _ (file : DataFile) where
 
   -- ---- a session
 
-  module _ (c : Chapter) (acts : List Act) (v u : View) (goes : GoesBy file c acts v u) where
+  module _ (version : file.version ≡ 1) (c : Chapter) (acts : List Act) (v u : View) (goes : GoesBy file c acts v u) where
     work : IsWork (shape file) (spelling file) (start_of file c.shown v)
-    work = start_makes_sense file c.shown v goes.whole goes.found
+    work = start_makes_sense file c.shown v version goes.whole goes.found
 
     inputs : AreInputs (c.answered ++ goes.came.more)
     inputs =
@@ -91,18 +91,18 @@ module _ (file : DataFile) where
   none_there view (a ∷ acts) answers none no_answers = absurd (cc)
 
   -- what was answered in earlier sessions
-  all_before : (c : Chapter) (v u : View) (chapters : List Chapter) → LeadsTo file c v u → AllThere v chapters → AllThere u chapters
-  all_before c v u [] leads there = tt
-  all_before c v u (d ∷ chapters) (inl is) there = (subst (λ (x : View). AreThere x d.answered d.answers) (sym is.same) there.0, all_before c v u chapters (inl is) there.1)
-  all_before c v u (d ∷ chapters) (inr goes) there = (before_there c goes.0 v u goes.1 d.answered d.answers there.0, all_before c v u chapters (inr goes) there.1)
+  all_before : file.version ≡ 1 → (c : Chapter) (v u : View) (chapters : List Chapter) → LeadsTo file c v u → AllThere v chapters → AllThere u chapters
+  all_before version c v u [] leads there = tt
+  all_before version c v u (d ∷ chapters) (inl is) there = (subst (λ (x : View). AreThere x d.answered d.answers) (sym is.same) there.0, all_before version c v u chapters (inl is) there.1)
+  all_before version c v u (d ∷ chapters) (inr goes) there = (before_there version c goes.0 v u goes.1 d.answered d.answers there.0, all_before version c v u chapters (inr goes) there.1)
 
-  own_there : (c : Chapter) (v u : View) → LeadsTo file c v u → AreThere u c.answered c.answers
-  own_there c v u (inl is) = none_there u c.answered c.answers is.none is.no_answers
-  own_there c v u (inr goes) = answered_there c goes.0 v u goes.1
+  own_there : file.version ≡ 1 → (c : Chapter) (v u : View) → LeadsTo file c v u → AreThere u c.answered c.answers
+  own_there version c v u (inl is) = none_there u c.answered c.answers is.none is.no_answers
+  own_there version c v u (inr goes) = answered_there version c goes.0 v u goes.1
 
-  all_there : (chapters : List Chapter) (u : View) → MayHave file chapters u → AllThere u chapters
-  all_there [] u had = tt
-  all_there (c ∷ chapters) u had = (own_there c had.0 u had.2, all_before c had.0 u chapters had.2 (all_there chapters had.0 had.1))
+  all_there : file.version ≡ 1 → (chapters : List Chapter) (u : View) → MayHave file chapters u → AllThere u chapters
+  all_there version [] u had = tt
+  all_there version (c ∷ chapters) u had = (own_there version c had.0 u had.2, all_before version c had.0 u chapters had.2 (all_there version chapters had.0 had.1))
 
 pub acknowledged_is_found : AcknowledgedIsFound
 acknowledged_is_found file t chapters view life chance found =
@@ -110,4 +110,4 @@ acknowledged_is_found file t chapters view life chance found =
     let shows : now t.log ≡ t.shown = λ i sector. sym (goes.may.honest.shows sector) i in
     let there : IsFound (shape file) (unit_at file.layout file.cluster t.shown) goes.view = subst (λ (image : Image). IsFound (shape file) (unit_at file.layout file.cluster image) goes.view) shows goes.may.found in
     let one : goes.view ≡ view = one_found_law (shape file) (unit_at file.layout file.cluster t.shown) goes.view view there found in
-    subst (λ (x : View). AllThere x chapters) one (all_there file chapters goes.view goes.had)
+    subst (λ (x : View). AllThere x chapters) one (all_there file goes.may.version chapters goes.view goes.had)

@@ -19,7 +19,7 @@ use Rattle.df_units.specs.Bytes.{unit_at}
 use Rattle.df_model.specs.Commands.{Answer}
 use Rattle.df_model.specs.Sense.{IsWork}
 use Rattle.df_model.specs.Work.{Work, kept}
-use Rattle.df_replica.specs.Below.{DataFile, begun, shape, spelling, told_after}
+use Rattle.df_replica.specs.Below.{DataFile, State, begun, shape, spelling, told_after}
 use Rattle.df_replica.specs.Following.{MayOpen}
 use Rattle.df_replica.specs.HeldBlocks.{AreInputs}
 use Rattle.df_replica.specs.Serving.{Firm, Grade, StandsFor, Whole, format}
@@ -55,7 +55,7 @@ take_inputs k acts more inputs = subst AreInputs (sym (front_and_rest k acts mor
 
 -- ---- the next open
 
-module _ (file : DataFile) (g : Grade) (w : Work) (work : IsWork (shape file) (spelling file) w) where
+module _ (file : DataFile) (g : Grade) (w : Work) (work : IsWork (shape file) (spelling file) w) (version : file.version ≡ 1) where
   -- what was answered is in the view behind it
   answers_there : (acts : List Act) (answers : List Answer) (more rest : List Act) → answers ≡ answers_of file w acts → AreInputs (acts ++ (more ++ rest)) → AreThere (kept (work_after file w (acts ++ more))) acts answers
   answers_there acts answers more rest are inputs =
@@ -74,7 +74,7 @@ module _ (file : DataFile) (g : Grade) (w : Work) (work : IsWork (shape file) (s
           more = more;
           rest = rest;
           some = some;
-          may = record { safe = safe; honest = honest; found = (found_law (shape file) ((format file).unit_at (now n.log)) view).0 both.0; no_chance = chance };
+          may = record { version = version; safe = safe; honest = honest; found = (found_law (shape file) ((format file).unit_at (now n.log)) view).0 both.0; no_chance = chance };
           there = answers_there acts answers more rest are (subst (λ (l : List Act). AreInputs (acts ++ l)) some inputs);
           stands = subst (λ (image : Image). StandsFor g (unit_at file.layout file.cluster image) view) shows both.1;
         }
@@ -93,7 +93,7 @@ module _ (file : DataFile) (g : Grade) (w : Work) (work : IsWork (shape file) (s
           more = some.front;
           rest = some.rest;
           some = some.are;
-          may = stopped_may_open file view m changes mid.safe honest loose chance both.0;
+          may = stopped_may_open file view m changes version mid.safe honest loose chance both.0;
           there = answers_there acts answers some.front some.rest are (subst (λ (l : List Act). AreInputs (acts ++ l)) some.are inputs);
           stands = subst (λ (now_shown : Image). StandsFor g (unit_at file.layout file.cluster (changed changes now_shown)) view) shows both.1;
         }
@@ -122,7 +122,7 @@ module _ (file : DataFile) (g : Grade) (view : View) (t base : Told) (same : bas
   start = start_of file t.shown view
 
   work : IsWork (shape file) (spelling file) start
-  work = start_makes_sense file t.shown view (subst IsImage same (safe_is_not_refused file view base may).0) found_shown
+  work = start_makes_sense file t.shown view may.version (subst IsImage same (safe_is_not_refused file view base may).0) found_shown
 
   module _ (mending : List Event) (c : CallsMade) (keeps : KeepsFile file g start base c.acts c.answers c.failed (over mending (events_made c) base)) (answered : KeepsAnswered file g start (over mending [] base) c)
       (from : c.old ≡ after_all mending (Some (did Sync t))) (to : c.new ≡ after_all (events_made c) c.old) where
@@ -143,7 +143,7 @@ module _ (file : DataFile) (g : Grade) (view : View) (t base : Told) (same : bas
 
     ended : NoChanceOf (format file) last.log (now last.log) → NextFinds file g start c.acts c.answers (list_of c.failed) last
     ended chance =
-        next_ended file g start work c.acts c.answers c.failed last (moments last.log (record { since = grew; until = extends_self last.log })).safe (subst IsHonest after_is keeps.honest)
+        next_ended file g start work may.version c.acts c.answers c.failed last (moments last.log (record { since = grew; until = extends_self last.log })).safe (subst IsHonest after_is keeps.honest)
         (subst (λ (x : Told). LeavesAll file g start c.acts c.failed x) after_is keeps.left) keeps.answered inputs chance
 
     midway : (k : ℕ) (m : Told) → IsMoment (did Sync base).log last.log m.log → AreAnswered k mending base m.log c → IsMidway file g (work_after file start (take k c.acts)) (drop k c.acts ++ list_of c.failed) m.log
@@ -154,7 +154,7 @@ module _ (file : DataFile) (g : Grade) (view : View) (t base : Told) (same : bas
     stopped : (k : ℕ) (m : Told) (changes : List (ℕ × List ℕ)) → IsMoment (did Sync base).log last.log m.log → AreAnswered k mending base m.log c → IsHonest m → AreLoose m.log.events changes → NoChanceOf (format file) m.log (changed changes (now m.log))
         → NextFinds file g start (take k c.acts) (take k c.answers) (drop k c.acts ++ list_of c.failed) (did (Stop changes) m)
     stopped k m changes moment were honest loose chance =
-        next_stopped file g start work (take k c.acts) (take k c.answers) (ap (take k) keeps.answered ∙ first_answers file k start c.acts) (drop k c.acts ++ list_of c.failed) (take_inputs k c.acts (list_of c.failed) inputs)
+        next_stopped file g start work may.version (take k c.acts) (take k c.answers) (ap (take k) keeps.answered ∙ first_answers file k start c.acts) (drop k c.acts ++ list_of c.failed) (take_inputs k c.acts (list_of c.failed) inputs)
         m changes (midway k m moment were) honest loose chance
 
     -- the disk shows what the base tells
@@ -183,10 +183,14 @@ scripts_keep_on g file view t base old new status pace found serves same may sta
 pub runs_keep_on : RunsKeepOn
 runs_keep_on g file view t base old new status seed count found works same may stands = calls_keep_on g file view t base found (run_calls works.worked) works.calls refl works.calls.adds same may stands
 
+-- the file of what was opened is of its version
+of_one : (file : DataFile) (s : State) → s.file ≡ file → s.file.version ≡ 1 → file.version ≡ 1
+of_one file s same version = ap (λ (f : DataFile). f.version) (sym same) ∙ version
+
 pub hurt_scripts_keep : HurtScriptsKeep
 hurt_scripts_keep g file view t old new status pace found serves had same stands =
-    scripts_keep_on g file had.found t (begun t) old new status pace found serves refl (begun_may_open file had.found t (had.begins same)) stands
+    scripts_keep_on g file had.found t (begun t) old new status pace found serves refl (begun_may_open file had.found t (of_one file found.replica had.of found.is_opened.of.version_is) (had.begins same)) stands
 
 pub hurt_runs_keep : HurtRunsKeep
 hurt_runs_keep g file view t old new status seed count found works had same stands =
-    runs_keep_on g file had.found t (begun t) old new status seed count found works refl (begun_may_open file had.found t (had.begins same)) stands
+    runs_keep_on g file had.found t (begun t) old new status seed count found works refl (begun_may_open file had.found t (of_one file found.replica had.of found.is_opened.of.version_is) (had.begins same)) stands

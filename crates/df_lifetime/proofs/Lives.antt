@@ -26,10 +26,11 @@ use Rattle.df_model.specs.declared.errors.OpenError.TheVariants.{NotFormatted}
 use Rattle.df_replica.specs.Below.{IsOpened, State as Replica, shape, DataFile, IsNotRefused, told_after}
 use Rattle.df_replica.specs.Following.{MayOpen}
 use Rattle.df_replica.specs.HeldBlocks.{AreInputs}
+use Rattle.df_replica.specs.Making.{file_of}
 use Rattle.df_replica.specs.Opened.{Mends, MendsPartly, StopsOpening}
 use Rattle.df_replica.specs.Serving.{Grade, IsGoodFor, StandsFor, Whole, format}
 use Rattle.df_replica.specs.Session.{Act, HasView, IsMidway, work_after}
-use Rattle.df_replica.proofs.Laws.{added_is_told, good_left, good_safe, safe_is_not_refused}
+use Rattle.df_replica.proofs.Laws.{added_is_told, good_left, good_safe, layout_shown, safe_is_not_refused}
 use Rattle.df_session.specs.Found.{FoundFile, no_calls}
 use Rattle.df_session.specs.Laws.{CallsKeep}
 use Rattle.df_session.specs.Links.{CallsMade, events_made, list_of}
@@ -90,8 +91,8 @@ module _ (file : DataFile) (chapters : List Chapter) (t : Told) (is : IsInOrder 
   -- what was opened is the file, in whatever rooms
   one_opened : (layout : Layout) (s : Replica) → IsOpened layout t.shown s → s.file ≡ file
   one_opened layout s opened =
-      let own : s.file.layout ≡ file.layout = answers.1.layout s.file.layout (record { fields = s.fields; super = opened.has.super; numbers = opened.has.layout }) in
-      one_file file layout t.shown view s (sym opened.of ∙ own) found_shown opened
+      let own : s.file.layout ≡ file.layout = answers.1.layout s.file.layout (layout_shown layout t.shown s opened) in
+      one_file file layout t.shown view s (sym opened.of.layout_is ∙ own) found_shown opened
 
   -- ---- the disk failed within the mending
 
@@ -372,7 +373,7 @@ left_by log changes is loose = record {
   kept = λ sector firm. changed_kept log.events changes (now log) sector loose firm;
 }
 
-module _ (file : DataFile) (chapters : List Chapter) (t : Told) (safe : IsSafeDisk (format file) (shape file) t.log) (honest : IsHonest t) (changes : List (ℕ × List ℕ)) (loose : AreLoose t.log.events changes)
+module _ (file : DataFile) (chapters : List Chapter) (t : Told) (version : file.version ≡ 1) (safe : IsSafeDisk (format file) (shape file) t.log) (honest : IsHonest t) (changes : List (ℕ × List ℕ)) (loose : AreLoose t.log.events changes)
     (chance : NoChanceOf (format file) t.log (changed changes (now t.log))) (there : Has file chapters (changed changes (now t.log))) where
   rests : RestsOn (shape file) (units_log (format file) (did (Stop changes) t).log) there.view
   rests = disk_stop_law (format file) (shape file) there.view t.log changes safe loose chance there.held
@@ -383,7 +384,7 @@ module _ (file : DataFile) (chapters : List Chapter) (t : Told) (safe : IsSafeDi
 
   stopped_order : IsInOrder file chapters (did (Stop changes) t)
   stopped_order =
-      in_order file chapters (did (Stop changes) t) (record { shows = λ sector i. changed changes (λ s. honest.shows s i) sector })
+      in_order file chapters (did (Stop changes) t) version (record { shows = λ sector i. changed changes (λ s. honest.shows s i) sector })
       (record {
         safe =
             safe_disk_law (format file) (shape file) (did (Stop changes) t).log (is_format file.layout file.cluster) (record { start = safe.is_log.start; events = (loose, safe.is_log.events) })
@@ -394,21 +395,24 @@ module _ (file : DataFile) (chapters : List Chapter) (t : Told) (safe : IsSafeDi
 -- ---- the laws
 
 pub every_life_is_in_order : EveryLifeIsInOrder
-every_life_is_in_order file _ _ (Made t n makable honest word) = made_in_order file t n makable honest word
-every_life_is_in_order file _ _ (Begun t n m status changes makable honest word wanting moment there loose chance held) =
-    let safe = made_safe file t n makable honest status word wanting m.log moment in
-    stopped_order file [] m safe there changes loose chance
-    (record { view = first_view file.layout file.cluster; had = refl; held = held; stands = none_referenced file (changed changes (now m.log)) })
-every_life_is_in_order file _ _ (Ran t n chapters word life chance) =
-    let comes = word_comes file chapters t (every_life_is_in_order file t chapters life) chance n word in
-    in_order file (sessions_in ToItsEnd t n word ++ chapters) n comes.honest comes.at_end
-every_life_is_in_order file _ _ (Ended t n m chapters word answered life chance moment honest had) =
-    let comes = word_comes file chapters t (every_life_is_in_order file t chapters life) chance n word in
-    in_order file (sessions_in (ToAMoment answered) t n word ++ chapters) m honest (comes.moments answered m.log moment had)
-every_life_is_in_order file _ _ (Formatted t n chapters layout cluster status life chance word) = formatted_order file chapters t (every_life_is_in_order file t chapters life) chance layout cluster n status word
-every_life_is_in_order file _ _ (Stopped t chapters changes life loose chance) =
+every_life_is_in_order _ _ _ (Made layout cluster t n makable honest word) = made_in_order layout cluster t n makable honest word
+every_life_is_in_order _ _ _ (Begun layout cluster t n m status changes makable honest word wanting moment there loose chance held) =
+    let file = file_of layout cluster makable.named in
+    let safe = made_safe layout cluster t n makable honest status word wanting m.log moment in
+    stopped_order file [] m refl safe there changes loose chance
+    (record { view = first_view layout cluster; had = refl; held = held; stands = none_referenced file (changed changes (now m.log)) })
+every_life_is_in_order _ _ _ (Ran file t n chapters word life chance) =
     let is = every_life_is_in_order file t chapters life in
-    stopped_order file chapters t is.safe is.honest changes loose chance ((order_of file chapters t is).left (changed changes (now t.log)) (left_by t.log changes is.safe.is_log loose) chance)
+    let comes = word_comes file chapters t is chance n word in
+    in_order file (sessions_in ToItsEnd t n word ++ chapters) n is.version comes.honest comes.at_end
+every_life_is_in_order _ _ _ (Ended file t n m chapters word answered life chance moment honest had) =
+    let is = every_life_is_in_order file t chapters life in
+    let comes = word_comes file chapters t is chance n word in
+    in_order file (sessions_in (ToAMoment answered) t n word ++ chapters) m is.version honest (comes.moments answered m.log moment had)
+every_life_is_in_order _ _ _ (Formatted file t n chapters layout cluster status life chance word) = formatted_order file chapters t (every_life_is_in_order file t chapters life) chance layout cluster n status word
+every_life_is_in_order _ _ _ (Stopped file t chapters changes life loose chance) =
+    let is = every_life_is_in_order file t chapters life in
+    stopped_order file chapters t is.version is.safe is.honest changes loose chance ((order_of file chapters t is).left (changed changes (now t.log)) (left_by t.log changes is.safe.is_log loose) chance)
 
 pub every_life_goes_on : EveryLifeGoesOn
 every_life_goes_on file t chapters life chance = goes_on file chapters t (every_life_is_in_order file t chapters life) chance

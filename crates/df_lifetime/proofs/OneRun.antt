@@ -161,22 +161,23 @@ calls_count s u old new (a ∷ acts) (x ∷ answers) w calls k =
 -- ---- a run that came to its end
 
 -- it has no call without an answer, and printed what it counted
-run_ended : (run : Run) (t : Replica) (told : Option Told) (failed : Option Act) (old new : Option (List ℕ)) (status : Status) → HasEnded status → Writes run t told failed old new status → (failed ≡ None) × (status ≡ Done) × Appends old new (workload_text (workload_of run t))
-run_ended run t told None old new Done ended wrote = (refl, refl, wrote)
-run_ended run t told None old new Found ended wrote = absurd wrote
-run_ended run t told (Some a) old new Done ended wrote = absurd wrote
-run_ended run t told (Some a) old new Found ended wrote = absurd wrote
-run_ended run t told failed old new Script ended wrote = absurd ended
-run_ended run t told failed old new Words ended wrote = absurd ended
-run_ended run t told failed old new Refused ended wrote = absurd ended
-run_ended run t told failed old new NoMemory ended wrote = absurd ended
-run_ended run t told failed old new DiskFault ended wrote = absurd ended
-run_ended run t told failed old new ReadFault ended wrote = absurd ended
-run_ended run t told failed old new WriteFault ended wrote = absurd ended
+module _ (run : Run) (t : Replica) (told : Option Told) (old new : Option (List ℕ)) where
+  run_ended : (failed : Option Act) (status : Status) → HasEnded status → Writes run t told failed old new status → (failed ≡ None) × (status ≡ Done) × Appends old new (workload_text (workload_of run t))
+  run_ended None Done ended wrote = (refl, refl, wrote)
+  run_ended None Found ended wrote = absurd wrote
+  run_ended (Some a) Done ended wrote = absurd wrote
+  run_ended (Some a) Found ended wrote = absurd wrote
+  run_ended failed Script ended wrote = absurd ended
+  run_ended failed Words ended wrote = absurd ended
+  run_ended failed Refused ended wrote = absurd ended
+  run_ended failed NoMemory ended wrote = absurd ended
+  run_ended failed DiskFault ended wrote = absurd ended
+  run_ended failed ReadFault ended wrote = absurd ended
+  run_ended failed WriteFault ended wrote = absurd ended
 
 module _ (seed count : ℕ) (layout : Layout) (t : Told) (old new : Outside) (status : Status) (opening : FoundFile layout t) (works : WorksThrough seed count layout t opening old new status) (whole : IsImage t.shown) (ended : HasEnded status) where
   pub by_end : (works.worked.failed ≡ None) × (status ≡ Done) × Appends old.written new.written (workload_text (workload_of works.run works.last))
-  by_end = run_ended works.run works.last new.told works.worked.failed old.written new.written status ended works.written
+  by_end = run_ended works.run works.last new.told old.written new.written works.worked.failed status ended works.written
 
   pub asks_none : asks works.run ≡ None
   asks_none = works.worked.asked ∙ ap asked_by by_end.0
@@ -185,7 +186,7 @@ module _ (seed count : ℕ) (layout : Layout) (t : Told) (old new : Outside) (st
   found = found_here layout t.shown opening.replica opening.is_opened
 
   pub opened_here : IsOpened opening.replica.file.layout t.shown opening.replica
-  opened_here = subst (λ (l : Layout). IsOpened l t.shown opening.replica) (sym opening.is_opened.of) opening.is_opened
+  opened_here = subst (λ (l : Layout). IsOpened l t.shown opening.replica) (sym opening.is_opened.of.layout_is) opening.is_opened
 
   pub last_numbers : numbers_in (memory works.last) ≡ after_answers works.worked.answers (numbers_in (memory opening.replica))
   last_numbers =
@@ -233,7 +234,7 @@ module _ (seed count : ℕ) (layout : Layout) (runs : Twice layout (OnFile layou
   over_alike : (cs : List Command) → over s.file (unit_at s.file.layout s.file.cluster a) here.is_opened.view cs ≡ over u.file (unit_at u.file.layout u.file.cluster b) there.is_opened.view cs
   over_alike cs =
       let alike_there : unit_at s.file.layout s.file.cluster a ≡ unit_at s.file.layout s.file.cluster b =
-      subst (λ (l : Layout). unit_at l s.file.cluster a ≡ unit_at l s.file.cluster b) (sym here.is_opened.of) (units_alike layout a b runs.same s.file.cluster) in
+      subst (λ (l : Layout). unit_at l s.file.cluster a ≡ unit_at l s.file.cluster b) (sym here.is_opened.of.layout_is) (units_alike layout a b runs.same s.file.cluster) in
       ap (λ (image : Place → Option AnyUnit). over s.file image here.is_opened.view cs) alike_there
       ∙ ap (λ (v : View). over s.file (unit_at s.file.layout s.file.cluster b) v cs) (view_alike layout a b runs.same s u here.is_opened there.is_opened)
       ∙ ap (λ (f : DataFile). over f (unit_at f.layout f.cluster b) there.is_opened.view cs) (file_alike layout a b runs.same s u here.is_opened there.is_opened)
@@ -242,7 +243,7 @@ module _ (seed count : ℕ) (layout : Layout) (runs : Twice layout (OnFile layou
   alike =
       let w : Work = opened (shape u.file) (unit_at u.file.layout u.file.cluster b) there.is_opened.view in
       let first =
-      answers_over seed count layout runs.one.told runs.one.old runs.one.new runs.one.status here one whole runs.ended.0 (shown_of s.file b) (agree_there layout a b runs.same s.file here.is_opened.of)
+      answers_over seed count layout runs.one.told runs.one.old runs.one.new runs.one.status here one whole runs.ended.0 (shown_of s.file b) (agree_there layout a b runs.same s.file here.is_opened.of.layout_is)
       ∙ over_alike (map command_in one.worked.acts) in
       let second =
       answers_over seed count layout runs.other.told runs.other.old runs.other.new runs.other.status there other entire runs.ended.1 (shown_of u.file b) (agree_self u.file.layout (shown_of u.file b)) in

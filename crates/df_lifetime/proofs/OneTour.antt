@@ -79,7 +79,7 @@ module _ (layout : Layout) (runs : Twice layout (OnFile layout (ScrubsFile layou
   known = memory_alike layout runs.one.told.shown runs.other.told.shown runs.same s u here_found.is_opened there_found.is_opened
 
   here : AgreeShown s.file.layout (shown_of s.file one.after.shown) (shown_of s.file other.after.shown)
-  here = subst (λ (l : Layout). AgreeShown l (shown_of s.file one.after.shown) (shown_of s.file other.after.shown)) (sym here_found.is_opened.of) agree
+  here = subst (λ (l : Layout). AgreeShown l (shown_of s.file one.after.shown) (shown_of s.file other.after.shown)) (sym here_found.is_opened.of.layout_is) agree
 
   listed : failing_blocks s one.after.shown ≡ failing_blocks u other.after.shown
   listed =
@@ -117,7 +117,7 @@ scrub_has_one_text layout runs =
     let one : ScrubsFile layout runs.one.told here runs.one.old runs.one.new runs.one.status = runs.one.does.1 in
     let other : ScrubsFile layout runs.other.told there runs.other.old runs.other.new runs.other.status = runs.other.does.1 in
     let s : Replica = here.replica in
-    let of : s.file.layout ≡ layout = here.is_opened.of in
+    let of : s.file.layout ≡ layout = here.is_opened.of.layout_is in
     let file : s.file ≡ there.replica.file = file_alike layout runs.one.told.shown runs.other.told.shown runs.same s there.replica here.is_opened there.is_opened in
     let spared : SparesReads s.file runs.other.told.shown other.after.shown = subst (λ (f : DataFile). SparesReads f runs.other.told.shown other.after.shown) (sym file) other.spares in
     let agree = spared_agree s.file runs.one.told.shown runs.other.told.shown one.after.shown other.after.shown one.spares spared (agree_there layout runs.one.told.shown runs.other.told.shown runs.same s.file of) in

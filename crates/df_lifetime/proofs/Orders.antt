@@ -1,5 +1,5 @@
 -- A file in order: as it was made, as it is opened, and behind a barrier.
-use Rattle.std.proofs.Common.{◌≡◌, ◌<◌, ℕ, List, [], Some, None, refl, sym, ◌∙◌, ap, subst}
+use Rattle.std.proofs.Common.{◌≡◌, ℕ, List, [], Some, None, refl, sym, ◌∙◌, ap, subst}
 use Rattle.df_base.specs.Image.{Image}
 use Rattle.df_base.specs.Log.{IsLeft, IsLog, Log, Sync, add, now}
 use Rattle.df_base.specs.Moments.{EachMoment, Extends}
@@ -20,7 +20,6 @@ use Rattle.df_replica.specs.Below.{shape, DataFile}
 use Rattle.df_replica.specs.Following.{MayOpen}
 use Rattle.df_replica.specs.Making.{MayMakeOn, file_of, making_events}
 use Rattle.df_replica.specs.Serving.{format}
-use Rattle.df_replica.proofs.Laws.{same_file}
 use Rattle.df_top.specs.Formats.{MakesOn}
 use Rattle.df_top.specs.declared.status.Status.{Status}
 use Rattle.df_top.specs.declared.status.Status.TheVariants.{Done, Memory}
@@ -48,8 +47,9 @@ module _ (file : DataFile) (chapters : List Chapter) where
         record { view = has.0; had = has.1; held = has.2; stands = has.3 };
   }
 
-  pub in_order : (t : Told) → IsHonest t → Order t.log → IsInOrder file chapters t
-  in_order t honest order = record {
+  pub in_order : (t : Told) → file.version ≡ 1 → IsHonest t → Order t.log → IsInOrder file chapters t
+  in_order t version honest order = record {
+    version = version;
     safe = order.safe;
     honest = honest;
     left = λ image left chance.
@@ -67,7 +67,7 @@ module _ (file : DataFile) (chapters : List Chapter) where
     here = (order_of t is).left (now t.log) (now_left t.log is.safe.is_log) chance
 
     pub may : MayOpen file here.view t
-    may = record { safe = is.safe; honest = is.honest; found = (found_law (shape file) ((format file).unit_at (now t.log)) here.view).0 here.held; no_chance = chance }
+    may = record { version = is.version; safe = is.safe; honest = is.honest; found = (found_law (shape file) ((format file).unit_at (now t.log)) here.view).0 here.held; no_chance = chance }
 
     shows : now t.log ≡ t.shown
     shows = λ i sector. sym (is.honest.shows sector) i
@@ -116,29 +116,25 @@ tidy_order file log safe tidy = record {
   };
 }
 
-own : (file : DataFile) (named : 0 < file.cluster) → file_of file.layout file.cluster named ≡ file
-own file named = same_file (file_of file.layout file.cluster named) file refl refl
+module _ (layout : Layout) (cluster : ℕ) (t n : Told) (may : MayMakeOn layout cluster t) (honest : IsHonest t) (status : Status) (word : FormatWord layout cluster t n status) (wanting : status ≡ Memory → ⊥) where
+  abbrev made : DataFile
+  made = file_of layout cluster may.named
 
-module _ (file : DataFile) (t n : Told) (may : MayMakeOn file.layout file.cluster t) (honest : IsHonest t) (status : Status) (word : FormatWord file.layout file.cluster t n status) (wanting : status ≡ Memory → ⊥) where
-  makes : MakesOn file.layout file.cluster t may (Some n) status
+  makes : MakesOn layout cluster t may (Some n) status
   makes = word.makes t may wanting refl honest
 
   same : makes.after ≡ n
   same = one_told (Some n) makes.after n makes.is refl
 
   -- the log is safe at each moment of a making
-  pub made_safe : EachMoment t.log n.log (IsSafeDisk (format file) (shape file))
-  made_safe =
-      subst (λ (f : DataFile). EachMoment t.log n.log (IsSafeDisk (format file) (shape f))) (own file may.named)
-      (subst (λ (x : Told). EachMoment t.log x.log (IsSafeDisk (format file) (shape (file_of file.layout file.cluster may.named)))) same makes.moments)
+  pub made_safe : EachMoment t.log n.log (IsSafeDisk (format made) (shape made))
+  made_safe = subst (λ (x : Told). EachMoment t.log x.log (IsSafeDisk (format made) (shape made))) same makes.moments
 
   made_honest : IsHonest n
   made_honest = subst IsHonest same makes.honest
 
-  made_tidy : status ≡ Done → IsTidy (shape file) (units_log (format file) n.log) (first_view file.layout file.cluster)
-  made_tidy done =
-      subst (λ (f : DataFile). IsTidy (shape f) (units_log (format file) n.log) (first_view file.layout file.cluster)) (own file may.named)
-      (subst (λ (x : Told). IsTidy (shape (file_of file.layout file.cluster may.named)) (units_log (format file) x.log) (first_view file.layout file.cluster)) same (makes.made done).tidy)
+  made_tidy : status ≡ Done → IsTidy (shape made) (units_log (format made) n.log) (first_view layout cluster)
+  made_tidy done = subst (λ (x : Told). IsTidy (shape made) (units_log (format made) x.log) (first_view layout cluster)) same (makes.made done).tidy
 
 pub made_grew : (layout : Layout) (cluster : ℕ) (t n : Told) → Some n ≡ after_all (making_events layout cluster) (Some t) → Extends n.log t.log
 made_grew layout cluster t n events =
@@ -146,8 +142,9 @@ made_grew layout cluster t n events =
     let is : n ≡ all.0 = one_told (Some n) n all.0 refl (events ∙ all.1) in
     subst (λ (l : Log). Extends l t.log) (sym (ap (λ (x : Told). x.log) is ∙ all.2)) (adds_extends (making_events layout cluster) t.log)
 
-pub made_in_order : (file : DataFile) (t n : Told) → MayMakeOn file.layout file.cluster t → IsHonest t → FormatWord file.layout file.cluster t n Done → IsInOrder file [] n
-made_in_order file t n may honest word =
-    let grew : Extends n.log t.log = made_grew file.layout file.cluster t n word.formats.0.events in
-    let safe = made_safe file t n may honest Done word (λ no. cc) n.log (record { since = grew; until = extends_self n.log }) in
-    in_order file [] n (made_honest file t n may honest Done word (λ no. cc)) (tidy_order file n.log safe (made_tidy file t n may honest Done word (λ no. cc) refl))
+pub made_in_order : (layout : Layout) (cluster : ℕ) (t n : Told) (may : MayMakeOn layout cluster t) → IsHonest t → FormatWord layout cluster t n Done → IsInOrder (file_of layout cluster may.named) [] n
+made_in_order layout cluster t n may honest word =
+    let file = file_of layout cluster may.named in
+    let grew : Extends n.log t.log = made_grew layout cluster t n word.formats.0.events in
+    let safe = made_safe layout cluster t n may honest Done word (λ no. cc) n.log (record { since = grew; until = extends_self n.log }) in
+    in_order file [] n refl (made_honest layout cluster t n may honest Done word (λ no. cc)) (tidy_order file n.log safe (made_tidy layout cluster t n may honest Done word (λ no. cc) refl))

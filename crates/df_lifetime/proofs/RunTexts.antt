@@ -191,7 +191,7 @@ module _ (seed count : ℕ) (layout : Layout) (t : Told) (old new : Outside) (st
   answers_are = works.calls.result view (shown_of file t.shown) found (agree_self file.layout (shown_of file t.shown))
 
   follows_on : Follows (start seed count file.layout.clients) (map command_in works.worked.acts) works.worked.answers works.run
-  follows_on = subst (λ (l : Layout). Follows (start seed count l.clients) (map command_in works.worked.acts) works.worked.answers works.run) (sym opening.is_opened.of) works.worked.follows
+  follows_on = subst (λ (l : Layout). Follows (start seed count l.clients) (map command_in works.worked.acts) works.worked.answers works.run) (sym opening.is_opened.of.layout_is) works.worked.follows
 
   is_run : IsRun seed count file t.shown view works.run
   is_run = record {

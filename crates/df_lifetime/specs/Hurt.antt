@@ -84,12 +84,12 @@ HurtRunsKeep =
 
 -- what the disk of a life held at first: as its making began, the start of the log
 abbrev pub began_with : (file : DataFile) (t : Told) (chapters : List Chapter) → Life file t chapters → Image
-began_with file _ _ (Made t n makable honest word) = t.log.start
-began_with file _ _ (Begun t n m status changes makable honest word wanting moment there loose chance held) = t.log.start
-began_with file _ _ (Ran t n chapters word life chance) = began_with file t chapters life
-began_with file _ _ (Ended t n m chapters word answered life chance moment honest had) = began_with file t chapters life
-began_with file _ _ (Formatted t n chapters layout cluster status life chance word) = began_with file t chapters life
-began_with file _ _ (Stopped t chapters changes life loose chance) = began_with file t chapters life
+began_with _ _ _ (Made layout cluster t n makable honest word) = t.log.start
+began_with _ _ _ (Begun layout cluster t n m status changes makable honest word wanting moment there loose chance held) = t.log.start
+began_with _ _ _ (Ran file t n chapters word life chance) = began_with file t chapters life
+began_with _ _ _ (Ended file t n m chapters word answered life chance moment honest had) = began_with file t chapters life
+began_with _ _ _ (Formatted file t n chapters layout cluster status life chance word) = began_with file t chapters life
+began_with _ _ _ (Stopped file t chapters changes life loose chance) = began_with file t chapters life
 
 -- A life that began with the empty disk may be hurt: whatever the disk shows at any time of it, no unit of it by chance, is what the promises over hurt disks speak of, with a view
 -- that the file may have come to.

@@ -11,6 +11,7 @@ use Rattle.df_theory.specs.Found.{IsFound}
 use Rattle.df_theory.specs.Holds.{Held, Stands}
 use Rattle.df_theory.specs.View.{View}
 use Rattle.df_units.specs.Bytes.{unit_at}
+use Rattle.df_units.specs.Format.{format_of}
 use Rattle.df_units.specs.Making.{first_view}
 use Rattle.df_model.specs.Commands.{Answer}
 use Rattle.df_model.specs.Views.{KeepsView}
@@ -18,7 +19,7 @@ use Rattle.df_model.specs.Work.{Work, kept, opened}
 use Rattle.df_replica.specs.Below.{shape, DataFile}
 use Rattle.df_replica.specs.Following.{MayOpen}
 use Rattle.df_replica.specs.HeldBlocks.{AreInputs}
-use Rattle.df_replica.specs.Making.{MayMakeOn}
+use Rattle.df_replica.specs.Making.{MayMakeOn, file_of}
 use Rattle.df_replica.specs.Serving.{format}
 use Rattle.df_replica.specs.Session.{Act, answers_of, work_after}
 use Rattle.df_session.specs.Found.{FoundFile}
@@ -163,32 +164,33 @@ pub record FormatWord (layout : Layout) (cluster : ℕ) (t n : Told) (status : S
   pub formats : Formats layout cluster (Some t) (Some n) old new status
   pub makes : MakesFile layout cluster (Some t) (Some n) status
 
--- The life of a file so far: what the disk tells now, and the sessions that served it, the newest first.
-pub data Life (file : DataFile) : Told → List Chapter → Type 0 where
-  -- it was made, on an honest disk on which a file may be made, as on one that was never written
-  Made : (t n : Told) → MayMakeOn file.layout file.cluster t → IsHonest t → FormatWord file.layout file.cluster t n Done → Life file n []
+-- The life of a file so far: which file it is, what the disk tells now, and the sessions that served it, the newest first.
+pub data Life : DataFile → Told → List Chapter → Type 0 where
+  -- it was made, on an honest disk on which a file may be made, as on one that was never written: it is the file of this layout and cluster that the word makes
+  Made : (layout : Layout) (cluster : ℕ) (t n : Told) (makable : MayMakeOn layout cluster t) → IsHonest t → FormatWord layout cluster t n Done → Life (file_of layout cluster makable.named) n []
   -- or its making was cut off at a moment, and a stop left its first view all the same
-  Begun : (t n m : Told) (status : Status) (changes : List (ℕ × List ℕ)) → MayMakeOn file.layout file.cluster t → IsHonest t → FormatWord file.layout file.cluster t n status → (status ≡ Memory → ⊥)
-      → IsMoment t.log n.log m.log → IsHonest m → AreLoose m.log.events changes → NoChanceOf (format file) m.log (changed changes (now m.log))
-      → Held (shape file) ((format file).unit_at (changed changes (now m.log))) (first_view file.layout file.cluster) → Life file (did (Stop changes) m) []
+  Begun : (layout : Layout) (cluster : ℕ) (t n m : Told) (status : Status) (changes : List (ℕ × List ℕ)) (makable : MayMakeOn layout cluster t) → IsHonest t → FormatWord layout cluster t n status → (status ≡ Memory → ⊥)
+      → IsMoment t.log n.log m.log → IsHonest m → AreLoose m.log.events changes → NoChanceOf (format_of layout cluster) m.log (changed changes (now m.log))
+      → Held (shape (file_of layout cluster makable.named)) ((format_of layout cluster).unit_at (changed changes (now m.log))) (first_view layout cluster) → Life (file_of layout cluster makable.named) (did (Stop changes) m) []
   -- then a word was run to its end, whatever its status; what was shown as it began did not come about by chance
-  Ran : (t n : Told) (chapters : List Chapter) (word : Word t n) → Life file t chapters → NoChanceOf (format file) t.log (now t.log) → Life file n (sessions_in ToItsEnd t n word ++ chapters)
+  Ran : (file : DataFile) (t n : Told) (chapters : List Chapter) (word : Word t n) → Life file t chapters → NoChanceOf (format file) t.log (now t.log) → Life file n (sessions_in ToItsEnd t n word ++ chapters)
   -- or the program was ended at a moment of it, before or within any call of the disk, when so many of its calls were answered, and the disk goes on telling
   -- what was done up to there
-  Ended : (t n m : Told) (chapters : List Chapter) (word : Word t n) (answered : ℕ) → Life file t chapters → NoChanceOf (format file) t.log (now t.log) → IsMoment t.log n.log m.log → IsHonest m
+  Ended : (file : DataFile) (t n m : Told) (chapters : List Chapter) (word : Word t n) (answered : ℕ) → Life file t chapters → NoChanceOf (format file) t.log (now t.log) → IsMoment t.log n.log m.log → IsHonest m
       → HaveAnswers answered m.log (calls_made t n word) → Life file m (sessions_in (ToAMoment answered) t n word ++ chapters)
   -- or the word `format` was run over it again, whatever its status
-  Formatted : (t n : Told) (chapters : List Chapter) (layout : Layout) (cluster : ℕ) (status : Status) → Life file t chapters → NoChanceOf (format file) t.log (now t.log)
+  Formatted : (file : DataFile) (t n : Told) (chapters : List Chapter) (layout : Layout) (cluster : ℕ) (status : Status) → Life file t chapters → NoChanceOf (format file) t.log (now t.log)
       → FormatWord layout cluster t n status → Life file n chapters
   -- or the machine stopped, behind the end of a word or at the moment of which one is told, and left any bytes in the sectors that were loose
-  Stopped : (t : Told) (chapters : List Chapter) (changes : List (ℕ × List ℕ)) → Life file t chapters → AreLoose t.log.events changes → NoChanceOf (format file) t.log (changed changes (now t.log))
+  Stopped : (file : DataFile) (t : Told) (chapters : List Chapter) (changes : List (ℕ × List ℕ)) → Life file t chapters → AreLoose t.log.events changes → NoChanceOf (format file) t.log (changed changes (now t.log))
       → Life file (did (Stop changes) t) chapters
 
 -- ---- the law
 
--- The file is in order: the disk is honest and its log is safe, and whatever a stop leaves now, under no chance, has a view that the file may have come to, with
+-- The file is in order: it is of version 1, the disk is honest and its log is safe, and whatever a stop leaves now, under no chance, has a view that the file may have come to, with
 -- each block that it references.
 pub record IsInOrder (file : DataFile) (chapters : List Chapter) (t : Told) : Type 0 where
+  pub version : file.version ≡ 1
   pub safe : IsSafeDisk (format file) (shape file) t.log
   pub honest : IsHonest t
   pub left : (image : Image) → IsLeft t.log image → NoChanceOf (format file) t.log image

@@ -19,7 +19,7 @@ pub enum OpenError {
     NotFormatted,
     /// No two copies of the superblock agree; what each of the four sectors shows.
     NoQuorum { classes: [Class; 4] },
-    /// The superblock has a version that this program doesn't know.
+    /// The superblock has another version than the one that is asked for.
     Version { found: u32 },
     /// The first number of the superblock or part of the trailer that is out of its range.
     BadField { field: Field, value: u128 },
@@ -29,6 +29,8 @@ pub enum OpenError {
     Damaged { place: Place, class: Class },
     /// The disk failed.
     DiskFault,
+    /// The superblock has the greatest boot, so that no later open can be told apart from the one that set it. Of version 2 alone.
+    BootSpent,
 }
 
 /// Why a prepare isn't appended; the first of these that applies.

@@ -34,6 +34,7 @@ barrier_rests g file view t may stands =
     let shown = now_units fmt t.log.start t.log.events in
     let pooled : (p : Place) (z : AnyUnit) → now_of log.start log.events p ≡ Some z → InPool log p z = λ p z is. may.no_chance.pooled p z (ap (λ (u : Units.Units). u p) (sym shown) ∙ is) in
     record {
+      version = may.version;
       is_log = record { start = may.safe.is_log.start; events = may.safe.is_log.events };
       honest = record { shows = may.honest.shows };
       rests = disk_barrier_law fmt (shape file) view t.log may.safe may.found;

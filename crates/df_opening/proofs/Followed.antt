@@ -26,10 +26,11 @@ in_pools start [] place x is = is
 in_pools start (e ∷ es) place x is = inl is
 
 pub tidy_may_open : TidyMayOpen
-tidy_may_open file view t is_log honest tidy chance =
+tidy_may_open file view t version is_log honest tidy chance =
     let fmt = format file in
     let sh = shape file in
     record {
+      version = version;
       safe = safe_disk_law fmt sh t.log (is_format file.layout file.cluster) is_log (rests_safe sh (units_log fmt t.log) view tidy.rests);
       honest = honest;
       found = (found_law sh (fmt.unit_at (logs.now t.log)) view).0 (subst (λ (u : Units.Units). Holds sh u view) (now_units fmt t.log.start t.log.events) tidy.rests.holds);
@@ -45,13 +46,14 @@ pools_stopped start es image place x pooled (inl (inr none)) = absurd none
 pools_stopped start es image place x pooled (inr before) = before
 
 pub stopped_may_open : StoppedMayOpen
-stopped_may_open file view t changes safe honest loose chance held =
+stopped_may_open file view t changes version safe honest loose chance held =
     let fmt = format file in
     let sh = shape file in
     let log : UnitLog = units_log fmt t.log in
     let left : Image = changed changes (logs.now t.log) in
     let is_log : IsLog (logs.add (Stop changes) t.log) = record { start = safe.is_log.start; events = (loose, safe.is_log.events) } in
     record {
+      version = version;
       safe = safe_disk_law fmt sh (logs.add (Stop changes) t.log) (is_format file.layout file.cluster) is_log (rests_safe sh (units_log fmt (logs.add (Stop changes) t.log)) view (disk_stop_law fmt sh view t.log changes safe loose chance held));
       honest = record { shows = λ sector i. changed changes (λ s. honest.shows s i) sector };
       found = (found_law sh (fmt.unit_at left) view).0 held;
@@ -62,7 +64,8 @@ stopped_may_open file view t changes safe honest loose chance held =
     }
 
 pub faulted_may_open : FaultedMayOpen
-faulted_may_open file view t safe honest chance held = record {
+faulted_may_open file view t version safe honest chance held = record {
+  version = version;
   safe = safe;
   honest = honest;
   found = (found_law (shape file) ((format file).unit_at (logs.now t.log)) view).0
@@ -79,12 +82,13 @@ shown_first image place x (inl (inr none)) = absurd none
 shown_first image place x (inr none) = absurd none
 
 pub begun_may_open : BegunMayOpen
-begun_may_open file view t may =
+begun_may_open file view t version may =
     let f = format file in
     let sh = shape file in
     let image = f.unit_at t.shown in
     let rests : RestsOn sh (units_log f (begun t).log) view = clean_start_law sh image view (of_places file.layout file.cluster file.named (parse_of (layout_of file.layout)) t.shown may.whole) may.found may.clean in
     record {
+      version = version;
       safe = safe_disk_law f sh (begun t).log (is_format file.layout file.cluster) (record { start = may.whole; events = tt }) (rests_safe sh (units_log f (begun t).log) view rests);
       honest = record { shows = λ sector. refl };
       found = may.found;

@@ -1,12 +1,10 @@
 -- What a survey answers of a disk that may be hurt.
-use Rattle.std.proofs.Common.{Option, None, Some, Result, Err, subst}
+use Rattle.std.proofs.Common.{Option, Some, Result, subst}
 use Rattle.df_damage.specs.Answers.{TellsHurt}
 use Rattle.df_damage.proofs.Laws.{answer_is_of_hurt}
 use Rattle.df_disk.specs.Told.{Told}
 use Rattle.df_layout.specs.declared.layout.Layout.{Layout}
 use Rattle.df_model.specs.declared.errors.OpenError.{OpenError}
-use Rattle.df_damage.specs.Scanning.{TellsRead}
-use Rattle.df_damage.specs.Types.{Scanned}
 use Rattle.df_damage.specs.Below.{State}
 use Rattle.df_opening.specs.Surveying.{TellsSurvey}
 
@@ -14,11 +12,3 @@ pub tells_hurt : (layout : Layout) (told : Option Told) (result : Result State O
 tells_hurt layout told result tells = λ file view t is same may.
     answer_is_of_hurt file view t result may
     (subst (λ (l : Layout). TellsSurvey l (Some t) result) same (subst (λ (o : Option Told). TellsSurvey layout o result) is tells) may.whole)
-
--- a file that isn't read is refused by the survey
-read_tells : (layout : Layout) (told : Option Told) (e : OpenError) → TellsRead (λ (x : Scanned). x.copies.found) layout told (Err e) → TellsSurvey layout told (Err e)
-read_tells layout None e tells = tt
-read_tells layout (Some t) e tells = tells
-
-pub read_hurt : (layout : Layout) (told : Option Told) (e : OpenError) → TellsRead (λ (x : Scanned). x.copies.found) layout told (Err e) → TellsHurt layout told (Err e)
-read_hurt layout told e tells = tells_hurt layout told (Err e) (read_tells layout told e tells)

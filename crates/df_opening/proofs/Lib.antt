@@ -14,8 +14,6 @@ pub mod MendShows
 pub mod Mendable
 pub mod Planned
 pub mod SurveyPlans
-pub mod Settled
-pub mod Listed
 pub mod Hurts
 pub mod Barriers
 pub mod Opens

@@ -156,8 +156,8 @@ stands_then Firm file table mends f members t v law standing = tt
 stands_then Whole file table mends f members t v law standing = (law.1 standing).standing
 
 -- in a file of version 1 nothing survives above the head
-clear : (file : DataFile) (log : UnitLog) (v : View) → RestsOn (shape file) log v → IsClear (settled log) v
-clear file log v rests = let tests = rests.holds.bears.sound.checkpoint.tests in clear_law (shape file) log v rests (tests.of.one tests.version).0
+clear : (file : DataFile) (log : UnitLog) (v : View) → file.version ≡ 1 → RestsOn (shape file) log v → IsClear (settled log) v
+clear file log v first rests = let tests = rests.holds.bears.sound.checkpoint.tests in clear_law (shape file) log v rests (tests.of.one (tests.version ∙ first)).0
 
 pub mending_moments : (file : DataFile) (table : List Header) (mends : List Mend) (f : SuperFields) (members : List Bool) (before after : Told) (may : MayMendOn file table mends f members before)
     → AreSteps (format file) (mending_events file.layout table mends f members) (mending_steps file.layout table mends f members) → AddsPart (mending_events file.layout table mends f members) (Some before) (Some after)
@@ -165,7 +165,7 @@ pub mending_moments : (file : DataFile) (table : List Header) (mends : List Mend
 mending_moments file table mends f members before after may steps part = each may.grade may.standing
   where
     law : TidilyMends file table mends f members before may.view
-    law = tidy_mend_law (shape file) (units_log (format file) before.log) may.view (headers_in table) (sector_puts table (sectors_of file.layout mends)) (repaired f 0 members) may.may (clear file (units_log (format file) before.log) may.view may.may.rests)
+    law = tidy_mend_law (shape file) (units_log (format file) before.log) may.view (headers_in table) (sector_puts table (sectors_of file.layout mends)) (repaired f 0 members) may.may (clear file (units_log (format file) before.log) may.view may.version may.may.rests)
 
     call : IsCall (format file) (mending_events file.layout table mends f members) (mending_steps file.layout table mends f members) before after
     call = record { log = may.is_log; steps = steps; adds = part }
@@ -186,7 +186,7 @@ mending_ends file table mends f members before after (Ok x) may is steps adds =
     let log = units_log fmt before.log in
     let puts = sector_puts table (sectors_of file.layout mends) in
     let ss = mending_steps file.layout table mends f members in
-    let law : TidilyMends file table mends f members before may.view = tidy_mend_law sh log may.view (headers_in table) puts (repaired f 0 members) may.may (clear file log may.view may.may.rests) in
+    let law : TidilyMends file table mends f members before may.view = tidy_mend_law sh log may.view (headers_in table) puts (repaired f 0 members) may.may (clear file log may.view may.version may.may.rests) in
     let ends : units_log fmt after.log ≡ after_steps ss log = call_ends fmt (mending_events file.layout table mends f members) ss before after may.is_log steps adds in
     record {
       tidy = subst (λ (l : UnitLog). IsTidy sh l may.view) (sym ends) law.0.tidy;

@@ -20,6 +20,7 @@ use Rattle.df_theory.specs.Units.{AnyUnit, CopyPlace, CopyUnit, HeaderPlace, Hea
 use Rattle.df_theory.specs.Chance.{InPools}
 use Rattle.df_theory.specs.Copies
 use Rattle.df_theory.specs.Device.{units_log}
+use Rattle.df_theory.specs.Found.{IsFound}
 use Rattle.df_theory.specs.MendLaws.{AllPutCopy, AllPutTable, IsNumber, PutsTable, Reaches}
 use Rattle.df_theory.specs.UnitLog.{now}
 use Rattle.df_theory.specs.View.{View}
@@ -33,7 +34,7 @@ use Rattle.df_headers.specs.Ring.{in_sector}
 use Rattle.df_headers.proofs.Laws.{sector_at, sector_has}
 use Rattle.df_superblock.specs.Steps.{repaired}
 use Rattle.df_journal.specs.declared.table.Start.{Start}
-use Rattle.df_journal.specs.Shows.{Tells}
+use Rattle.df_journal.specs.Shows.{TellsRings}
 use Rattle.df_damage.specs.Below.{DataFile, shape}
 use Rattle.df_opening.specs.Mending.{IsPlanned, PlannedMayMend, RestsOnDisk, lies_in, needs_sector, sector_put, sector_puts, sectors_of, sectors_to}
 use Rattle.df_damage.specs.Plan.{AreDistinct, IsScanOf, copy_mends, header_or_none, headers_in, if_wanted, needs_header, shown_class, slot_mend, slot_mends}
@@ -142,8 +143,8 @@ module _ (g : Grade) (file : DataFile) (v : View) (table : List Header) (mends :
   whole : IsImage t.shown
   whole = subst IsImage (sym shown_is) (now_is_image t.log.start t.log.events on.is_log.start on.is_log.events)
 
-  tells : Tells file.layout (now (units_log (format file) t.log)) plan.scan
-  tells = subst (λ (image : Units.Units). Tells file.layout image plan.scan) image_is plan.scanned
+  tells : TellsRings file.layout (now (units_log (format file) t.log)) plan.scan
+  tells = subst (λ (image : Units.Units). TellsRings file.layout image plan.scan) image_is plan.scanned
 
   chosen : Quorum.IsChosen (content_at t.shown) (content_with f)
   chosen = super_is_written t.shown f whole plan.super
@@ -154,18 +155,19 @@ module _ (g : Grade) (file : DataFile) (v : View) (table : List Header) (mends :
   content_is : v.checkpoint.content ≡ content_of (content_with f)
   content_is = one_chosen_law (now (units_log (format file) t.log)) v.checkpoint.content (content_of (content_with f)) on.rests.holds.chosen is_chosen
 
-  -- its superblock has no boot, and names no prepare above its checkpoint's
-  first : (v.checkpoint.content.boot ≡ 0) × (v.checkpoint.content.pin ≡ v.checkpoint.content.op)
-  first = let tests = on.rests.holds.bears.sound.checkpoint.tests in let of = tests.of.one tests.version in (of.0, of.1)
+  -- it is found in what is shown
+  found : IsFound (shape file) (now (units_log (format file) t.log)) v
+  found = (found_law (shape file) (now (units_log (format file) t.log)) v).0 on.rests.holds
 
-  is_scan : IsScanOf file.layout (shape file) (now (units_log (format file) t.log)) v plan.scan
+  is_scan : IsScanOf file.layout (shape file) (now (units_log (format file) t.log)) v plan.scan plan.top
   is_scan = record {
     slots_are = refl;
     op = ap (λ (c : Units.Content). c.op) content_is ∙ sym (ap (λ (x : Start). x.op) plan.start);
-    pin = first.1 ∙ ap (λ (c : Units.Content). c.op) content_is ∙ sym (ap (λ (x : Start). x.head) plan.start);
-    boot = first.0 ∙ sym (ap (λ (x : Start). x.boot) plan.start);
+    pin = ap (λ (c : Units.Content). c.pin) content_is ∙ sym (ap (λ (x : Start). x.head) plan.start);
+    boot = ap (λ (c : Units.Content). c.boot) content_is ∙ sym (ap (λ (x : Start). x.boot) plan.start);
+    head_is = plan.top_is whole v (subst (λ (image : Units.Units). IsFound (shape file) image v) (sym image_is) found);
     tells = tells;
-    found = (found_law (shape file) (now (units_log (format file) t.log)) v).0 on.rests.holds;
+    found = found;
   }
 
   distinct : AreDistinct (now (units_log (format file) t.log))
@@ -190,13 +192,13 @@ module _ (g : Grade) (file : DataFile) (v : View) (table : List Header) (mends :
       let no : false ≡ true = sym off ∙ is in
       cc
 
-  needed : (s : ℕ) → s < file.layout.slots → needs_header file.layout plan.scan.start (now (units_log (format file) t.log)) s ≡ true → Reaches (sector_puts table (sectors_of file.layout mends)) (HeaderPlace s)
+  needed : (s : ℕ) → s < file.layout.slots → needs_header file.layout plan.scan.start plan.top (now (units_log (format file) t.log)) s ≡ true → Reaches (sector_puts table (sectors_of file.layout mends)) (HeaderPlace s)
   needed s below needs =
       let start = plan.scan.start in
       let image = now (units_log (format file) t.log) in
       let classes = shown_class plan.scan in
-      let slots_list = slot_mends (needs_header file.layout start image) classes file.layout.slots in
-      let inside : list_any (lies_in (s / 16)) slots_list ≡ true = listed (lies_in (s / 16)) (needs_header file.layout start image) classes s file.layout.slots below needs (lies classes s) in
+      let slots_list = slot_mends (needs_header file.layout start plan.top image) classes file.layout.slots in
+      let inside : list_any (lies_in (s / 16)) slots_list ≡ true = listed (lies_in (s / 16)) (needs_header file.layout start plan.top image) classes s file.layout.slots below needs (lies classes s) in
       let all : needs_sector mends (s / 16) ≡ true =
       ap (list_any (lies_in (s / 16))) (plan.planned.list image tells) ∙ list_any-append (lies_in (s / 16)) (copy_mends plan.copies members) slots_list ∙ or_right (list_any (lies_in (s / 16)) (copy_mends plan.copies members)) (list_any (lies_in (s / 16)) slots_list) inside in
       let at = slice_get-get_or table s (reserved_header file.cluster 0) (omega (arith, below, plan.planned.is_table.count)) in
@@ -220,7 +222,7 @@ planned_may_mend g file v table mends f members t four plan on =
       };
       puts_copies = subst (λ (c : Units.Content). AllPutCopy c agreed.first agreed.second (repaired f 0 members)) (sym (content_is g file v table mends f members t four plan on))
           (all_put f agreed.first agreed.second 0 members (member_of g file v table mends f members t four plan on agreed.first (omega (arith, agreed.apart, agreed.inside)) agreed.at_first) (member_of g file v table mends f members t four plan on agreed.second agreed.inside agreed.at_second));
-      each_slot = λ s below. elim (cases_Bool (needs_header file.layout plan.scan.start (now (units_log (format file) t.log)) s)) [
+      each_slot = λ s below. elim (cases_Bool (needs_header file.layout plan.scan.start plan.top (now (units_log (format file) t.log)) s)) [
         | inl needs ↦ inr (needed g file v table mends f members t four plan on s below needs)
         | inr unlisted ↦ inl (plan.planned.others (shape file) (now (units_log (format file) t.log)) v (is_scan g file v table mends f members t four plan on) (distinct g file v table mends f members t four plan on) s below unlisted)
       ];

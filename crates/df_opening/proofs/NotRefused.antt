@@ -13,4 +13,4 @@ pub safe_is_not_refused : SafeIsNotRefused
 safe_is_not_refused file view t may =
     let shows : now t.log ≡ t.shown = λ i sector. sym (may.honest.shows sector) i in
     let whole : IsImage t.shown = subst IsImage shows (now_is_image t.log.start t.log.events may.safe.is_log.start may.safe.is_log.events) in
-    (whole, found_is_not_refused file t.shown view whole (subst (λ (image : Image). IsFound (shape file) (unit_at file.layout file.cluster image) view) shows may.found))
+    (whole, found_is_not_refused file t.shown view may.version whole (subst (λ (image : Image). IsFound (shape file) (unit_at file.layout file.cluster image) view) shows may.found))

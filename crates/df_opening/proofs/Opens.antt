@@ -50,6 +50,8 @@ use Rattle.df_opening.specs.Surveying.{IsMendable, TellsMends, TellsSurvey, mend
 use Rattle.df_opening.specs.Following.{MayOpen}
 use Rattle.df_opening.specs.Mending.{IsMended, IsPlanned, live_state, mending_events, mending_steps, sector_puts, sectors_of}
 use Rattle.df_opening.specs.Keeping.{Firm, Grade, IsGoodFor, IsKept, Keeps, KeptFor, StandingFor, Whole, format}
+use Rattle.df_damage.specs.Found.{IsLayoutShown}
+use Rattle.df_damage.specs.Opening.{HasSuper, HasSuperAs}
 use Rattle.df_damage.specs.Surveys.{IsOpened}
 
 -- ---- no step of a mending puts a prepare
@@ -140,7 +142,7 @@ open_keeps g s mends members view before after may is steps all moments mended =
     let whole : IsImage (Log.now after.log) = now_is_image after.log.start after.log.events is_log.start is_log.events in
     let choice = chosen_choice s.file.layout s.file.cluster (Log.now before.log) view.checkpoint.content (now_is_image before.log.start before.log.events may.safe.is_log.start may.safe.is_log.events) may.found.chosen in
     let kept = kept_on g sh (spelling s.file) log view mended.standing
-    (opened_kept_law sh (spelling s.file) log view (codec_of s.file) (record { version = refl; names = names_none choice.0 view.checkpoint.content choice.1 may.found.checkpoint.tests.version }) mended.tidy
+    (opened_kept_law sh (spelling s.file) log view (codec_of s.file) (record { version = may.version; names = names_none choice.0 view.checkpoint.content choice.1 (may.found.checkpoint.tests.version ∙ may.version) }) mended.tidy
     (subst (AreOfPlaces sh) image (of_places s.file.layout s.file.cluster s.file.named (parse_of (layout_of s.file.layout)) (Log.now after.log) whole))) in
     record {
       log_is = is_log;
@@ -207,6 +209,8 @@ planned_same file table mends f members t base same plan =
       members_are = plan.members_are;
       start = plan.start;
       scanned = plan.scanned;
+      top = plan.top;
+      top_is = plan.top_is;
       planned = plan.planned;
     } in
     subst (λ (m : Image). IsPlanned file table mends f members (record { log = base.log; shown = m })) (sym same) there
@@ -221,10 +225,17 @@ found_keeps s image view whole is found =
     let units = unit_at s.file.layout s.file.cluster image in
     let one : is.view ≡ view = one_found_law sh units is.view view is.found found in
     let choice = chosen_choice s.file.layout s.file.cluster image view.checkpoint.content whole found.chosen in (
-      found_law sh (spelling s.file) units view (codec_of s.file) (record { version = refl; names = names_none choice.0 view.checkpoint.content choice.1 found.checkpoint.tests.version })
+      found_law sh (spelling s.file) units view (codec_of s.file) (record { version = is.of.version_is; names = names_none choice.0 view.checkpoint.content choice.1 (found.checkpoint.tests.version ∙ is.of.version_is) })
           (of_places s.file.layout s.file.cluster s.file.named (parse_of (layout_of s.file.layout)) image whole) found,
       subst (λ (v : View). Represents s (opened sh units v)) one is.stands,
     )
+
+-- its superblock is one of version 1, and names its layout
+pub super_shown : (layout : Layout) (image : Image) (s : State) → IsOpened layout image s → HasSuper image s.fields
+super_shown layout image s is = subst (λ (version : ℕ). HasSuperAs version image s.fields) is.of.version_is is.has.super
+
+pub layout_shown : (layout : Layout) (image : Image) (s : State) → IsOpened layout image s → IsLayoutShown image s.file.layout
+layout_shown layout image s is = record { fields = s.fields; super = super_shown layout image s is; numbers = is.has.layout }
 
 -- a state is kept as a live one
 pub live_kept : (g : Grade) (s : State) (w : Work) (log : Log.Log) → IsKept g s w log → IsKept g (live_state s) w log
@@ -242,7 +253,7 @@ own_mending layout told t s is of tells whole =
       choice = may.choice;
       are =
           ap (λ (list : List Mend). mending_events s.state.file.layout s.state.headers list s.state.fields s.chosen.members)
-          (may.mends ∙ ap (λ (l : Layout). mends_of l t.shown s.state.fields s.chosen.members) (sym of));
+          (may.mends ∙ ap (λ (l : Layout). mends_of l t.shown s.state.fields s.state.head s.chosen.members) (sym of));
     }
 
 pub live_mending : (t : Told) (s : State) (events : List Event) → AreMending t s events → AreMending t (live_state s) events

@@ -18,7 +18,7 @@ use Rattle.df_opening.proofs.MendSteps.{all_mended, all_moments}
 module _ (file : DataFile) (table : List Header) (mends : List Mend) (f : SuperFields) (members : List Bool) (four : length members ≡ 4)
     (steps : AreSteps (format file) (mending_events file.layout table mends f members) (mending_steps file.layout table mends f members)) where
   may_mend : (base : Told) (g : Grade) (view : View) → IsPlanned file table mends f members base → RestsOnDisk g file view base → MayMendOn file table mends f members base
-  may_mend base g view plan on = record { grade = g; view = view; is_log = on.is_log; standing = on.standing; may = planned_may_mend g file view table mends f members base four plan on }
+  may_mend base g view plan on = record { version = on.version; grade = g; view = view; is_log = on.is_log; standing = on.standing; may = planned_may_mend g file view table mends f members base four plan on }
 
   pub moments_planned : (base : Told) (g : Grade) (view : View) → IsPlanned file table mends f members base → RestsOnDisk g file view base
       → EachMoment base.log (told_after (mending_events file.layout table mends f members) base).log (IsGoodFor g (format file) (shape file) view view)

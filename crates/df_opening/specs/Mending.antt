@@ -1,6 +1,7 @@
 -- The mending of a file: which sectors of the header ring are written, its device calls, what they are in the words of the theory, and what they leave.
 use Rattle.std.specs.Prelude.{◌≡◌, ◌/◌, ◌==◌, ◌&&◌, ℕ, Bool, true, false, List, [], ◌∷◌, ◌++◌, length, map}
 use Rattle.std.specs.List.{filter, list_any, range_with_len}
+use Rattle.df_base.specs.Image.{IsImage}
 use Rattle.df_base.specs.Log.{Event, IsLog, Sync, now}
 use Rattle.df_disk.specs.Told.{IsHonest, Told, did}
 use Rattle.df_layout.specs.declared.damage.Mend.{Mend}
@@ -13,29 +14,28 @@ use Rattle.df_format.specs.declared.superblock.SuperFields.{SuperFields}
 use Rattle.df_quorum.specs.declared.slot.Slot.{Slot}
 use Rattle.df_quorum.specs.Quorum.{AreMembers}
 use Rattle.df_theory.specs.Units.{Units}
+use Rattle.df_theory.specs.Found.{IsFound}
 use Rattle.df_theory.specs.Rests.{IsQuiet, RestsOn}
-use Rattle.df_theory.specs.Shape.{Shape}
-use Rattle.df_theory.specs.View.{View}
+use Rattle.df_theory.specs.View.{View, head}
 use Rattle.df_theory.specs.Device.{NoChanceOf, units_log}
-use Rattle.df_theory.specs.MendLaws.{IsTable as IsSlotTable, MayMend, mend_steps}
+use Rattle.df_theory.specs.MendLaws.{MayMend, mend_steps}
 use Rattle.df_theory.specs.Runs.{Step}
 use Rattle.df_theory.specs.TidyLaws.{IsTidy}
 use Rattle.df_units.specs.Bytes.{unit_at}
 use Rattle.df_units.specs.Puts.{put_headers}
-use Rattle.df_headers.specs.Ring.{IsTable, in_sector, sector_writes}
+use Rattle.df_headers.specs.Ring.{in_sector, sector_writes}
 use Rattle.df_journal.specs.Scan.{Scan}
-use Rattle.df_journal.specs.Shows.{Tells}
+use Rattle.df_journal.specs.Shows.{TellsRings}
 use Rattle.df_journal.specs.Append.{ShowsRing}
 use Rattle.df_superblock.specs.Events.{repair_events}
 use Rattle.df_superblock.specs.Steps.{repaired}
 use Rattle.df_damage.specs.Below.{DataFile, State, shape}
 use Rattle.df_damage.specs.Opening.{HasSuper}
-use Rattle.df_damage.specs.Plan.{AreDistinct, IsScanOf, OthersAreShown, headers_in, if_wanted, mend_list}
+use Rattle.df_damage.specs.Plan.{headers_in, if_wanted}
 use Rattle.df_damage.specs.Starting.{start_of}
+use Rattle.df_damage.specs.Surveying.{ArePlannedFrom}
 use Rattle.df_opening.specs.Following.{MayOpen}
 use Rattle.df_opening.specs.Keeping.{Grade, StandingFor, StandsFor, format}
-use Rattle.df_damage.specs.Types.{Scanned}
-use Rattle.df_opening.specs.Survey.{Survey}
 
 -- ---- sectors
 
@@ -88,8 +88,9 @@ sector_puts table sectors = map (sector_put table) sectors
 abbrev pub mending_steps : Layout → List Header → List Mend → SuperFields → List Bool → List Step
 mending_steps layout table mends f members = mend_steps (sector_puts table (sectors_of layout mends)) (repaired f 0 members)
 
--- the log rests on a view, and with this table and this list it may be mended
+-- the file is of version 1, the log rests on a view, and with this table and this list it may be mended
 pub record MayMendOn (file : DataFile) (table : List Header) (mends : List Mend) (f : SuperFields) (members : List Bool) (t : Told) : Type 0 where
+  pub version : file.version ≡ 1
   pub grade : Grade
   pub view : View
   pub is_log : IsLog t.log
@@ -104,32 +105,21 @@ pub record IsMended (g : Grade) (file : DataFile) (view : View) (table : List He
 
 -- ---- what an open knows of a file before it mends it
 
--- the table and the list are planned from a scan, what the places of the copies show and which of them are members
-pub record ArePlannedFrom (layout : Layout) (cluster : ℕ) (scan : Scan) (copies : List Slot) (members : List Bool) (table : List Header) (mends : List Mend) : Type 0 where
-  pub is_table : IsTable layout cluster table
-  pub from : (sh : Shape) (image : Units) (v : View) → IsScanOf layout sh image v scan → IsSlotTable sh image v (headers_in table)
-  pub others : (sh : Shape) (image : Units) (v : View) → IsScanOf layout sh image v scan → AreDistinct image → OthersAreShown layout scan.start image (headers_in table)
-  pub list : (image : Units) → Tells layout image scan → mends ≡ mend_list layout scan image copies members
-
--- what a survey hands out is planned from what was read
-pub record IsSettledFrom (scanned : Scanned) (s : Survey) : Type 0 where
-  pub file_is : s.state.file ≡ scanned.file
-  pub fields_are : s.state.fields ≡ scanned.copies.found.content
-  pub chosen_is : s.chosen ≡ scanned.copies.found.chosen
-  pub planned : ArePlannedFrom s.state.file.layout s.state.file.cluster scanned.log.slots scanned.copies.slots s.chosen.members s.state.headers s.mends
-
--- the scan and the choice are what the disk shows, and the table and the list are planned from them
+-- the scan and the choice are what the disk shows, the head is that of each view that is found in it, and the table and the list are planned from them
 pub record IsPlanned (file : DataFile) (table : List Header) (mends : List Mend) (f : SuperFields) (members : List Bool) (t : Told) : Type 0 where
   pub scan : Scan
   pub copies : List Slot
   pub super : HasSuper t.shown f
   pub members_are : AreMembers (content_at t.shown) super.content members
   pub start : scan.start ≡ start_of f
-  pub scanned : Tells file.layout (unit_at file.layout file.cluster t.shown) scan
-  pub planned : ArePlannedFrom file.layout file.cluster scan copies members table mends
+  pub scanned : TellsRings file.layout (unit_at file.layout file.cluster t.shown) scan
+  pub top : ℕ
+  pub top_is : IsImage t.shown → (v : View) → IsFound (shape file) (unit_at file.layout file.cluster t.shown) v → head v ≡ top
+  pub planned : ArePlannedFrom file.layout file.cluster scan top copies members table mends
 
--- an honest disk whose log rests on a view and is quiet, where no unit came about by chance: what holds of it behind the barrier of an open
+-- an honest disk with a file of version 1, whose log rests on a view and is quiet, where no unit came about by chance: what holds of it behind the barrier of an open
 pub record RestsOnDisk (g : Grade) (file : DataFile) (view : View) (t : Told) : Type 0 where
+  pub version : file.version ≡ 1
   pub is_log : IsLog t.log
   pub honest : IsHonest t
   pub rests : RestsOn (shape file) (units_log (format file) t.log) view

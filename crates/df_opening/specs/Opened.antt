@@ -50,7 +50,7 @@ pub record Mends (file : DataFile) (old new : Option Told) : Type 0 where
 pub record AreMending (t : Told) (s : State) (events : List Event) : Type 0 where
   pub chosen : Chosen
   pub choice : IsChoiceOf t.shown chosen
-  pub are : events ≡ mending_events s.file.layout s.headers (mends_of s.file.layout t.shown s.fields chosen.members) s.fields chosen.members
+  pub are : events ≡ mending_events s.file.layout s.headers (mends_of s.file.layout t.shown s.fields s.head chosen.members) s.fields chosen.members
 
 -- the mending was begun: its first device calls were made, and no others
 pub record BeginsMending (t : Told) (s : State) (later : Option Told) : Type 0 where

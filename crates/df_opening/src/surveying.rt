@@ -1,21 +1,21 @@
 // The survey of a file: what it shows is read, its state is found, and what is to be mended is listed. Nothing is written.
-ghost use Rattle.std.specs.Prelude.{◌≡◌, ◌≤◌, ◌+◌, length, Some, IfOk, IfErr};
-ghost use Rattle.df_opening.specs.Below.{IsBlamed, Told, is_open_fault, TellsHurt, AreOfCheckpoint, IsDamage, Syncs, Surveys, waiting_in};
-ghost use Rattle.df_journal.specs.Shows.{IsTable as AreSlots};
-ghost use Rattle.df_damage.specs.Below.{AreFound, state_in};
-ghost use Rattle.df_opening.specs.Mending.{ArePlannedFrom, IsPlanned, IsSettledFrom};
+ghost use Rattle.std.specs.Prelude.{◌≡◌, ◌≤◌, length, Some, IfOk, IfErr};
+ghost use Rattle.df_opening.specs.Below.{IsBlamed, Told, is_open_fault, TellsHurt, Syncs};
+ghost use Rattle.df_damage.specs.Below.{AreFound};
+ghost use Rattle.df_damage.specs.Surveying.{IsPlannedFor, IsWellFound};
+ghost use Rattle.df_opening.specs.Mending.{IsPlanned};
 ghost use Rattle.df_opening.specs.Survey.{survey_in, survey_of};
-ghost use Rattle.df_opening.specs.Surveying.{AreAfter, EndsBehind, IsLawful, IsReadOf, IsSettled, TellsMends, TellsSurvey, state_of};
+ghost use Rattle.df_opening.specs.Surveying.{TellsMends, TellsSurvey, state_of, survey_found};
 
-use crate::{DataFile, LogRooms, OpenError, Parts, Rooms};
+use crate::{OpenError, Parts, Rooms};
 use arrayvec::ArrayVec;
-use df_base::Check;
-use df_damage::{
-    Copies, Scanned, Traces, find_state, plan, rooms_of, scan_file, store_replies, waiting_of,
-};
+use df_damage::{Scanned, Surveyed, survey_version};
 use df_disk::Disk;
 use df_layout::ROOT;
 use df_quorum::Chosen;
+
+// The version that is opened.
+const VERSION: u32 = 1;
 
 /// A file that was surveyed: its parts, on which no call may be made yet, and the choice of the superblock. What is to be mended
 /// is listed in its rooms.
@@ -25,52 +25,6 @@ pub struct SurveyedFile {
     pub chosen: Chosen,
 }
 
-// Plans the mending in the rooms: the header that each slot is to have, and the list.
-fn plan_rooms(file: &DataFile, copies: &Copies, rooms: &mut LogRooms)
-    requires layout { rooms.old.layout ≡ file.now.layout }
-    requires cluster { rooms.old.slots.start.cluster ≡ file.now.cluster }
-    requires slots { AreSlots file.now.layout file.now.cluster rooms.old.slots.slots }
-    ensures planned { ArePlannedFrom file.now.layout file.now.cluster rooms.old.slots copies.now.slots copies.now.found.chosen.members rooms.new.headers rooms.new.mends.items }
-    ensures layout { rooms.new.layout ≡ file.now.layout }
-    ensures slots { rooms.new.slots ≡ rooms.old.slots }
-{
-    let layout = rooms.layout;
-    let members = copies.found.chosen.members;
-    plan(
-        &layout,
-        file.cluster,
-        &rooms.slots,
-        &copies.slots,
-        &members,
-        &mut rooms.headers,
-        &mut rooms.mends,
-    );
-}
-
-// The checksums of the prepares that wait, by the tables of the rooms.
-fn waiting_in(
-    file: &DataFile,
-    rooms: &LogRooms,
-    base: u64,
-    replies: u64,
-    head: u64,
-) -> ArrayVec<Check, 8>
-    requires layout { rooms.now.layout ≡ file.now.layout }
-    requires base { base ≡ rooms.now.slots.start.op }
-    requires order { replies ≤ head }
-    requires few { head ≤ replies + 8 }
-    ensures { result.items ≡ waiting_in file.now.layout.slots rooms.now.slots rooms.now.headers replies head }
-{
-    waiting_of(
-        &file.layout,
-        &rooms.slots,
-        &rooms.headers,
-        base,
-        replies,
-        head,
-    )
-}
-
 // A root has at most 1,024 bytes.
 fn root_fits(root: &ArrayVec<u8, ROOT>)
     ensures { length root.now.items ≤ 1024 }
@@ -78,38 +32,40 @@ fn root_fits(root: &ArrayVec<u8, ROOT>)
     let _bytes = root.as_slice();
 }
 
-// The survey of a file whose state was found: of what was read, with the sessions after the tail.
-fn surveyed(traces: &Traces, scanned: Scanned) -> SurveyedFile
-    requires scanned { IsLawful scanned }
-    requires tail { EndsBehind scanned.file.layout scanned.copies.found.content traces.now }
-    requires sessions { AreAfter traces.now scanned.sessions.sessions }
-    ensures planned { IsSettledFrom scanned (survey_in result) }
-    ensures settled { IsSettled scanned traces.now scanned.sessions (state_in result.parts) }
+// The parts of a file of version 1 whose state was found, with the tour at its start.
+fn parts_of(surveyed: Surveyed) -> SurveyedFile
+    requires found { IsWellFound surveyed }
+    requires version { surveyed.scanned.file.version ≡ 1 }
+    requires planned { IsPlannedFor surveyed }
     ensures found { AreFound result.parts }
+    ensures seen { survey_in result ≡ survey_found surveyed }
 {
+    let Surveyed {
+        scanned,
+        traces,
+        waiting,
+    } = surveyed;
     let Scanned {
         file,
         copies,
-        log: mut rooms,
+        log: rooms,
         grid,
         trailer,
         scrub,
         root,
         sessions,
     } = scanned;
-    plan_rooms(&file, &copies, &mut rooms);
     let scrub = scrub.cleared();
     let content = copies.found.content;
     let chosen = copies.found.chosen;
-    let head = traces.tail.op;
-    let head_checksum = traces.tail.checksum;
-    let waiting = waiting_in(&file, &rooms, content.fields().op, traces.replies, head);
+    let _fields = content.fields();
     root_fits(&root);
+    let head_checksum = traces.tail.checksum;
     let parts = Parts {
         file,
         content,
         root,
-        head,
+        head: traces.tail.op,
         head_checksum,
         replies: traces.replies,
         sessions,
@@ -124,54 +80,8 @@ fn surveyed(traces: &Traces, scanned: Scanned) -> SurveyedFile
     SurveyedFile { parts, chosen }
 }
 
-// The survey of a file that was read: its state is found, and the mending planned.
-fn settle(scanned: Scanned) -> Result<SurveyedFile, (Rooms, OpenError)>
-    requires scanned { IsLawful scanned }
-    requires sessions { AreOfCheckpoint scanned.copies.found.content scanned.sessions.sessions }
-    ensures planned { IfOk (survey_of result) (IsSettledFrom scanned) }
-    ensures found { IfOk result (λ surveyed. AreFound surveyed.parts) }
-    ensures answer { (t : Told) → IsReadOf t scanned → Surveys scanned.file.layout t.shown (state_of (survey_of result)) }
-    ensures given_back { IfErr result (λ refused. refused.0.layout ≡ scanned.file.layout) }
-    ensures place { IfErr result (λ refused. IsDamage refused.1) }
-{
-    let Scanned {
-        file,
-        copies,
-        log,
-        grid,
-        trailer,
-        scrub,
-        root,
-        mut sessions,
-    } = scanned;
-    let found = find_state(
-        &file.layout,
-        &copies.found,
-        &log.slots,
-        &log.replies,
-        &mut sessions,
-    );
-    match found {
-        Ok(traces) => {
-            store_replies(&mut sessions, traces.replies, &log.replies);
-            let settled = Scanned {
-                file,
-                copies,
-                log,
-                grid,
-                trailer,
-                scrub,
-                root,
-                sessions,
-            };
-            Ok(surveyed(&traces, settled))
-        }
-        Err(refusal) => Err((rooms_of(file.layout, log, grid, trailer, scrub), refusal)),
-    }
-}
-
-/// What a file shows: its state, and what is to be mended before calls may work on it; or the first reason of the order of
-/// open why it isn't opened, and the rooms. It syncs once, then reads each copy of the superblock once, each block of the
+/// What a file of version 1 shows: its state, and what is to be mended before calls may work on it; or the first reason of the order
+/// of open why it isn't opened, and the rooms. It syncs once, then reads each copy of the superblock once, each block of the
 /// trailer that it names twice, and each sector of the header ring, each slot of the ring of prepares and each reply slot
 /// once, and writes nothing. Where sectors of the file were damaged, lost or swapped before, it finds a state that the file had,
 /// or refuses it because of a sector that is hurt.
@@ -186,8 +96,8 @@ pub fn survey_file<D: Disk>(disk: &mut D, rooms: Rooms) -> Result<SurveyedFile, 
     ensures planned { (t : Told) → D.told disk.new ≡ Some t → IfOk (survey_of result) (λ survey. IsPlanned survey.state.file survey.state.headers survey.mends survey.state.fields survey.chosen.members t) }
     ensures cause { IsBlamed is_open_fault (D.faults disk.old) (D.faults disk.new) (state_of (survey_of result)) }
 {
-    match scan_file(disk, rooms) {
-        Ok(scanned) => settle(scanned),
+    match survey_version(disk, rooms, VERSION) {
+        Ok(surveyed) => Ok(parts_of(surveyed)),
         Err(refused) => Err(refused),
     }
 }

@@ -1,22 +1,36 @@
--- A superblock that an open takes is of version 1 and can be used, and so back; it has no boot and names nothing.
-use Rattle.std.proofs.Common.{inl, inr, ◌≡◌, ◌==◌, Some, None, sym, ◌∙◌, arith}
+-- A superblock that an open takes is of the version that is asked for and can be used, and so back; of version 1 it has no boot and names nothing.
+use Rattle.std.proofs.Common.{inl, inr, ℕ, ◌≡◌, ◌==◌, Some, None, sym, ◌∙◌, subst, arith}
 use Rattle.std.proofs.lemmas.Bool.{cases_eq, cond-true, cond-false, eq-eqb, ne_eqb}
+use Rattle.df_format.specs.Copies.{content_with}
 use Rattle.df_format.specs.declared.superblock.SuperFields.{SuperFields}
 use Rattle.df_format.specs.declared.superblock.SuperFault.TheVariants.{Version as OtherVersion}
 use Rattle.df_format.specs.SuperRules.{IsFirstSuper, IsSuper, IsUsable, fault_of}
 use Rattle.df_format.proofs.Laws.{faults}
-use Rattle.df_units.proofs.Laws.{none_are}
-use Rattle.df_rooms.specs.State.{IsPlain}
-use Rattle.df_recovery.specs.Opening.{fault_asked}
+use Rattle.df_theory.specs.Trailer.{IsReference}
+use Rattle.df_theory.specs.View.{PassesTests}
+use Rattle.df_units.specs.Format.{shape_as}
+use Rattle.df_units.specs.Meaning.{content_of, layout_of}
+use Rattle.df_units.specs.Superblocks.{AreFieldsOf}
+use Rattle.df_units.proofs.Laws.{none_are, usable_passes}
+use Rattle.df_trailer.specs.Text.{parse_of}
+use Rattle.df_rooms.specs.State.{IsPlain, shape}
+use Rattle.df_rooms.specs.declared.file.DataFile.{DataFile}
+use Rattle.df_recovery.specs.Opening.{fault_as, fault_asked}
 
-pub asked_super : (f : SuperFields) → fault_asked f ≡ None → (f.version ≡ 1) × IsSuper f
-asked_super f none = elim (cases_eq f.version 1) [
-  | inl first ↦ (first, (faults f).0 (sym (cond-true (f.version == 1) (fault_of f) (Some (OtherVersion f.version)) (eq-eqb f.version 1 first)) ∙ none))
-  | inr other ↦ absurd (let some = sym (cond-false (f.version == 1) (fault_of f) (Some (OtherVersion f.version)) (ne_eqb f.version 1 other)) ∙ none in cc)
+pub super_as : (version : ℕ) (f : SuperFields) → fault_as version f ≡ None → (f.version ≡ version) × IsSuper f
+super_as version f none = elim (cases_eq f.version version) [
+  | inl of ↦ (of, (faults f).0 (sym (cond-true (f.version == version) (fault_of f) (Some (OtherVersion f.version)) (eq-eqb f.version version of)) ∙ none))
+  | inr other ↦ absurd (let some = sym (cond-false (f.version == version) (fault_of f) (Some (OtherVersion f.version)) (ne_eqb f.version version other)) ∙ none in cc)
 ]
 
+pub asked_super : (f : SuperFields) → fault_asked f ≡ None → (f.version ≡ 1) × IsSuper f
+asked_super f none = super_as 1 f none
+
+pub as_none : (version : ℕ) (f : SuperFields) → f.version ≡ version → IsSuper f → fault_as version f ≡ None
+as_none version f of is = cond-true (f.version == version) (fault_of f) (Some (OtherVersion f.version)) (eq-eqb f.version version of) ∙ (faults f).1 is
+
 pub asked_none : (f : SuperFields) → f.version ≡ 1 → IsSuper f → fault_asked f ≡ None
-asked_none f first is = cond-true (f.version == 1) (fault_of f) (Some (OtherVersion f.version)) (eq-eqb f.version 1 first) ∙ (faults f).1 is
+asked_none f first is = as_none 1 f first is
 
 -- so it has no boot, and names nothing
 pub first_rules : (f : SuperFields) → f.version ≡ 1 → IsSuper f → IsFirstSuper f
@@ -32,3 +46,11 @@ plain_super f first is =
       reply_checksums = none_are f.reply_checksums is.fits.reply_checksums.size rules.named.replies;
       first_nonzero = is.rules.zero;
     }
+
+-- ---- in the theory
+
+-- the fields of a file pass the theory's tests for its version
+pub passes_as : (file : DataFile) (f : SuperFields) → AreFieldsOf file.layout file.cluster f → f.version ≡ file.version → IsSuper f → PassesTests (shape file) (content_of (content_with f)) × IsReference (layout_of file.layout) (content_of (content_with f))
+passes_as file f of version rules =
+    subst (λ (v : ℕ). PassesTests (shape_as v file.layout file.cluster file.named (parse_of (layout_of file.layout))) (content_of (content_with f)) × IsReference (layout_of file.layout) (content_of (content_with f))) version
+    (usable_passes file.layout file.cluster file.named (parse_of (layout_of file.layout)) (content_with f) of rules)

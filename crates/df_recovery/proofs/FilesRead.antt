@@ -10,7 +10,7 @@ use Rattle.df_disk.specs.Told.{Told}
 use Rattle.df_layout.specs.declared.layout.Layout.{Layout}
 use Rattle.df_format.specs.Copies.{Content, content_at, content_with}
 use Rattle.df_format.specs.SuperRules.{IsSuper}
-use Rattle.df_recovery.proofs.Asked.{asked_super}
+use Rattle.df_recovery.proofs.Asked.{passes_as, super_as}
 use Rattle.df_quorum.specs.Quorum.{AreMembers, IsChosen}
 use Rattle.df_quorum.proofs.Laws.{one_law}
 use Rattle.df_sessions.specs.Requests.{sessions_of}
@@ -21,19 +21,17 @@ use Rattle.df_theory.specs.Trailer.{IsReference}
 use Rattle.df_theory.specs.View.{PassesTests}
 use Rattle.df_units.specs.Bytes.{copy_unit, unit_at}
 use Rattle.df_units.specs.Meaning.{content_of, layout_of}
-use Rattle.df_units.specs.Superblocks.{AreFieldsOf, HasChecks}
-use Rattle.df_units.proofs.Laws.{choice_chosen, first_usable_passes, one_content, shown_checks, copy_parts, unbooted_alone}
-use Rattle.df_journal.specs.Shows.{Tells}
-use Rattle.df_journal.proofs.Laws.{scanned_shown as slots_shown}
+use Rattle.df_units.specs.Superblocks.{AreFieldsOf}
+use Rattle.df_units.proofs.Laws.{choice_chosen, one_content, shown_checks, copy_parts}
+use Rattle.df_journal.specs.Shows.{TellsRings}
+use Rattle.df_journal.proofs.Laws.{rings_shown as slots_shown}
 use Rattle.df_replies.specs.Shown.{ShowsReplies}
 use Rattle.df_replies.proofs.Laws.{scanned_shown as replies_shown}
-use Rattle.df_trailer.specs.Text.{parse_of}
 use Rattle.df_recovery.specs.Checkpoints.{Base, base_of}
 use Rattle.df_recovery.specs.Finding.{FileIsRead, IsOfFile, Read, lowest_of, or_first}
 use Rattle.df_rooms.specs.State.{shape}
 use Rattle.df_rooms.specs.declared.file.DataFile.{DataFile}
-use Rattle.df_recovery.proofs.Starts.{version_one}
-use Rattle.df_recovery.proofs.Written.{super_is_written}
+use Rattle.df_recovery.proofs.Written.{super_is_written_as}
 
 -- ---- the lowest member
 
@@ -72,10 +70,10 @@ module _ (t : Told) (file : DataFile) (read : Read) (base : Base) (is : IsOfFile
   }
 
   usable : IsSuper read.found.content
-  usable = (asked_super read.found.content is.has.super.usable).1
+  usable = (super_as file.version read.found.content is.has.super.usable).1
 
   chosen : IsChosen (content_at t.shown) (content_with read.found.content)
-  chosen = super_is_written t.shown read.found.content is.image is.has.super
+  chosen = super_is_written_as file.version t.shown read.found.content is.image is.has.super
 
   lowest : IsLowest (unit_at file.layout file.cluster t.shown) (content_of (content_with read.found.content)) (lowest_of read.found.chosen.members)
   lowest =
@@ -99,7 +97,7 @@ module _ (t : Told) (file : DataFile) (read : Read) (base : Base) (is : IsOfFile
       })
 
   passes : PassesTests (shape file) (content_of (content_with read.found.content)) × IsReference (layout_of file.layout) (content_of (content_with read.found.content))
-  passes = first_usable_passes file.layout file.cluster file.named (parse_of (layout_of file.layout)) (content_with read.found.content) fields_are (asked_super read.found.content is.has.super.usable).0 usable
+  passes = passes_as file read.found.content fields_are (super_as file.version read.found.content is.has.super.usable).0 usable
 
   readable : IsReadable (shape file) (unit_at file.layout file.cluster t.shown) (base_of read.found.content is.checkpoint.chain is.checkpoint.parts)
   readable = record {
@@ -110,14 +108,12 @@ module _ (t : Told) (file : DataFile) (read : Read) (base : Base) (is : IsOfFile
 
 pub file_is_read : FileIsRead
 file_is_read t file read base is = record {
-  tells = subst (λ (image : Units.Units). Tells read.layout image read.slots) same (slots_shown read.layout t read.slots (version_one read.slots.start read.found.content is.start) is.scanned.slots);
+  tells = subst (λ (image : Units.Units). TellsRings read.layout image read.slots) same (slots_shown read.layout t read.slots is.scanned.slots);
   shows = subst (λ (image : Units.Units). ShowsReplies image read.replies) same (replies_shown read.layout read.slots.start.cluster t read.replies is.scanned.replies);
   slots_are = ap (λ (l : Layout). l.slots) (sym is.layout);
   clients_are = ap (λ (l : Layout). l.clients) (sym is.layout);
   content_is = refl;
   readable = readable t file read base is;
-  first = (asked_super read.found.content is.has.super.usable).0;
-  alone = λ s p shown own. unbooted_alone file.layout file.cluster t.shown is.image s p shown (own ∙ ((passes t file read base is).0.of.one (asked_super read.found.content is.has.super.usable).0).0);
   lowest_is = lowest t file read base is;
   sessions_are = is.checkpoint.sessions_are ∙ ap sessions_of is.sessions;
 }

@@ -1,5 +1,5 @@
 -- How many prepares wait behind a tail that is found: by an image that shows what the tables say.
-use Rattle.std.proofs.Common.{◌≡◌, inl, inr, ℕ, ◌+◌, ◌<◌, ◌≤◌, List, [], ◌∷◌, length, Option, Some, None, refl, sym, ◌∙◌, ap, subst, arith}
+use Rattle.std.proofs.Common.{◌≡◌, inl, inr, ℕ, ◌+◌, ◌<◌, ◌≤◌, List, [], ◌∷◌, length, Option, Some, None, refl, sym, ap, subst, arith}
 use Rattle.std.specs.Prelude.{Result, Ok, Err}
 use Rattle.std.specs.List.{slice_get}
 use Rattle.std.proofs.lemmas.Option.{slice_get_past}
@@ -18,7 +18,7 @@ use Rattle.df_theory.specs.Units
 use Rattle.df_theory.specs.Units.{AnyUnit, BlockPlace, CopyPlace, HeaderPlace, HeaderUnit, Message, PreparePlace, PrepareUnit, ReplyPlace, ReplyUnit}
 use Rattle.df_theory.specs.Found.{IsReplies}
 use Rattle.df_theory.specs.Sessions.{MayAsk, Tracks, noted, sessions_after}
-use Rattle.df_theory.proofs.Laws.{noted_get, tracks_chain}
+use Rattle.df_theory.proofs.Laws.{tracks_chain}
 use Rattle.df_rooms.specs.State.{AreAsked}
 use Rattle.df_theory.specs.Tails.{Chain, last_mark}
 use Rattle.df_theory.specs.Shape.{Shape}
@@ -26,15 +26,14 @@ use Rattle.df_theory.specs.View.{Checkpoint}
 use Rattle.df_units.specs.Format.{shape_of}
 use Rattle.df_units.specs.Meaning.{content_of, header_of}
 use Rattle.df_journal.specs.Shows.{ShowsHeader, ShowsPrepare, ShowsTable}
-use Rattle.df_journal.specs.Counts.{CountsOwn}
-use Rattle.df_journal.specs.Tail.{FindsTail, StartsAt}
+use Rattle.df_journal.specs.Counts.{CountsReplies}
+use Rattle.df_journal.specs.Tail.{IsReached}
 use Rattle.df_journal.proofs.Laws.{own_within}
-use Rattle.df_journal.specs.declared.table.Start.{Start}
+use Rattle.df_journal.specs.declared.reach.Reach.{Reach}
 use Rattle.df_journal.specs.declared.tail.Tail.{Tail}
 use Rattle.df_replies.specs.Shown.{ShowsReplies, ShowsReply}
 use Rattle.df_rooms.proofs.Laws.{asked_noted}
-use Rattle.df_recovery.specs.Starting.{start_of}
-use Rattle.df_recovery.proofs.Asked.{first_rules}
+use Rattle.df_recovery.specs.Known.{IsBaseOf}
 
 -- ---- an image that shows what the tables say
 
@@ -99,50 +98,12 @@ shows_replies slots replies = record {
 pub any_shape : Layout → Shape
 any_shape layout = shape_of layout 1 (omega arith) (λ op text. None)
 
--- a content with these numbers, which names neither a prepare above its checkpoint's nor a reply
-abbrev any_content : SuperFields → Units.Content
-any_content f =
-    let c = content_of (content_with f) in
-    record {
-      checksum = c.checksum;
-      version = c.version;
-      cluster = c.cluster;
-      layout = c.layout;
-      sequence = c.sequence;
-      boot = c.boot;
-      op = c.op;
-      op_checksum = c.op_checksum;
-      head = c.head;
-      replies = c.replies;
-      pin = c.op;
-      pin_checksum = c.op_checksum;
-      answered = 0;
-      reply_checksums = [];
-      trailer = c.trailer;
-      trailer_checksum = c.trailer_checksum;
-      trailer_size = c.trailer_size;
-      rest = c.rest;
-    }
-
 abbrev pub any_base : SuperFields → List Session → Checkpoint
-any_base f ss = record { content = any_content f; chain = []; parts = record { root = []; sessions = sessions_of ss; references = λ a. None } }
+any_base f ss = record { content = content_of (content_with f); chain = []; parts = record { root = []; sessions = sessions_of ss; references = λ a. None } }
 
-pub any_starts : (layout : Layout) (start : Start) (f g : SuperFields) (ss : List Session) → start ≡ start_of g → f ≡ g → f.boot ≡ 0 → StartsAt (any_shape layout) (any_base f ss) layout start f.op_checksum ss
+pub any_is : (layout : Layout) (f : SuperFields) (ss : List Session) → IsBaseOf (any_shape layout) (any_base f ss) layout f ss
 unfolding any_shape
-any_starts layout start f g ss start_is same none = record {
-  slots_are = refl;
-  clients_are = refl;
-  op_is = ap (λ (x : SuperFields). x.op) same ∙ sym (ap (λ (x : Start). x.op) start_is);
-  checksum_is = refl;
-  boot = none ∙ sym (ap (λ (x : Start). x.boot) start_is);
-  pin = ap (λ (x : SuperFields). x.op) same ∙ sym (ap (λ (x : Start). x.head) start_is);
-  pin_checksum = refl;
-  sessions_are = refl;
-}
-
--- fields of version 1 have no boot
-pub booted : (f g : SuperFields) → f ≡ g → g.version ≡ 1 → IsSuper g → f.boot ≡ 0
-booted f g same first rules = ap (λ (x : SuperFields). x.boot) same ∙ (first_rules g first rules).boot
+any_is layout f ss = record { slots_are = refl; clients_are = refl; content_is = refl; sessions_are = refl }
 
 -- ---- the bounds
 
@@ -171,15 +132,18 @@ asked_chain clients op parent mark ss [] chain asked = asked
 asked_chain clients op parent mark ss (p ∷ ps) chain asked =
     asked_chain clients (op + 1) p.header.checksum p.header.mark (noted p.header ss) ps chain.1 (asked_noted p.header ss asked (may_ask_some clients p.header ss chain.0.asks))
 
-module _ (sh : Shape) (image : Units.Units) (f : SuperFields) (ss after : List Session) (end : Tail) (n : ℕ) (rules : IsSuper f) (found : FindsTail sh image (any_base f ss) end after) (replies : IsReplies image (any_base f ss).content found.tail n) where
+module _ (sh : Shape) (image : Units.Units) (f : SuperFields) (ss after : List Session) (reach : Reach) (n : ℕ) (rules : IsSuper f) (found : IsReached sh image (any_base f ss) reach after) (replies : IsReplies image (any_base f ss).content found.tail n) where
+  abbrev end : Tail
+  end = reach.tail
+
   pub few_wait : end.op ≤ n + 8
   few_wait = tail_near sh.layout.clients f.op (any_base f ss).content.op_checksum end.op n (sessions_of ss) found.tail found.is.chain found.ends.op replies.mark (omega (arith, rules.head.0, rules.replies.1, replies.superblock))
 
-  pub not_above : (own : Counters) → CountsOwn f.boot image own → IsComplete own f.head end.op → n ≤ end.op
+  pub not_above : (own : Counters) → CountsReplies f.boot image own → IsComplete own f.head end.op → n ≤ end.op
   not_above own counts kept = elim replies.reached [
     | inl base ↦ omega (arith, base, rules.replies.0, kept.superblock)
     | inr (inl mark) ↦ omega (arith, mark, found.ends.op, mark_below sh.layout.clients (f.op + 1) (any_base f ss).content.op_checksum 0 0 (sessions_of ss) found.tail found.is.chain (omega arith))
-    | inr (inr reply) ↦ omega (arith, reply.3, own_within f.boot end.op (λ h. h.op) reply.1.header (((counts.replies end.op).0 kept.reply_top).0 reply.0 reply.1 reply.2) reply.4)
+    | inr (inr reply) ↦ omega (arith, reply.3, own_within f.boot end.op (λ h. h.op) reply.1.header (((counts end.op).0 kept.reply_top).0 reply.0 reply.1 reply.2) reply.4)
   ]
 
   -- fewer ops wait where more replies are stored

@@ -1,10 +1,11 @@
 -- Each step of what an open finds is the theory's.
-use Rattle.std.proofs.Common.{◌≡◌, ◌↔◌, ℕ, ◌+◌, ◌≤◌, List, [], length, Some, refl, sym, ◌∙◌, ap, subst, arith}
-use Rattle.std.specs.Prelude.{Result}
+use Rattle.std.proofs.Common.{inl, inr, ◌≡◌, ◌≢◌, ◌↔◌, ℕ, ◌+◌, ◌<◌, ◌≤◌, ◌%◌, ◌^◌, List, length, refl, sym, ◌∙◌, ap, subst, arith}
 use Rattle.std.specs.List.{slice_get}
+use Rattle.std.proofs.lemmas.Bool.{cases_lt}
+use Rattle.df_disk.specs.Told.{Told}
 use Rattle.df_layout.specs.declared.damage.Class.{Class}
+use Rattle.df_layout.specs.declared.layout.Layout.{Layout}
 use Rattle.df_format.specs.Copies.{content_with}
-use Rattle.df_format.specs.declared.header.Header.{Header}
 use Rattle.df_format.specs.declared.superblock.SuperFields.{SuperFields}
 use Rattle.df_sessions.specs.declared.session.Session.{Session}
 use Rattle.df_sessions.specs.Requests.{sessions_of}
@@ -13,19 +14,20 @@ use Rattle.df_theory.specs.Units
 use Rattle.df_theory.specs.Units.{Content, CopyPlace, Message, PreparePlace, ReplyPlace}
 use Rattle.df_theory.specs.Found
 use Rattle.df_theory.specs.Found.{IsReplies, NotBehind, NotLost}
-use Rattle.df_theory.specs.Opens.{Behind, Damaged as Damages, LacksReply, Lost, Opens, ReachesReplies, ReachesTail, Refused, Unanswered}
+use Rattle.df_theory.specs.Opens.{Behind, BootSpent as NoBoot, Damaged as Damages, LacksReply, Lost, Opens, ReachesReplies, ReachesTail, Refused, Spent, Unanswered, Unfit, Unknown}
 use Rattle.df_theory.specs.Sessions.{sessions_after}
-use Rattle.df_theory.specs.Shape.{Shape}
+use Rattle.df_theory.specs.Shape.{Shape, slots}
 use Rattle.df_theory.specs.View.{Checkpoint, View}
+use Rattle.df_model.specs.declared.errors.OpenError.{OpenError}
 use Rattle.df_units.specs.Meaning.{content_of}
-use Rattle.df_journal.specs.Counts.{CountsAll, CountsOwn, CountsReplies, CountsRings, RepliesWithin, RingsWithin, in_boot}
-use Rattle.df_journal.specs.declared.table.Start.{Start}
-use Rattle.df_journal.specs.Tail.{FindsTail, StartsAt}
+use Rattle.df_journal.specs.Counts.{CountsAll, CountsBound, CountsReplies, CountsRings, RepliesWithin, RingsWithin, in_boot}
+use Rattle.df_journal.specs.declared.reach.Reach.{Reach}
+use Rattle.df_journal.specs.Tail.{IsReached}
 use Rattle.df_journal.specs.declared.tail.Tail.{Tail}
-use Rattle.df_replies.specs.Answers.{AllAnswered, NamesNone, StoredAreFound, stored_by}
-use Rattle.df_replies.specs.Shown.{ShowsReplies}
-use Rattle.df_recovery.specs.Finding.{FindsView, IsReadFrom, Read, lowest_of}
-use Rattle.df_recovery.specs.Starting.{start_of}
+use Rattle.df_replies.specs.Answers.{AllAnswered, StoredAreFound, stored_by}
+use Rattle.df_recovery.specs.Finding.{EachOpens, FindsView, IsReadFrom, IsRefused, IsScannedFrom, Read, damage, lowest_of}
+use Rattle.df_recovery.specs.Surveys.{class_there}
+use Rattle.df_recovery.specs.Known.{BlamesKnown, IsBaseOf}
 
 -- ---- the counters
 
@@ -56,51 +58,57 @@ counts_replies boot image rings seen none top n = (
 
 -- ---- the steps
 
+-- the refusal that names a place
+pub at_place : (read : Read) (at : Units.Place) (class : Class) (e : OpenError) → e ≡ damage at class → EachOpens read (Damages at) → ((t : Told) → IsScannedFrom t read → class ≡ class_there read.layout read.slots.start.cluster t.shown at) → IsRefused read e
+at_place read at class e is opens class_is = subst (IsRefused read) (sym is) (record { at = at; place_is = refl; opens = opens; class_is = class_is })
+
+-- the slot of an op, by the layout and by the shape
+slot_same : (sh : Shape) (layout : Layout) (op slot : ℕ) → slots sh ≡ layout.slots → slot ≡ op % layout.slots → slot ≡ op % slots sh
+slot_same sh layout op slot same at = at ∙ ap (λ (n : ℕ). op % n) (sym same)
+
 module _ (sh : Shape) (image : Units.Units) (b : Checkpoint) (read : Read) (is : IsReadFrom sh image b read) where
   -- the content has these fields
   pub content_same : (fields : SuperFields) → fields ≡ read.found.content → b.content ≡ content_of (content_with fields)
   content_same fields same = is.content_is ∙ ap (λ (f : SuperFields). content_of (content_with f)) (sym same)
 
-  -- it has no boot, and names no prepare above its checkpoint's and no reply
-  of_one : (b.content.boot ≡ 0) × (b.content.pin ≡ b.content.op) × (b.content.pin_checksum ≡ b.content.op_checksum) × (b.content.answered ≡ 0)
-  of_one = is.readable.sound.tests.of.one is.first
-
   pub boot_is : (fields : SuperFields) → fields ≡ read.found.content → b.content.boot ≡ fields.boot
   boot_is fields same = ap (λ (c : Content). c.boot) (content_same fields same)
 
-  pub names_none : NamesNone b.content
-  names_none = record { answered = of_one.3 }
+  -- a boot that isn't the greatest is below it
+  pub below_spent : (fields : SuperFields) → fields ≡ read.found.content → fields.boot ≢ 2 ^ 62 → b.content.boot < 2 ^ 62
+  below_spent fields same other =
+      let most = is.readable.sound.tests.boot in
+      elim (cases_lt b.content.boot (2 ^ 62)) [ inl less ↦ less | inr from ↦ absurd (other (omega (arith, most, from, boot_is fields same))) ]
+
+  pub is_base : (fields : SuperFields) → fields ≡ read.found.content → IsBaseOf sh b read.layout fields read.sessions
+  is_base fields same = record { slots_are = is.slots_are; clients_are = is.clients_are; content_is = content_same fields same; sessions_are = is.sessions_are }
 
   -- the counters of a boot are those of the content's
-  pub counts_own : (fields : SuperFields) (own : Counters) → fields ≡ read.found.content → CountsOwn fields.boot image own → CountsOwn b.content.boot image own
-  counts_own fields own same = subst (λ (boot : ℕ). CountsOwn boot image own) (sym (boot_is fields same))
-
-  pub starts : (fields : SuperFields) → read.slots.start ≡ start_of read.found.content → fields ≡ read.found.content → StartsAt sh b read.layout read.slots.start fields.op_checksum read.sessions
-  starts fields start same = record {
-    slots_are = is.slots_are;
-    clients_are = is.clients_are;
-    op_is = ap (λ (c : Content). c.op) is.content_is ∙ sym (ap (λ (x : Start). x.op) start);
-    checksum_is = ap (λ (c : Content). c.op_checksum) (content_same fields same);
-    boot = of_one.0 ∙ sym is.tells.version.boot;
-    pin = of_one.1 ∙ ap (λ (c : Content). c.op) is.content_is ∙ sym (ap (λ (x : Start). x.head) start);
-    pin_checksum = of_one.2;
-    sessions_are = is.sessions_are;
-  }
+  pub counts_bound : (fields : SuperFields) (top : ℕ) (seen : Counters) → fields ≡ read.found.content → CountsBound fields.boot top image seen → CountsBound b.content.boot top image seen
+  counts_bound fields top seen same = subst (λ (boot : ℕ). CountsBound boot top image seen) (sym (boot_is fields same))
 
   pub opens_behind : (NotBehind sh image b.content → ⊥) → Opens sh image (Refused (Damages (CopyPlace (lowest_of read.found.chosen.members))))
   opens_behind behind = Behind b (lowest_of read.found.chosen.members) is.readable behind is.lowest_is
 
-  module _ (end : Tail) (sessions : List Session) (early : NotBehind sh image b.content) (found : FindsTail sh image b end sessions) where
+  pub opens_known : (slot : ℕ) → NotBehind sh image b.content → BlamesKnown sh image b slot → Opens sh image (Refused (Damages (PreparePlace slot)))
+  opens_known slot early (inl (a, at, lacks)) = subst (λ (s : ℕ). Opens sh image (Refused (Damages (PreparePlace s)))) (sym at) (Unknown b a is.readable early lacks)
+  opens_known slot early (inr (front, at, unfit)) = subst (λ (s : ℕ). Opens sh image (Refused (Damages (PreparePlace s)))) (sym at) (Unfit b front is.readable early unfit)
+
+  module _ (reach : Reach) (sessions : List Session) (early : NotBehind sh image b.content) (found : IsReached sh image b reach sessions) where
+    abbrev end : Tail
+    end = reach.tail
+
     reaches : ReachesTail sh image b found.tail
     reaches = record { readable = is.readable; not_behind = early; tail_is = found.is }
 
     kept : NotLost image b.content end.op → NotLost image b.content (b.content.op + length found.tail)
     kept = subst (NotLost image b.content) found.ends.op
 
-    pub opens_lost : (slot : ℕ) → slot ≡ Found.slot_behind sh b found.tail [] → (NotLost image b.content end.op → ⊥) → Opens sh image (Refused (Damages (PreparePlace slot)))
+    pub opens_lost : (slot : ℕ) → slot ≡ (reach.op + 1) % read.layout.slots → (NotLost image b.content end.op → ⊥) → Opens sh image (Refused (Damages (PreparePlace slot)))
     opens_lost slot at lost =
         let lost_there : NotLost image b.content (b.content.op + length found.tail) → ⊥ = λ not. lost (subst (NotLost image b.content) (sym found.ends.op) not) in
-        subst (λ (s : ℕ). Opens sh image (Refused (Damages (PreparePlace s)))) (sym at) (Lost b found.tail [] reaches found.reach lost_there)
+        let here : slot ≡ Found.slot_behind sh b found.tail found.more = slot_same sh read.layout (reach.op + 1) slot is.slots_are at ∙ ap (λ (o : ℕ). (o + 1) % slots sh) found.op_is in
+        subst (λ (s : ℕ). Opens sh image (Refused (Damages (PreparePlace s)))) (sym here) (Lost b found.tail found.more reaches found.goes_on lost_there)
 
     replied : (n : ℕ) → NotLost image b.content end.op → IsReplies image b.content found.tail n → ReachesReplies sh image b found.tail n
     replied n not_lost replies = record { reaches = reaches; not_lost = kept not_lost; replies = replies }
@@ -111,20 +119,28 @@ module _ (sh : Shape) (image : Units.Units) (b : Checkpoint) (read : Read) (is :
     abbrev pub view_of : ℕ → View
     view_of n = record { checkpoint = b; tail = found.tail; replies = n; stored = λ k. stored_by n (slice_get (sessions_after b.parts.sessions found.tail) k) (image (ReplyPlace k)) }
 
-    pub finds : (n : ℕ) → StoredAreFound → NotLost image b.content end.op → IsReplies image b.content found.tail n → AllAnswered image b.content (sessions_of sessions) n → FindsView sh image b (record { tail = end; replies = n }) sessions
-    finds n law not_lost replies all = record {
+    pub is_found : (n : ℕ) → StoredAreFound → NotLost image b.content end.op → IsReplies image b.content found.tail n → AllAnswered image b.content (sessions_of sessions) n → Found.IsFound sh image (view_of n)
+    is_found n law not_lost replies all = record {
+      chosen = is.readable.chosen;
+      checkpoint = is.readable.sound;
+      chain_shown = is.readable.shown;
+      not_behind = early;
+      tail = found.is;
+      not_lost = kept not_lost;
+      replies = replies;
+      stored = law image (view_of n) (subst (λ (ss : List Units.Session). AllAnswered image b.content ss n) found.ends.sessions_are all) (λ k. refl);
+    }
+
+    pub opens_spent : (n : ℕ) → b.content.boot ≡ 2 ^ 62 → StoredAreFound → NotLost image b.content end.op → IsReplies image b.content found.tail n → AllAnswered image b.content (sessions_of sessions) n → Opens sh image (Refused NoBoot)
+    opens_spent n spent law not_lost replies all = Spent (view_of n) (is_found n law not_lost replies all) spent
+
+    pub finds : (n : ℕ) → b.content.boot < 2 ^ 62 → StoredAreFound → NotLost image b.content end.op → IsReplies image b.content found.tail n → AllAnswered image b.content (sessions_of sessions) n
+        → FindsView sh image b (record { tail = end; replies = n }) sessions
+    finds n unspent law not_lost replies all = record {
       view = view_of n;
       checkpoint = refl;
       ends = found.ends;
       replies = refl;
-      found = record {
-        chosen = is.readable.chosen;
-        checkpoint = is.readable.sound;
-        chain_shown = is.readable.shown;
-        not_behind = early;
-        tail = found.is;
-        not_lost = kept not_lost;
-        replies = replies;
-        stored = law image (view_of n) (subst (λ (ss : List Units.Session). AllAnswered image b.content ss n) found.ends.sessions_are all) (λ k. refl);
-      };
+      found = is_found n law not_lost replies all;
+      unspent = unspent;
     }

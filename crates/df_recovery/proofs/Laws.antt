@@ -1,16 +1,16 @@
 -- What the crates above cite: that an image has one answer, and what was found is the image's in the words of the theory.
-pub use Rattle.df_recovery.proofs.Asked.{asked_none, plain_super}
-pub use Rattle.df_recovery.proofs.OneAnswer.{one_refusal, one_super, super_or_refusal}
-pub use Rattle.df_recovery.proofs.Written.{super_is_written, written_is}
+pub use Rattle.df_recovery.proofs.Asked.{as_none, plain_super}
+pub use Rattle.df_recovery.proofs.Firsts.{one_refusal, one_super, super_is_written, written_is}
 pub use Rattle.df_recovery.proofs.FilesRead.{file_is_read}
-pub use Rattle.df_recovery.proofs.OpenAnswers.{kept_is_answer, refused_is_answer}
--- ---- a file is its layout and its cluster, and a state that goes on
+pub use Rattle.df_recovery.proofs.OpenAnswers.{head_found, kept_is_answer, refused_is_answer}
+pub use Rattle.df_recovery.proofs.OneAnswer.{one_super_as, super_or_refusal_as}
+-- ---- a file is its layout, its cluster and its version, and a state that goes on
 pub use Rattle.df_rooms.proofs.Laws.{asked_noted, course_on, same_file}
 -- ---- the mends of the slots, one slot more
 pub use Rattle.df_recovery.proofs.Plans.{filter_more, slot_mends_more}
 -- ---- the checksums that wait
 pub use Rattle.df_recovery.proofs.Waits.{waiting_count}
+-- ---- sessions with the same requests
+pub use Rattle.df_recovery.proofs.Settled.{numbered_by}
 -- ---- what was scanned is of its file
-pub use Rattle.df_recovery.proofs.Scans.{scanned_of_file}
--- ---- a scan behind a superblock is one of version 1
-pub use Rattle.df_recovery.proofs.Starts.{version_one}
+pub use Rattle.df_recovery.proofs.Scans.{scanned_as, scanned_of_file}

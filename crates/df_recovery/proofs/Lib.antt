@@ -1,6 +1,7 @@
 pub mod Asked
 pub mod OneAnswer
 pub mod Written
+pub mod Firsts
 pub mod Places
 pub mod Usable
 pub mod Synced
@@ -15,8 +16,9 @@ pub mod FindingBounds
 pub mod Tracked
 pub mod Bases
 pub mod Refusals
-pub mod Starts
+pub mod Naming
 pub mod OneSurvey
 pub mod Waits
 pub mod Scans
+pub mod Settled
 pub mod Laws

@@ -10,30 +10,30 @@ use Rattle.df_format.specs.declared.superblock.SuperFault.TheVariants.{Version a
 use Rattle.df_format.specs.declared.superblock.SuperFields.{SuperFields}
 use Rattle.df_quorum.specs.Quorum.{Agree, IsChosen}
 use Rattle.df_quorum.proofs.Laws.{one_law}
-use Rattle.df_recovery.specs.Opening.{IsUnformatted, HasFault, HasSuper, fault_asked}
+use Rattle.df_recovery.specs.Opening.{IsUnformatted, HasFaultAs, HasSuperAs, fault_as}
 use Rattle.df_recovery.specs.OpeningLaws.{SuperOrRefusal, OneSuper, OneRefusal}
-use Rattle.df_model.specs.declared.errors.OpenError.TheVariants.{NotFormatted, NoQuorum, Version, BadField, LayoutDiffers, Damaged, DiskFault}
+use Rattle.df_model.specs.declared.errors.OpenError.TheVariants.{NotFormatted, NoQuorum, Version, BadField, LayoutDiffers, Damaged, DiskFault, BootSpent}
 
 one_content : (image : Image) (c d : Content) → IsChosen (content_at image) c → IsChosen (content_at image) d → c ≡ d
 one_content image c d one two = one_law (content_at image) c d one two
 
 -- one content has one fault, or none
-one_fault : (image : Image) (x y : SuperFault) → HasFault image x → HasFault image y → x ≡ y
-one_fault image x y one two =
+one_fault : (version : ℕ) (image : Image) (x y : SuperFault) → HasFaultAs version image x → HasFaultAs version image y → x ≡ y
+one_fault version image x y one two =
     let same : one.content ≡ two.content = one_content image one.content two.content one.chosen two.chosen in
-    let fault : fault_asked two.content.fields ≡ Some x = subst (λ (c : Content). fault_asked c.fields ≡ Some x) same one.broken in
-    let other : fault_asked two.content.fields ≡ Some y = two.broken in
+    let fault : fault_as version two.content.fields ≡ Some x = subst (λ (c : Content). fault_as version c.fields ≡ Some x) same one.broken in
+    let other : fault_as version two.content.fields ≡ Some y = two.broken in
     cc
 
-no_fault : (image : Image) (f : SuperFields) (x : SuperFault) → HasSuper image f → HasFault image x → ⊥
-no_fault image f x found faulty =
+no_fault : (version : ℕ) (image : Image) (f : SuperFields) (x : SuperFault) → HasSuperAs version image f → HasFaultAs version image x → ⊥
+no_fault version image f x found faulty =
     let same : faulty.content ≡ found.content = one_content image faulty.content found.content faulty.chosen found.chosen in
-    let fault : fault_asked found.content.fields ≡ Some x = subst (λ (c : Content). fault_asked c.fields ≡ Some x) same faulty.broken in
-    let none : fault_asked found.content.fields ≡ None = ap fault_asked found.fields ∙ found.usable in
+    let fault : fault_as version found.content.fields ≡ Some x = subst (λ (c : Content). fault_as version c.fields ≡ Some x) same faulty.broken in
+    let none : fault_as version found.content.fields ≡ None = ap (fault_as version) found.fields ∙ found.usable in
     cc
 
-pub one_super : OneSuper
-one_super image f g one two =
+pub one_super_as : OneSuper
+one_super_as version asked image f g one two =
     let same : one.content ≡ two.content = one_content image one.content two.content one.chosen two.chosen in
     sym one.fields ∙ ap (λ (c : Content). c.fields) same ∙ two.fields
 
@@ -49,44 +49,50 @@ nothing_chosen image c zeros agree =
     let some : content_at image agree.second ≡ Some c = agree.at_second in
     cc
 
-pub super_or_refusal : SuperOrRefusal
-super_or_refusal image f NotFormatted found zeros = nothing_chosen image found.content zeros found.chosen.agreed
-super_or_refusal image f (NoQuorum classes) found none = none.split found.content found.chosen.agreed
-super_or_refusal image f (Version number) found faulty = no_fault image f (OtherVersion number) found faulty
-super_or_refusal image f (BadField field value) found faulty = no_fault image f (BrokenField field value) found faulty
-super_or_refusal image f (LayoutDiffers reserved there) found none = none
-super_or_refusal image f (Damaged place class) found none = none
-super_or_refusal image f DiskFault found none = none
+pub super_or_refusal_as : SuperOrRefusal
+super_or_refusal_as version image f NotFormatted found zeros = nothing_chosen image found.content zeros found.chosen.agreed
+super_or_refusal_as version image f (NoQuorum classes) found none = none.split found.content found.chosen.agreed
+super_or_refusal_as version image f (Version number) found faulty = no_fault version image f (OtherVersion number) found faulty
+super_or_refusal_as version image f (BadField field value) found faulty = no_fault version image f (BrokenField field value) found faulty
+super_or_refusal_as version image f (LayoutDiffers reserved there) found none = none
+super_or_refusal_as version image f (Damaged place class) found none = none
+super_or_refusal_as version image f DiskFault found none = none
+super_or_refusal_as version image f BootSpent found none = none
 
-pub one_refusal : OneRefusal
-one_refusal image NotFormatted NotFormatted one two = refl
-one_refusal image NotFormatted (NoQuorum classes) zeros none = absurd (none.formatted zeros)
-one_refusal image NotFormatted (Version number) zeros faulty = absurd (nothing_chosen image faulty.content zeros faulty.chosen.agreed)
-one_refusal image NotFormatted (BadField field value) zeros faulty = absurd (nothing_chosen image faulty.content zeros faulty.chosen.agreed)
-one_refusal image (NoQuorum classes) NotFormatted none zeros = absurd (none.formatted zeros)
-one_refusal image (NoQuorum classes) (NoQuorum others) none two = ap (λ (l : List Class). NoQuorum l) (none.shown ∙ sym two.shown)
-one_refusal image (NoQuorum classes) (Version number) none faulty = absurd (none.split faulty.content faulty.chosen.agreed)
-one_refusal image (NoQuorum classes) (BadField field value) none faulty = absurd (none.split faulty.content faulty.chosen.agreed)
-one_refusal image (Version number) NotFormatted faulty zeros = absurd (nothing_chosen image faulty.content zeros faulty.chosen.agreed)
-one_refusal image (BadField field value) NotFormatted faulty zeros = absurd (nothing_chosen image faulty.content zeros faulty.chosen.agreed)
-one_refusal image (Version number) (NoQuorum classes) faulty none = absurd (none.split faulty.content faulty.chosen.agreed)
-one_refusal image (BadField field value) (NoQuorum classes) faulty none = absurd (none.split faulty.content faulty.chosen.agreed)
-one_refusal image (Version number) (Version other) one two = (let same = one_fault image (OtherVersion number) (OtherVersion other) one two in cc)
-one_refusal image (Version number) (BadField field value) one two = (let same = one_fault image (OtherVersion number) (BrokenField field value) one two in absurd (cc))
-one_refusal image (BadField field value) (Version number) one two = (let same = one_fault image (BrokenField field value) (OtherVersion number) one two in absurd (cc))
-one_refusal image (BadField field value) (BadField other number) one two = (let same = one_fault image (BrokenField field value) (BrokenField other number) one two in cc)
-one_refusal image (LayoutDiffers reserved there) e none two = absurd none
-one_refusal image (Damaged place class) e none two = absurd none
-one_refusal image DiskFault e none two = absurd none
-one_refusal image NotFormatted (LayoutDiffers reserved there) one none = absurd none
-one_refusal image NotFormatted (Damaged place class) one none = absurd none
-one_refusal image NotFormatted DiskFault one none = absurd none
-one_refusal image (NoQuorum classes) (LayoutDiffers reserved there) one none = absurd none
-one_refusal image (NoQuorum classes) (Damaged place class) one none = absurd none
-one_refusal image (NoQuorum classes) DiskFault one none = absurd none
-one_refusal image (Version number) (LayoutDiffers reserved there) one none = absurd none
-one_refusal image (Version number) (Damaged place class) one none = absurd none
-one_refusal image (Version number) DiskFault one none = absurd none
-one_refusal image (BadField field value) (LayoutDiffers reserved there) one none = absurd none
-one_refusal image (BadField field value) (Damaged place class) one none = absurd none
-one_refusal image (BadField field value) DiskFault one none = absurd none
+pub one_refusal_as : OneRefusal
+one_refusal_as version image NotFormatted NotFormatted one two = refl
+one_refusal_as version image NotFormatted (NoQuorum classes) zeros none = absurd (none.formatted zeros)
+one_refusal_as version image NotFormatted (Version number) zeros faulty = absurd (nothing_chosen image faulty.content zeros faulty.chosen.agreed)
+one_refusal_as version image NotFormatted (BadField field value) zeros faulty = absurd (nothing_chosen image faulty.content zeros faulty.chosen.agreed)
+one_refusal_as version image (NoQuorum classes) NotFormatted none zeros = absurd (none.formatted zeros)
+one_refusal_as version image (NoQuorum classes) (NoQuorum others) none two = ap (λ (l : List Class). NoQuorum l) (none.shown ∙ sym two.shown)
+one_refusal_as version image (NoQuorum classes) (Version number) none faulty = absurd (none.split faulty.content faulty.chosen.agreed)
+one_refusal_as version image (NoQuorum classes) (BadField field value) none faulty = absurd (none.split faulty.content faulty.chosen.agreed)
+one_refusal_as version image (Version number) NotFormatted faulty zeros = absurd (nothing_chosen image faulty.content zeros faulty.chosen.agreed)
+one_refusal_as version image (BadField field value) NotFormatted faulty zeros = absurd (nothing_chosen image faulty.content zeros faulty.chosen.agreed)
+one_refusal_as version image (Version number) (NoQuorum classes) faulty none = absurd (none.split faulty.content faulty.chosen.agreed)
+one_refusal_as version image (BadField field value) (NoQuorum classes) faulty none = absurd (none.split faulty.content faulty.chosen.agreed)
+one_refusal_as version image (Version number) (Version other) one two = (let same = one_fault version image (OtherVersion number) (OtherVersion other) one two in cc)
+one_refusal_as version image (Version number) (BadField field value) one two = (let same = one_fault version image (OtherVersion number) (BrokenField field value) one two in absurd (cc))
+one_refusal_as version image (BadField field value) (Version number) one two = (let same = one_fault version image (BrokenField field value) (OtherVersion number) one two in absurd (cc))
+one_refusal_as version image (BadField field value) (BadField other number) one two = (let same = one_fault version image (BrokenField field value) (BrokenField other number) one two in cc)
+one_refusal_as version image (LayoutDiffers reserved there) e none two = absurd none
+one_refusal_as version image (Damaged place class) e none two = absurd none
+one_refusal_as version image DiskFault e none two = absurd none
+one_refusal_as version image NotFormatted (LayoutDiffers reserved there) one none = absurd none
+one_refusal_as version image NotFormatted (Damaged place class) one none = absurd none
+one_refusal_as version image NotFormatted DiskFault one none = absurd none
+one_refusal_as version image (NoQuorum classes) (LayoutDiffers reserved there) one none = absurd none
+one_refusal_as version image (NoQuorum classes) (Damaged place class) one none = absurd none
+one_refusal_as version image (NoQuorum classes) DiskFault one none = absurd none
+one_refusal_as version image (Version number) (LayoutDiffers reserved there) one none = absurd none
+one_refusal_as version image (Version number) (Damaged place class) one none = absurd none
+one_refusal_as version image (Version number) DiskFault one none = absurd none
+one_refusal_as version image (BadField field value) (LayoutDiffers reserved there) one none = absurd none
+one_refusal_as version image (BadField field value) (Damaged place class) one none = absurd none
+one_refusal_as version image (BadField field value) DiskFault one none = absurd none
+one_refusal_as version image BootSpent e none two = absurd none
+one_refusal_as version image NotFormatted BootSpent one none = absurd none
+one_refusal_as version image (NoQuorum classes) BootSpent one none = absurd none
+one_refusal_as version image (Version number) BootSpent one none = absurd none
+one_refusal_as version image (BadField field value) BootSpent one none = absurd none

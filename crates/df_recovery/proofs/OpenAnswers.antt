@@ -1,5 +1,5 @@
 -- What is found of a file is the answer to an open.
-use Rattle.std.specs.Prelude.{Err, Ok, map}
+use Rattle.std.specs.Prelude.{Ok, map}
 use Rattle.std.specs.List.{range_with_len}
 use Rattle.std.proofs.Common.{◌≡◌, ℕ, ◌+◌, ◌-◌, List, length, refl, sym, ◌∙◌, ap, subst}
 use Rattle.df_format.specs.Copies.{content_with}
@@ -7,37 +7,59 @@ use Rattle.df_format.specs.declared.superblock.SuperFields.{SuperFields}
 use Rattle.df_sessions.specs.declared.session.Session.{Session}
 use Rattle.df_theory.specs.Units
 use Rattle.df_theory.specs.Found.{IsFound}
-use Rattle.df_theory.specs.View.{Checkpoint, View}
-use Rattle.df_model.specs.declared.errors.OpenError.{OpenError}
+use Rattle.df_theory.specs.View.{Checkpoint, View, head}
+use Rattle.df_theory.proofs.Laws.{one_found_law}
+use Rattle.df_theory.specs.Opens.{BootSpent as NoBoot, Damaged as Damages, Opens, Refusal, Refused}
+use Rattle.df_model.specs.declared.errors.OpenError.TheVariants.{NotFormatted, NoQuorum, Version, BadField, LayoutDiffers, Damaged, DiskFault, BootSpent}
+use Rattle.df_model.specs.Memory.{Memory}
 use Rattle.df_units.specs.Bytes.{unit_at}
 use Rattle.df_units.specs.Meaning.{content_of, layout_of, number_of}
 use Rattle.df_checkpoint.specs.Reads.{blocks_read}
 use Rattle.df_journal.specs.Tail.{EndsAt}
-use Rattle.df_recovery.specs.Checkpoints.{base_of}
+use Rattle.df_recovery.specs.Checkpoints.{Base, base_of}
 use Rattle.df_journal.specs.declared.table.Start.{Start}
 use Rattle.df_recovery.specs.Waiting.{waiting_sum}
-use Rattle.df_recovery.specs.Finding.{Answers, HasHeaders, IsKept, IsOfFile, IsReadFrom, Keeps, KeptIsAnswer, Read, RefusedIsAnswer, StoresTo, base_with}
+use Rattle.df_recovery.specs.Finding.{Answers, EachOpens, HasHeaders, IsKept, IsOfFile, IsReadFrom, Keeps, KeptIsAnswer, Read, RefusedIsAnswer, StoresTo, base_with}
 use Rattle.df_rooms.specs.State.{State, shape}
 use Rattle.df_recovery.specs.declared.finding.Traces.{Traces}
+use Rattle.df_base.specs.Image.{Image}
 use Rattle.df_disk.specs.Told.{Told}
-use Rattle.df_recovery.specs.Surveys.{HasFile, Surveys, class_there}
+use Rattle.df_layout.specs.declared.layout.Layout.{Layout}
+use Rattle.df_recovery.specs.Surveys.{HasFile, SurveysAs, class_there}
 use Rattle.df_rooms.specs.declared.file.DataFile.{DataFile}
 use Rattle.df_recovery.proofs.KeptReplies.{stored_kept}
 use Rattle.df_recovery.proofs.FilesRead.{file_is_read}
 use Rattle.df_recovery.proofs.OpenedStates.{state_is_opened}
 use Rattle.df_recovery.proofs.Waits.{waiting_known}
 
+-- of what was read the theory says so of the file's own image
+opens_here : (t : Told) (file : DataFile) (read : Read) (base : Base) (r : Refusal) → IsOfFile t file read base → EachOpens read r → Opens (shape file) (unit_at file.layout file.cluster t.shown) (Refused r)
+opens_here t file read base r is opens = opens (shape file) (unit_at file.layout file.cluster t.shown) (base_of read.found.content is.checkpoint.chain is.checkpoint.parts) (file_is_read t file read base is)
+
 pub refused_is_answer : RefusedIsAnswer
-refused_is_answer t file read base e is refused = subst (λ (x : OpenError). Surveys file.layout t.shown (Err x)) (sym refused.error_is) (record {
+refused_is_answer t file read base (Damaged place class) is refused = record {
   file = file;
   fields = read.found.content;
   has = is.has;
-  of = refl;
+  of = record { version_is = refl; layout_is = refl };
   at = refused.at;
-  at_is = refl;
+  at_is = sym refused.place_is;
   class_is = refused.class_is t is.scanned ∙ (λ i. class_there (is.layout i) (is.cluster i) t.shown refused.at);
-  opens = refused.opens (shape file) (unit_at file.layout file.cluster t.shown) (base_of read.found.content is.checkpoint.chain is.checkpoint.parts) (file_is_read t file read base is);
-})
+  opens = opens_here t file read base (Damages refused.at) is refused.opens;
+}
+refused_is_answer t file read base BootSpent is refused = record {
+  file = file;
+  fields = read.found.content;
+  has = is.has;
+  of = record { version_is = refl; layout_is = refl };
+  opens = opens_here t file read base NoBoot is refused;
+}
+refused_is_answer t file read base NotFormatted is refused = absurd refused
+refused_is_answer t file read base (NoQuorum classes) is refused = absurd refused
+refused_is_answer t file read base (Version found) is refused = absurd refused
+refused_is_answer t file read base (BadField field value) is refused = absurd refused
+refused_is_answer t file read base (LayoutDiffers reserved found) is refused = absurd refused
+refused_is_answer t file read base DiskFault is refused = absurd refused
 
 module _ (t : Told) (read : Read) (traces : Traces) (after : List Session) (s : State) (is : IsOfFile t s.file read (base_with s read.sessions)) (kept : IsKept read traces after s) (headers : HasHeaders (unit_at s.file.layout s.file.cluster t.shown) s) where
   abbrev image : Units.Units
@@ -73,17 +95,24 @@ module _ (t : Told) (read : Read) (traces : Traces) (after : List Session) (s : 
     starts = kept.starts;
   }
 
-  pub kept_answer : Answers read (Ok traces) after → Surveys s.file.layout t.shown (Ok s)
+  pub kept_answer : Answers read (Ok traces) after → SurveysAs s.file.version s.file.layout t.shown (Ok s)
   kept_answer answers =
       let first = answers (shape s.file) image base from in
       let ends : EndsAt first.view.checkpoint first.view.tail traces.tail after = subst (λ (c : Checkpoint). EndsAt c first.view.tail traces.tail after) (sym first.checkpoint) first.ends in
       record {
         has = subst (HasFile t.shown s.file) (sym kept.fields) is.has;
-        of = refl;
+        of = record { version_is = refl; layout_is = refl };
         view = first.view;
         found = first.found;
+        unspent = first.unspent;
         stands = state_is_opened image first.view s first.found (keeps_view first.view first.checkpoint ends first.replies first.found);
       }
 
 pub kept_is_answer : KeptIsAnswer
 kept_is_answer t read traces after s is answers kept headers = kept_answer t read traces after s is kept headers answers
+
+-- and the state's head is that of whatever view is found
+pub head_found : (version : ℕ) (layout : Layout) (image : Image) (s : State) → SurveysAs version layout image (Ok s) → (v : View) → IsFound (shape s.file) (unit_at s.file.layout s.file.cluster image) v → head v ≡ s.head
+head_found version layout image s is v found =
+    let here : IsFound (shape s.file) (unit_at layout s.file.cluster image) v = subst (λ (l : Layout). IsFound (shape s.file) (unit_at l s.file.cluster image) v) is.of.layout_is found in
+    ap head (one_found_law (shape s.file) (unit_at layout s.file.cluster image) v is.view here is.found) ∙ sym (ap (λ (m : Memory). m.head) is.stands)

@@ -1,23 +1,21 @@
 -- What the slots of the four places say of the image that they were read from.
 use Rattle.std.specs.Prelude.{Ok, Err}
-use Rattle.std.proofs.Common.{◌≡◌, ℕ, ◌<◌, ◌==◌, Bool, true, false, cond, List, [], ◌∷◌, length, get_or, Option, Some, None, refl, sym, ◌∙◌, ap, arith}
+use Rattle.std.proofs.Common.{◌≡◌, ℕ, ◌<◌, ◌==◌, Bool, true, List, [], ◌∷◌, length, get_or, Option, Some, None, refl, sym, ◌∙◌, ap, arith}
 use Rattle.std.proofs.lemmas.Bool.{cond-true, eq-eqb}
 use Rattle.df_base.specs.Image.{Image}
 use Rattle.df_layout.specs.declared.damage.Class.{Class}
 use Rattle.df_layout.specs.declared.damage.Class.TheVariants.{Blank, Elsewhere, Stale}
-use Rattle.df_layout.specs.declared.places.Place.{Place}
 use Rattle.df_layout.specs.declared.places.Zone.TheVariants.{Superblock}
 use Rattle.df_format.specs.Own.{place_in}
 use Rattle.df_format.specs.declared.superblock.SuperCopy.{SuperCopy}
-use Rattle.df_format.specs.Copies.{Content, copy_in, if_here, copy_at, content_at, is_blank_copy, class_of_sound, class_of_copy, copy_or_class, own_copy}
-use Rattle.df_format.proofs.Laws.{copy_is_not_blank, is_here, valid_is_stale}
+use Rattle.df_format.specs.Copies.{Content, copy_in, if_here, copy_at, content_at, class_of_copy, copy_or_class}
+use Rattle.df_format.proofs.Laws.{is_here, valid_is_stale}
 use Rattle.df_quorum.specs.declared.slot.Slot.{Slot}
-use Rattle.df_quorum.specs.declared.slot.Slot.TheVariants.{Bad}
 use Rattle.df_quorum.specs.Quorum.{Copies, IsChosen, IsSplit, HasChosen, AreMembers, AreClasses, class_in, copies_of, nothing}
 use Rattle.df_quorum.proofs.Laws.{same_law}
 use Rattle.df_quorum.specs.declared.choice.Chosen.{Chosen}
 use Rattle.df_disk.specs.Told.{Told}
-use Rattle.df_recovery.specs.Opening.{IsUnformatted, shown_classes, Refuses}
+use Rattle.df_recovery.specs.Opening.{IsUnformatted, shown_classes, HasNoQuorum}
 use Rattle.df_recovery.specs.Found.{IsChoiceOf, TellsChoice}
 use Rattle.df_superblock.specs.Blank.{AreBlank, IsFirstWrittenOf}
 use Rattle.df_superblock.proofs.Laws.{shown_blank, unformatted}
@@ -84,7 +82,7 @@ module _ (image : Image) (slots : List Slot) (shown : (n : ℕ) → n < 4 → ge
   }
 
   -- and so is its lack
-  pub no_quorum : (classes : List Class) (first : ℕ) → length classes ≡ 4 → AreClasses slots classes → IsSplit (copies_of slots) → IsFirstWrittenOf slots first → Refuses image (NoQuorum classes)
+  pub no_quorum : (classes : List Class) (first : ℕ) → length classes ≡ 4 → AreClasses slots classes → IsSplit (copies_of slots) → IsFirstWrittenOf slots first → HasNoQuorum image classes
   no_quorum classes first size are split written = record {
     formatted = formatted image slots first shown written;
     split = split_same (copies_of slots) (content_at image) copies split;
@@ -93,7 +91,7 @@ module _ (image : Image) (slots : List Slot) (shown : (n : ℕ) → n < 4 → ge
 
 pub tells_unformatted : (told : Option Told) (slots : List Slot) → ShowsSlots told slots → AreBlank slots 4 → TellsChoice told (Err NotFormatted)
 tells_unformatted None slots shown blank = tt
-tells_unformatted (Some t) slots shown blank = unformatted t.shown slots shown blank
+tells_unformatted (Some t) slots shown blank = λ version. unformatted t.shown slots shown blank
 
 pub tells_choice : (told : Option Told) (slots : List Slot) (choice : Chosen) → ShowsSlots told slots → ShowsCopies told slots → HasChosen (copies_of slots) choice.content
     → ((c : Content) → IsChosen (copies_of slots) c → AreMembers (copies_of slots) c choice.members) → TellsChoice told (Ok choice)
@@ -103,4 +101,4 @@ tells_choice (Some t) slots choice shown copies chosen members = choice_shown t.
 pub tells_split : (told : Option Told) (slots : List Slot) (classes : List Class) (first : ℕ) → ShowsSlots told slots → ShowsCopies told slots → length classes ≡ 4 → AreClasses slots classes → IsSplit (copies_of slots) → IsFirstWrittenOf slots first
     → TellsChoice told (Err (NoQuorum classes))
 tells_split None slots classes first shown copies size are split written = tt
-tells_split (Some t) slots classes first shown copies size are split written = no_quorum t.shown slots shown copies classes first size are split written
+tells_split (Some t) slots classes first shown copies size are split written = λ version. no_quorum t.shown slots shown copies classes first size are split written

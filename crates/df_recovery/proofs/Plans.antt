@@ -63,17 +63,17 @@ entry_there scan slot below =
 
 -- ---- headers
 
-pub planned_more : (cluster : ℕ) (scan : Scan) (k : ℕ) (old new : List Header) → k < length old → ArePlanned cluster scan k old → PutsHeader cluster scan k old new → ArePlanned cluster scan (k + 1) new
-planned_more cluster scan k old new inside before put slot less = elim (cases_eq slot k) [
-  | inl here ↦ subst (λ (n : ℕ). (d : Decision) × IsDecided scan n d × (slice_get new n ≡ Some (header_by cluster n (entry scan n) d))) (sym here)
+pub planned_more : (cluster : ℕ) (scan : Scan) (top k : ℕ) (old new : List Header) → k < length old → ArePlanned cluster scan top k old → PutsHeader cluster scan top k old new → ArePlanned cluster scan top (k + 1) new
+planned_more cluster scan top k old new inside before put slot less = elim (cases_eq slot k) [
+  | inl here ↦ subst (λ (n : ℕ). (d : Decision) × IsDecided scan top n d × (slice_get new n ≡ Some (header_by cluster n (entry scan n) d))) (sym here)
       (put.0, put.1, ap (λ (xs : List Header). slice_get xs k) put.2 ∙ get_set old k (header_by cluster k (entry scan k) put.0) inside)
   | inr away ↦
       let was = before slot (omega (arith, less, away)) in
       (was.0, was.1, ap (λ (xs : List Header). slice_get xs slot) put.2 ∙ get_set_other old k slot (header_by cluster k (entry scan k) put.0) away ∙ was.2)
 ]
 
-pub size_kept : (cluster : ℕ) (scan : Scan) (k : ℕ) (old new : List Header) → PutsHeader cluster scan k old new → length new ≡ length old
-size_kept cluster scan k old new put = ap length put.2 ∙ length-set old k (header_by cluster k (entry scan k) put.0)
+pub size_kept : (cluster : ℕ) (scan : Scan) (top k : ℕ) (old new : List Header) → PutsHeader cluster scan top k old new → length new ≡ length old
+size_kept cluster scan top k old new put = ap length put.2 ∙ length-set old k (header_by cluster k (entry scan k) put.0)
 
 shown_valid : (layout : Layout) (cluster slot : ℕ) (r : Result Header Class) → IsHeader layout cluster slot (reserved_header cluster slot) → IsHeaderThere layout cluster slot r → IsHeader layout cluster slot (header_or_reserved cluster slot (header_of_seen r))
 shown_valid layout cluster slot (Ok h) reserved there = there
@@ -95,8 +95,8 @@ by_valid layout cluster slot seen Behind reserved is = reserved
 by_valid layout cluster slot seen Lost reserved is = reserved
 
 -- the whole table is one of the layout
-pub planned_table : (layout : Layout) (cluster : ℕ) (scan : Scan) (table : List Header) → 0 < cluster → cluster < 2 ^ 128 → AreSlots layout cluster scan.slots → length table ≡ layout.slots → ArePlanned cluster scan layout.slots table → IsTable layout cluster table
-planned_table layout cluster scan table named small slots count planned = record {
+pub planned_table : (layout : Layout) (cluster : ℕ) (scan : Scan) (top : ℕ) (table : List Header) → 0 < cluster → cluster < 2 ^ 128 → AreSlots layout cluster scan.slots → length table ≡ layout.slots → ArePlanned cluster scan top layout.slots table → IsTable layout cluster table
+planned_table layout cluster scan top table named small slots count planned = record {
   count = count;
   each = λ slot h at.
       let below : slot < layout.slots = omega (arith, slice_get_within table slot h at, count) in

@@ -1,6 +1,6 @@
 -- A trailer that is refused is the answer to an open.
 use Rattle.std.specs.Prelude.{◌≢◌, Err}
-use Rattle.std.proofs.Common.{◌≡◌, inl, inr, ℕ, ◌<◌, ◌==◌, Bool, true, false, Option, Some, None, refl, sym, ◌∙◌, ap, subst}
+use Rattle.std.proofs.Common.{◌≡◌, inl, inr, ℕ, ◌<◌, ◌==◌, Bool, true, false, Option, Some, None, refl, sym, ◌∙◌, ap}
 use Rattle.df_base.specs.Image.{Image, IsImage}
 use Rattle.df_layout.specs.declared.damage.Class.{Class}
 use Rattle.df_layout.specs.declared.damage.Class.TheVariants.{Blank, Elsewhere, Garbled, Stale}
@@ -9,7 +9,7 @@ use Rattle.df_layout.specs.declared.layout.Layout.{Layout}
 use Rattle.df_format.specs.Copies.{content_at, content_with}
 use Rattle.df_format.specs.SuperRules.{IsSuper}
 use Rattle.df_format.specs.declared.superblock.SuperFields.{SuperFields}
-use Rattle.df_recovery.proofs.Asked.{asked_super}
+use Rattle.df_recovery.proofs.Asked.{passes_as, super_as}
 use Rattle.df_quorum.specs.Quorum.{IsChosen}
 use Rattle.df_theory.specs.Units
 use Rattle.df_theory.specs.Units.{AnyUnit, BlockPlace, BlockUnit, CopyUnit, HeaderUnit, PrepareUnit, ReplyUnit}
@@ -17,13 +17,11 @@ use Rattle.df_theory.specs.Opens.{BadTrailer, IsReadable, IsUsable, LacksBlock}
 use Rattle.df_theory.specs.View.{Checkpoint}
 use Rattle.df_model.specs.Supply.{block_given, class_or, given_if}
 use Rattle.df_model.specs.declared.errors.OpenError.{OpenError}
-use Rattle.df_model.specs.declared.errors.OpenError.TheVariants.{NotFormatted, NoQuorum, Version, BadField, LayoutDiffers, Damaged, DiskFault}
+use Rattle.df_model.specs.declared.errors.OpenError.TheVariants.{NotFormatted, NoQuorum, Version, BadField, LayoutDiffers, Damaged, DiskFault, BootSpent}
 use Rattle.df_units.specs.Bytes.{unit_at}
-use Rattle.df_units.specs.Meaning.{layout_of}
 use Rattle.df_units.specs.Superblocks.{AreFieldsOf}
 use Rattle.df_units.specs.Wanted.{class_at}
-use Rattle.df_units.proofs.Laws.{choice_chosen, classes_told, first_usable_passes}
-use Rattle.df_trailer.specs.Text.{parse_of}
+use Rattle.df_units.proofs.Laws.{choice_chosen, classes_told}
 use Rattle.df_grid.specs.Reads.{shown_of, trailer_alone}
 use Rattle.df_checkpoint.specs.Chain.{asked, content_in}
 use Rattle.df_checkpoint.specs.Laws.{AllShown}
@@ -32,8 +30,8 @@ use Rattle.df_rooms.specs.State.{shape}
 use Rattle.df_rooms.specs.declared.file.DataFile.{DataFile}
 use Rattle.df_checkpoint.specs.Tests.{FailsTest}
 use Rattle.df_recovery.specs.Checkpoints.{RefusesTrailer}
-use Rattle.df_recovery.specs.Surveys.{HasFile, Surveys}
-use Rattle.df_recovery.proofs.Written.{super_is_written}
+use Rattle.df_recovery.specs.Surveys.{HasFile, SurveysAs}
+use Rattle.df_recovery.proofs.Written.{super_is_written_as}
 
 -- ---- the class of what a block's address shows
 
@@ -72,7 +70,7 @@ class_asked layout cluster image a k class is = by_unit (unit_at layout cluster 
 
 module _ (file : DataFile) (image : Image) (f : SuperFields) (has : HasFile image file f) (whole : IsImage image) where
   usable : IsSuper f
-  usable = (asked_super f has.super.usable).1
+  usable = (super_as file.version f has.super.usable).1
 
   fields_are : AreFieldsOf file.layout file.cluster f
   fields_are = record {
@@ -85,11 +83,11 @@ module _ (file : DataFile) (image : Image) (f : SuperFields) (has : HasFile imag
   }
 
   chosen : IsChosen (content_at image) (content_with f)
-  chosen = super_is_written image f whole has.super
+  chosen = super_is_written_as file.version image f whole has.super
 
   is_usable : IsUsable (shape file) (unit_at file.layout file.cluster image) (content_in f)
   is_usable =
-      let passes = first_usable_passes file.layout file.cluster file.named (parse_of (layout_of file.layout)) (content_with f) fields_are (asked_super f has.super.usable).0 usable in
+      let passes = passes_as file f fields_are (super_as file.version f has.super.usable).0 usable in
       record { chosen = choice_chosen file.layout file.cluster image (content_with f) whole chosen; tests = passes.0; reference = passes.1 }
 
   abbrev Unread : Type 0
@@ -107,7 +105,7 @@ module _ (file : DataFile) (image : Image) (f : SuperFields) (has : HasFile imag
   unread field value named (inr (inr (inl referenced))) = referenced_unreadable (shape file) (shown_of file.layout file.cluster image) (content_in f) value named referenced.1
   unread field value named (inr (inr (inr pending))) = untracked_unreadable (shape file) (shown_of file.layout file.cluster image) (content_in f) value named pending.1
 
-  pub trailer_refused : (e : OpenError) → RefusesTrailer file image f e → Surveys file.layout image (Err e)
+  pub trailer_refused : (e : OpenError) → RefusesTrailer file image f e → SurveysAs file.version file.layout image (Err e)
   trailer_refused NotFormatted refuses = absurd refuses
   trailer_refused (NoQuorum classes) refuses = absurd refuses
   trailer_refused (Version found) refuses = absurd refuses
@@ -115,7 +113,7 @@ module _ (file : DataFile) (image : Image) (f : SuperFields) (has : HasFile imag
     file = file;
     fields = f;
     has = has;
-    of = refl;
+    of = record { version_is = refl; layout_is = refl };
     named = named;
     fails = fails;
     opens = BadTrailer (content_in f) is_usable (all_shown field value fails) (unread field value named fails);
@@ -127,10 +125,11 @@ module _ (file : DataFile) (image : Image) (f : SuperFields) (has : HasFile imag
         file = file;
         fields = f;
         has = has;
-        of = refl;
+        of = record { version_is = refl; layout_is = refl };
         at = BlockPlace a;
         at_is = sym place_is;
         class_is = class_asked file.layout file.cluster image a lacking.sum class lacking.is;
         opens = LacksBlock (content_in f) a missed.sum is_usable missed.reads missed.missed;
       }
   trailer_refused DiskFault refuses = tt
+  trailer_refused BootSpent refuses = absurd refuses

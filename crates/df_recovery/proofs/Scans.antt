@@ -1,7 +1,7 @@
 -- What is read behind the barrier is what the disk showed before it, and a refusal is the answer to the open.
 use Rattle.std.proofs.Common.{◌≡◌, ◌∙◌, ℕ, ◌<◌, Option, Some, None, Result, Ok, Err, refl, sym, ap, subst}
 use Rattle.std.specs.Prelude.{IfErr, IfOk}
-use Rattle.df_base.specs.Image.{IsImage}
+use Rattle.df_base.specs.Image.{Image, IsImage}
 use Rattle.df_base.specs.Log.{Sync}
 use Rattle.df_disk.specs.Told.{Told, after}
 use Rattle.df_layout.specs.declared.layout.Layout.{Layout}
@@ -15,12 +15,13 @@ use Rattle.df_rooms.specs.declared.file.DataFile.{DataFile}
 use Rattle.df_rooms.specs.declared.rooms.Rooms.{Rooms}
 use Rattle.df_recovery.specs.Checkpoints.{Base, TellsCheckpoint}
 use Rattle.df_recovery.specs.Finding.{IsOfFile, read_of}
-use Rattle.df_recovery.specs.Found.{IsFound}
-use Rattle.df_recovery.specs.Opening.{IsLayoutOf}
-use Rattle.df_recovery.specs.Scanning.{AreCopies, IsFileOf, IsReadBehind, IsScan, IsServed, RefusesBase, TellsRead, base_scanned, without_rooms}
-use Rattle.df_recovery.specs.Surveys.{Surveys}
+use Rattle.df_recovery.specs.Found.{IsFound, IsFoundAs}
+use Rattle.df_recovery.specs.Opening.{HasSuperAs, IsLayoutOf}
+use Rattle.df_recovery.specs.Scanning.{AreCopies, IsFileOf, IsReadBehind, IsScan, IsScanAs, IsServed, RefusesBase, TellsReadAs, base_scanned, without_rooms}
+use Rattle.df_recovery.specs.Surveys.{SurveysAs}
 use Rattle.df_recovery.specs.declared.scanned.Scanned.{Scanned}
 use Rattle.df_recovery.specs.declared.scanning.Copies.{Copies}
+use Rattle.df_recovery.proofs.Asked.{super_as}
 use Rattle.df_recovery.proofs.Bases.{told_fault}
 use Rattle.df_recovery.proofs.Refusals.{trailer_refused}
 use Rattle.df_recovery.proofs.Synced.{synced}
@@ -32,8 +33,8 @@ refuses_base layout f told e file tells of = record { file = file; of = of; tell
 pub fault_refuses : (layout : Layout) (f : SuperFields) (told : Option Told) (result : Result Scanned (Rooms × OpenError)) → 0 < f.cluster → IfErr result (λ refused. refused.1 ≡ DiskFault) → IfErr result (λ refused. RefusesBase layout f told refused.1)
 fault_refuses layout f told (Ok s) named fault = fault
 fault_refuses layout f told (Err refused) named fault =
-    let file : DataFile = record { layout = layout; cluster = f.cluster; named = named } in
-    record { file = file; of = record { layout_is = refl; cluster_is = refl }; tells = subst (λ (e : OpenError). TellsCheckpoint file told f (Err e)) (sym fault) (told_fault file told f) }
+    let file : DataFile = record { layout = layout; cluster = f.cluster; version = f.version; named = named } in
+    record { file = file; of = record { layout_is = refl; cluster_is = refl; version_is = refl }; tells = subst (λ (e : OpenError). TellsCheckpoint file told f (Err e)) (sym fault) (told_fault file told f) }
 
 tells_synced : (file : DataFile) (told : Option Told) (f : SuperFields) (result : Result Base OpenError) → TellsCheckpoint file (after Sync told) f result → TellsCheckpoint file told f result
 tells_synced file None f result tells = tt
@@ -51,35 +52,44 @@ behind_synced layout told s read = record {
   tables = synced layout s.copies.found.content.cluster told s.log.slots s.log.replies read.tables;
 }
 
-pub scan_read : (layout : Layout) (copies : Copies) (old new : Option Told) (result : Result Scanned (Rooms × OpenError)) → new ≡ after Sync old → AreCopies old copies → IsServed layout copies.found.content
-    → IfOk result (λ s. s.copies ≡ copies) → IfOk result (IsReadBehind layout new) → IfOk result (IsScan layout old)
-scan_read layout copies old new (Err refused) barrier found served same read = same
-scan_read layout copies old new (Ok s) barrier found served same read = record {
-  copies = subst (AreCopies old) (sym same) found;
+pub scan_read : (version : ℕ) (layout : Layout) (copies : Copies) (old new : Option Told) (result : Result Scanned (Rooms × OpenError)) → new ≡ after Sync old → AreCopies version old copies → IsServed layout copies.found.content
+    → IfOk result (λ s. s.copies ≡ copies) → IfOk result (IsReadBehind layout new) → IfOk result (IsScanAs version layout old)
+scan_read version layout copies old new (Err refused) barrier found served same read = same
+scan_read version layout copies old new (Ok s) barrier found served same read = record {
+  copies = subst (AreCopies version old) (sym same) found;
   served = subst (λ (c : Copies). IsServed layout c.found.content) (sym same) served;
   behind = behind_synced layout old s (subst (λ (t : Option Told). IsReadBehind layout t s) barrier read);
 }
 
-pub scan_answers : (layout : Layout) (copies : Copies) (old new : Option Told) (result : Result Scanned (Rooms × OpenError)) → new ≡ after Sync old → IsServed layout copies.found.content → TellsRead (λ (c : Copies). c.found) layout old (Ok copies)
-    → IfOk result (λ s. s.copies ≡ copies) → IfErr result (λ refused. RefusesBase layout copies.found.content new refused.1) → TellsRead (λ (s : Scanned). s.copies.found) layout old (without_rooms result)
-scan_answers layout copies None new result barrier served answer same refuses = tt
-scan_answers layout copies (Some t) new (Ok s) barrier served answer same refuses = subst (λ (c : Copies). IsFound t.shown c.found) (sym same) answer
-scan_answers layout copies (Some t) new (Err refused) barrier served answer same refuses = λ whole.
+-- the superblock that was asked for is of a file of its version
+file_asked : (version : ℕ) (image : Image) (f : SuperFields) (file : DataFile) → HasSuperAs version image f → file.version ≡ f.version → (file.version ≡ version) × HasSuperAs file.version image f
+file_asked version image f file has of =
+    let same : file.version ≡ version = of ∙ (super_as version f has.usable).0 in
+    (same, subst (λ (v : ℕ). HasSuperAs v image f) (sym same) has)
+
+pub scan_answers : (version : ℕ) (layout : Layout) (copies : Copies) (old new : Option Told) (result : Result Scanned (Rooms × OpenError)) → new ≡ after Sync old → IsServed layout copies.found.content → TellsReadAs version (λ (c : Copies). c.found) layout old (Ok copies)
+    → IfOk result (λ s. s.copies ≡ copies) → IfErr result (λ refused. RefusesBase layout copies.found.content new refused.1) → TellsReadAs version (λ (s : Scanned). s.copies.found) layout old (without_rooms result)
+scan_answers version layout copies None new result barrier served answer same refuses = tt
+scan_answers version layout copies (Some t) new (Ok s) barrier served answer same refuses = subst (λ (c : Copies). IsFoundAs version t.shown c.found) (sym same) answer
+scan_answers version layout copies (Some t) new (Err refused) barrier served answer same refuses = λ whole.
     let f = copies.found.content in
     let file = refuses.file in
+    let asked = file_asked version t.shown f file answer.super refuses.of.version_is in
     let tells : TellsCheckpoint refuses.file (Some t) f (Err refused.1) = tells_synced file (Some t) f (Err refused.1) (subst (λ (u : Option Told). TellsCheckpoint refuses.file u f (Err refused.1)) barrier refuses.tells) in
-    subst (λ (l : Layout). Surveys l t.shown (Err refused.1)) refuses.of.layout_is
-    (trailer_refused file t.shown f (record { super = answer.super; layout = subst (λ (l : Layout). IsLayoutOf l f) (sym refuses.of.layout_is) served.layout_is; cluster = sym refuses.of.cluster_is }) whole refused.1 tells)
+    subst (λ (l : Layout). SurveysAs version l t.shown (Err refused.1)) refuses.of.layout_is
+    (subst (λ (v : ℕ). SurveysAs v file.layout t.shown (Err refused.1)) asked.0
+    (trailer_refused file t.shown f (record { super = asked.1; layout = subst (λ (l : Layout). IsLayoutOf l f) (sym refuses.of.layout_is) served.layout_is; cluster = sym refuses.of.cluster_is }) whole refused.1 tells))
 
 -- ---- what was scanned is of its file
 
-pub scanned_of_file : (t : Told) (layout : Layout) (s : Scanned) → IsImage t.shown → IsFound t.shown s.copies.found → IsScan layout (Some t) s → IsOfFile t s.file (read_of s) (base_scanned s)
-scanned_of_file t layout s whole found scan =
+pub scanned_as : (version : ℕ) (t : Told) (layout : Layout) (s : Scanned) → IsImage t.shown → IsFoundAs version t.shown s.copies.found → IsScanAs version layout (Some t) s → IsOfFile t s.file (read_of s) (base_scanned s)
+scanned_as version t layout s whole found scan =
     let read = scan.behind in
+    let asked = file_asked version t.shown s.copies.found.content s.file found.super read.file.version_is in
     let cluster : s.log.slots.start.cluster ≡ s.copies.found.content.cluster = ap (λ (x : Start). x.cluster) read.start in
     record {
       image = whole;
-      has = record { super = found.super; layout = subst (λ (l : Layout). IsLayoutOf l s.copies.found.content) (sym read.file.layout_is) scan.served.layout_is; cluster = sym read.file.cluster_is };
+      has = record { super = asked.1; layout = subst (λ (l : Layout). IsLayoutOf l s.copies.found.content) (sym read.file.layout_is) scan.served.layout_is; cluster = sym read.file.cluster_is };
       choice = found.choice;
       chosen_is = found.content;
       layout = refl;
@@ -92,3 +102,6 @@ scanned_of_file t layout s whole found scan =
       checkpoint = read.checkpoint;
       sessions = refl;
     }
+
+pub scanned_of_file : (t : Told) (layout : Layout) (s : Scanned) → IsImage t.shown → IsFound t.shown s.copies.found → IsScan layout (Some t) s → IsOfFile t s.file (read_of s) (base_scanned s)
+scanned_of_file t layout s whole found scan = scanned_as 1 t layout s whole found scan

@@ -1,23 +1,24 @@
 -- The choice of an image answers for it, once its fields are tested.
 use Rattle.std.specs.Prelude.{Err}
-use Rattle.std.proofs.Common.{Option, Some, None}
+use Rattle.std.proofs.Common.{ℕ, Option, Some, None}
 use Rattle.df_base.specs.Image.{Image}
 use Rattle.df_disk.specs.Told.{Told}
-use Rattle.df_recovery.specs.Opening.{Refuses}
-use Rattle.df_recovery.specs.Found.{IsFound, Answers, TellsChoice, TellsFound}
+use Rattle.df_recovery.specs.Opening.{RefusesAs}
+use Rattle.df_recovery.specs.Found.{IsFoundAs, AnswersAs, TellsChoice, TellsFoundAs}
 use Rattle.df_model.specs.declared.errors.OpenError.{OpenError}
-use Rattle.df_model.specs.declared.errors.OpenError.TheVariants.{NotFormatted, NoQuorum, Version, BadField, LayoutDiffers, Damaged, DiskFault}
+use Rattle.df_model.specs.declared.errors.OpenError.TheVariants.{NotFormatted, NoQuorum, Version, BadField, LayoutDiffers, Damaged, DiskFault, BootSpent}
 
 -- a refusal is an answer
-refusal_answers : {T : Type 0} (P : T → Type 0) (image : Image) (e : OpenError) → Refuses image e → Answers P image (Err e)
-refusal_answers P image NotFormatted refuses = refuses
-refusal_answers P image (NoQuorum classes) refuses = refuses
-refusal_answers P image (Version found) refuses = refuses
-refusal_answers P image (BadField field value) refuses = refuses
-refusal_answers P image (LayoutDiffers reserved there) refuses = refuses
-refusal_answers P image (Damaged place class) refuses = refuses
-refusal_answers P image DiskFault refuses = tt
+refusal_answers : {T : Type 0} (version : ℕ) (P : T → Type 0) (image : Image) (e : OpenError) → RefusesAs version image e → AnswersAs version P image (Err e)
+refusal_answers version P image NotFormatted refuses = refuses
+refusal_answers version P image (NoQuorum classes) refuses = refuses
+refusal_answers version P image (Version found) refuses = refuses
+refusal_answers version P image (BadField field value) refuses = refuses
+refusal_answers version P image (LayoutDiffers reserved there) refuses = refuses
+refusal_answers version P image (Damaged place class) refuses = refuses
+refusal_answers version P image DiskFault refuses = tt
+refusal_answers version P image BootSpent refuses = refuses
 
-pub tells_refusal : (told : Option Told) (e : OpenError) → TellsChoice told (Err e) → TellsFound told (Err e)
-tells_refusal None e tells = tt
-tells_refusal (Some t) e tells = refusal_answers (IsFound t.shown) t.shown e tells
+pub tells_refusal : (version : ℕ) (told : Option Told) (e : OpenError) → TellsChoice told (Err e) → TellsFoundAs version told (Err e)
+tells_refusal version None e tells = tt
+tells_refusal version (Some t) e tells = refusal_answers version (IsFoundAs version t.shown) t.shown e (tells version)

@@ -1,8 +1,7 @@
 -- The checksums that wait, one more op at a time, and in the words of the machine.
-use Rattle.std.proofs.Common.{◌≡◌, ◌∙◌, inl, inr, ℕ, ◌+◌, ◌-◌, ◌%◌, ◌==◌, ◌≤◌, ◌<◌, Bool, true, false, List, [], ◌∷◌, ◌++◌, length, map, Option, Some, None, refl, sym, ap, subst, arith}
+use Rattle.std.proofs.Common.{◌≡◌, ◌∙◌, inl, inr, ℕ, ◌+◌, ◌-◌, ◌%◌, ◌==◌, ◌≤◌, Bool, true, false, List, [], ◌∷◌, ◌++◌, length, map, Option, Some, None, refl, sym, ap, arith}
 use Rattle.std.specs.Prelude.{Result, Ok, Err, nat_lt, if◌then◌else◌}
 use Rattle.std.specs.List.{range_with_len, slice_get}
-use Rattle.std.proofs.lemmas.Bool.{cases_Bool}
 use Rattle.std.proofs.lemmas.List.FromFn.{length-map-range_with_len, map-range_with_len_more}
 use Rattle.std.proofs.lemmas.Option.{slice_get_cases}
 use Rattle.df_base.specs.Fields.{field_at}
@@ -12,7 +11,7 @@ use Rattle.df_format.specs.declared.header.Header.{Header}
 use Rattle.df_theory.specs.Units
 use Rattle.df_theory.specs.Units.{AnyUnit, PreparePlace, PrepareUnit}
 use Rattle.df_model.specs.Work.{checksum_of_op}
-use Rattle.df_units.specs.Meaning.{header_of, number_of}
+use Rattle.df_units.specs.Meaning.{number_of}
 use Rattle.df_units.proofs.Laws.{no_number}
 use Rattle.df_buffers.specs.declared.slots.SlotSeen.{SlotSeen}
 use Rattle.df_journal.specs.Scan.{Scan, entry, or_blank}

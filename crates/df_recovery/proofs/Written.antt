@@ -9,9 +9,9 @@ use Rattle.df_format.specs.CopyLaws.{IsWritten}
 use Rattle.df_format.specs.declared.superblock.SuperCopy.{SuperCopy}
 use Rattle.df_format.specs.declared.superblock.SuperFields.{SuperFields}
 use Rattle.df_format.proofs.Laws.{was_written}
-use Rattle.df_recovery.proofs.Asked.{asked_super}
+use Rattle.df_recovery.proofs.Asked.{super_as}
 use Rattle.df_quorum.specs.Quorum.{IsChosen}
-use Rattle.df_recovery.specs.Opening.{HasSuper}
+use Rattle.df_recovery.specs.Opening.{HasSuperAs}
 use Rattle.df_recovery.specs.OpeningLaws.{SuperIsWritten}
 
 -- a content that a sector shows is that of the copy that the sector is
@@ -44,12 +44,12 @@ content_is image n c sector none is =
     λ i. record { checksum = sum i; fields = c.fields }
 
 -- the content that is chosen is the one that its fields are written with
-pub written_is : (image : Image) (f : SuperFields) → IsImage image → (found : HasSuper image f) → found.content ≡ content_with f
-written_is image f whole found =
-    let rules : IsSuper f = (asked_super f found.usable).1 in
+pub written_as : (version : ℕ) (image : Image) (f : SuperFields) → IsImage image → (found : HasSuperAs version image f) → found.content ≡ content_with f
+written_as version image f whole found =
+    let rules : IsSuper f = (super_as version f found.usable).1 in
     let none : found.content.fields.first_nonzero ≡ None = ap (λ (g : SuperFields). g.first_nonzero) found.fields ∙ rules.zero in
     let same : found.content ≡ content_with found.content.fields = content_is image found.chosen.agreed.second found.content (whole.sectors found.chosen.agreed.second) none found.chosen.agreed.at_second in
     same ∙ ap content_with found.fields
 
-pub super_is_written : SuperIsWritten
-super_is_written image f whole found = subst (λ (c : Content). IsChosen (content_at image) c) (written_is image f whole found) found.chosen
+pub super_is_written_as : SuperIsWritten
+super_is_written_as version image f whole found = subst (λ (c : Content). IsChosen (content_at image) c) (written_as version image f whole found) found.chosen

@@ -3,15 +3,16 @@ pub use Rattle.df_format.specs.Spelling.{no_checksum}
 pub use Rattle.df_format.specs.SuperRules.{fault_of}
 pub use Rattle.df_theory.specs.Sessions.{Tracks}
 pub use Rattle.df_theory.specs.Units.{CopyPlace, PreparePlace, ReplyPlace}
-pub use Rattle.df_theory.specs.View.{View}
+pub use Rattle.df_theory.specs.View.{Checkpoint, View}
+pub use Rattle.df_units.specs.Meaning.{pin_checksum_of, pin_of}
 pub use Rattle.df_model.specs.Faults.{is_open_fault}
 pub use Rattle.df_replies.specs.Shown.{ShowsReplies}
 pub use Rattle.df_superblock.specs.Calls.{ShowsCopies, ShowsSlots}
 pub use Rattle.df_journal.specs.Below.{HasCause, IsCheck, Layout, Session, Shape, Told, Units, decision_of, sessions_of}
-pub use Rattle.df_journal.specs.Counts.{CountsAll, CountsOwn, CountsReplies}
-pub use Rattle.df_journal.specs.Scan.{IsOfVersionOne, entry}
+pub use Rattle.df_journal.specs.Counts.{CountsAll, CountsBound, CountsReplies}
+pub use Rattle.df_journal.specs.Scan.{entry}
 pub use Rattle.df_journal.specs.Seen.{class_of, header_of_seen}
-pub use Rattle.df_journal.specs.Shows.{ShowsTable, Tells}
+pub use Rattle.df_journal.specs.Shows.{ShowsTable, TellsRings}
 pub use Rattle.df_journal.specs.Tail.{AreNumbered, AreUnstored}
 pub use Rattle.df_checkpoint.specs.Below.{AreFieldsOf, IsBlamed, parse_of}
 pub use Rattle.df_rooms.specs.Below.{IsMachineStep, IsMachines, IsStep, IsVerdict, ListsFailing, ScrubState, after_step, failing_among, failing_in, left_in, verdict_in, with_check}

@@ -1,10 +1,11 @@
 -- What an open finds behind a superblock, by what a scan saw of the slots and of the replies: the state, or the first damage in the order of open.
-use Rattle.std.specs.Prelude.{◌≡◌, ◌+◌, ◌-◌, ◌<◌, ◌≤◌, ℕ, Bool, nat_le, if◌then◌else◌, List, [], length, map, slice_get, position, Option, Some, None, Result, Ok, Err}
+use Rattle.std.specs.Prelude.{◌≡◌, ◌+◌, ◌-◌, ◌<◌, ◌≤◌, ◌^◌, ℕ, Bool, nat_le, if◌then◌else◌, List, [], length, map, slice_get, position, Option, Some, None, Result, Ok, Err}
 use Rattle.std.specs.List.{range_with_len}
 use Rattle.df_base.specs.Image.{IsImage}
 use Rattle.df_disk.specs.Told.{Told}
 use Rattle.df_layout.specs.declared.damage.Class.{Class}
 use Rattle.df_layout.specs.declared.layout.Layout.{Layout}
+use Rattle.df_layout.specs.declared.places.Place.{Place}
 use Rattle.df_format.specs.declared.header.Header.{Header}
 use Rattle.df_format.specs.Copies.{content_with}
 use Rattle.df_sessions.specs.declared.session.Session.{Session}
@@ -12,21 +13,20 @@ use Rattle.df_sessions.specs.Requests.{sessions_of}
 use Rattle.df_theory.specs.Units
 use Rattle.df_theory.specs.Units.{CopyPlace}
 use Rattle.df_theory.specs.Found
-use Rattle.df_theory.specs.Opens.{Damaged as Damages, IsLowest, IsReadable, Opens, Refused}
+use Rattle.df_theory.specs.Opens.{BootSpent as NoBoot, Damaged as Damages, IsLowest, IsReadable, Opens, Refusal, Refused}
 use Rattle.df_theory.specs.MendLaws.{IsSlotHeader}
 use Rattle.df_theory.specs.Shape.{Shape, clients, slots}
 use Rattle.df_theory.specs.Tails.{last_checksum}
-use Rattle.df_theory.specs.View.{Checkpoint, View, head, sessions}
+use Rattle.df_theory.specs.View.{Checkpoint, View, boot_of, head, sessions}
 use Rattle.df_model.specs.Memory
 use Rattle.df_model.specs.Work.{first_tour, opened}
 use Rattle.df_model.specs.declared.errors.OpenError.{OpenError}
-use Rattle.df_model.specs.declared.errors.OpenError.TheVariants.{Damaged}
+use Rattle.df_model.specs.declared.errors.OpenError.TheVariants.{BootSpent, Damaged}
 use Rattle.df_units.specs.Bytes.{unit_at}
 use Rattle.df_units.specs.Meaning.{content_of, header_of, layout_of, number_of, place_of}
-use Rattle.df_journal.specs.Counts.{OwnAreAlone}
 use Rattle.df_journal.specs.Scan.{Scan}
 use Rattle.df_journal.specs.Scanned as rings
-use Rattle.df_journal.specs.Shows.{Tells}
+use Rattle.df_journal.specs.Shows.{TellsRings}
 use Rattle.df_journal.specs.Tail.{AreUnstored, EndsAt}
 use Rattle.df_replies.specs.Shown
 use Rattle.df_replies.specs.Shown.{ShowsReplies}
@@ -36,7 +36,7 @@ use Rattle.df_recovery.specs.Checkpoints.{Base, HasCheckpoint, base_of}
 use Rattle.df_recovery.specs.Waiting.{waiting_in, waiting_sum}
 use Rattle.df_recovery.specs.Found.{IsChoiceOf}
 use Rattle.df_recovery.specs.Starting.{start_of}
-use Rattle.df_recovery.specs.Surveys.{HasFile, Surveys, class_there}
+use Rattle.df_recovery.specs.Surveys.{HasFile, SurveysAs, class_there}
 use Rattle.df_rooms.specs.declared.file.DataFile.{DataFile}
 use Rattle.df_recovery.specs.declared.superblock.Found.{Found}
 use Rattle.df_recovery.specs.declared.finding.Traces.{Traces}
@@ -54,9 +54,10 @@ lowest_of members = or_first (position (λ member. member) members)
 abbrev pub damage : Units.Place → Class → OpenError
 damage at class = Damaged (place_of at) class
 
--- the refusal names a place
+-- the refusal is by what stands behind the superblock and its trailer: it names a place, or the boot is spent
 abbrev pub IsDamage : OpenError → Type 0
 IsDamage (Damaged place class) = Unit {0}
+IsDamage BootSpent = Unit {0}
 IsDamage e = ⊥
 
 -- what an open has read: the superblock, what a scan saw of the slots and of the replies, and the sessions of the checkpoint
@@ -71,16 +72,14 @@ pub record Read : Type 0 where
 abbrev pub read_of : Scanned → Read
 read_of s = record { layout = s.file.layout; found = s.copies.found; slots = s.log.slots; replies = s.log.replies; sessions = s.sessions.sessions }
 
--- it was read from an image with this checkpoint: the superblock names it, is of version 1 and can be used
+-- it was read from an image with this checkpoint: the superblock names it and can be used
 pub record IsReadFrom (sh : Shape) (image : Units.Units) (b : Checkpoint) (read : Read) : Type 0 where
-  pub tells : Tells read.layout image read.slots
+  pub tells : TellsRings read.layout image read.slots
   pub shows : ShowsReplies image read.replies
   pub slots_are : slots sh ≡ read.layout.slots
   pub clients_are : clients sh ≡ read.layout.clients
   pub content_is : b.content ≡ content_of (content_with read.found.content)
   pub readable : IsReadable sh image b
-  pub first : b.content.version ≡ 1
-  pub alone : OwnAreAlone image b.content.boot
   pub lowest_is : IsLowest image b.content (lowest_of read.found.chosen.members)
   pub sessions_are : b.parts.sessions ≡ sessions_of read.sessions
 
@@ -89,21 +88,31 @@ pub record IsScannedFrom (t : Told) (read : Read) : Type 0 where
   pub slots : rings.IsScanned read.layout (Some t) read.slots
   pub replies : Shown.IsScanned read.layout read.slots.start.cluster (Some t) read.replies
 
--- the image's state is a view that ends so, with these sessions
+-- the image's state is a view that ends so, with these sessions, and its boot can be raised
 pub record FindsView (sh : Shape) (image : Units.Units) (b : Checkpoint) (traces : Traces) (sessions : List Session) : Type 0 where
   pub view : View
   pub checkpoint : view.checkpoint ≡ b
   pub ends : EndsAt b view.tail traces.tail sessions
   pub replies : view.replies ≡ traces.replies
   pub found : Found.IsFound sh image view
+  pub unspent : boot_of view < 2 ^ 62
 
--- the open ends with this refusal: of each image that was read the theory blames the place, and of a disk that was scanned the class is what stands there
-pub record IsRefused (read : Read) (e : OpenError) : Type 0 where
+-- of each image that was read the open ends so, by the theory
+abbrev pub EachOpens : Read → Refusal → Type 0
+EachOpens read refusal = (sh : Shape) (image : Units.Units) (b : Checkpoint) → IsReadFrom sh image b read → Opens sh image (Refused refusal)
+
+-- the open ends with this place: of each image that was read the theory blames it, and of a disk that was scanned the class is what stands there
+pub record IsDamagedAt (read : Read) (place : Place) (class : Class) : Type 0 where
   pub at : Units.Place
-  pub class : Class
-  pub error_is : e ≡ damage at class
-  pub opens : (sh : Shape) (image : Units.Units) (b : Checkpoint) → IsReadFrom sh image b read → Opens sh image (Refused (Damages at))
+  pub place_is : place ≡ place_of at
+  pub opens : EachOpens read (Damages at)
   pub class_is : (t : Told) → IsScannedFrom t read → class ≡ class_there read.layout read.slots.start.cluster t.shown at
+
+-- the open ends with this refusal
+abbrev pub IsRefused : Read → OpenError → Type 0
+IsRefused read (Damaged place class) = IsDamagedAt read place class
+IsRefused read BootSpent = EachOpens read NoBoot
+IsRefused read e = ⊥
 
 -- the answer, with the sessions after the tail
 abbrev pub Answers : Read → Result Traces OpenError → List Session → Type 0
@@ -161,7 +170,7 @@ FileIsRead =
 
 -- so a refusal is the answer to an open
 abbrev pub RefusedIsAnswer : Type 0
-RefusedIsAnswer = (t : Told) (file : DataFile) (read : Read) (base : Base) (e : OpenError) → IsOfFile t file read base → IsRefused read e → Surveys file.layout t.shown (Err e)
+RefusedIsAnswer = (t : Told) (file : DataFile) (read : Read) (base : Base) (e : OpenError) → IsOfFile t file read base → IsRefused read e → SurveysAs file.version file.layout t.shown (Err e)
 
 -- ---- the stored replies
 
@@ -212,4 +221,4 @@ base_with s sessions = record { root = s.root; sessions = sessions; blocks = s.b
 abbrev pub KeptIsAnswer : Type 0
 KeptIsAnswer =
     (t : Told) (read : Read) (traces : Traces) (after : List Session) (s : State) → IsOfFile t s.file read (base_with s read.sessions) → Answers read (Ok traces) after → IsKept read traces after s
-    → HasHeaders (unit_at s.file.layout s.file.cluster t.shown) s → Surveys s.file.layout t.shown (Ok s)
+    → HasHeaders (unit_at s.file.layout s.file.cluster t.shown) s → SurveysAs s.file.version s.file.layout t.shown (Ok s)

@@ -5,8 +5,10 @@ pub mod Checkpoints
 pub mod Waiting
 pub mod Surveys
 pub mod Starting
+pub mod Known
 pub mod SurveyLaws
 pub mod Scanning
 pub mod Finding
 pub mod Plan
+pub mod Surveying
 pub mod Below

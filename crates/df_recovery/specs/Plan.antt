@@ -16,19 +16,19 @@ use Rattle.df_cases.specs.declared.cases.Decision.TheVariants.{Empty, Take}
 use Rattle.df_theory.specs.Units
 use Rattle.df_theory.specs.Units.{AnyUnit, HeaderPlace, HeaderUnit, Place}
 use Rattle.df_theory.specs.Cases
-use Rattle.df_theory.specs.Cases.{decision}
 use Rattle.df_theory.specs.Chance.{Distinct}
 use Rattle.df_theory.specs.Found.{IsFound}
 use Rattle.df_theory.specs.Shape.{Shape, slots}
-use Rattle.df_theory.specs.View.{View, boot_of}
+use Rattle.df_theory.specs.View.{View, boot_of, head}
 use Rattle.df_units.specs.Meaning.{header_of}
 use Rattle.df_cases.specs.Cases.{decision_of}
 use Rattle.df_units.specs.Sample.{reserved_header}
 use Rattle.df_buffers.specs.declared.slots.SlotSeen.{SlotSeen}
 use Rattle.df_journal.specs.declared.table.Start.{Start}
+use Rattle.df_journal.specs.Planned.{planned}
 use Rattle.df_journal.specs.Scan.{Scan, entry}
 use Rattle.df_journal.specs.Seen.{IsOpOf, class_of, header_of_seen}
-use Rattle.df_journal.specs.Shows.{Tells}
+use Rattle.df_journal.specs.Shows.{TellsRings}
 
 -- ---- the decision on a slot
 
@@ -36,9 +36,9 @@ use Rattle.df_journal.specs.Shows.{Tells}
 abbrev pub op_in : ℕ → ℕ → ℕ → ℕ
 op_in n op slot = op + 1 + (slot + n - (op + 1) % n) % n
 
--- what is decided of a slot behind where a scan starts
-abbrev pub decision_at : Layout → Start → Units.Units → ℕ → Cases.Decision
-decision_at layout start image slot = decision layout.slots start.boot image (op_in layout.slots start.op slot)
+-- what is decided of a slot behind where a scan starts, once this head is known
+abbrev pub decision_at : Layout → Start → ℕ → Units.Units → ℕ → Cases.Decision
+decision_at layout start top image slot = planned layout.slots start top image (op_in layout.slots start.op slot)
 
 -- whether its header is to be written again
 abbrev pub is_mended : Cases.Decision → Bool
@@ -47,8 +47,8 @@ is_mended (Cases.Empty mend) = mend
 is_mended Cases.Behind = false
 is_mended Cases.Lost = false
 
-abbrev pub needs_header : Layout → Start → Units.Units → ℕ → Bool
-needs_header layout start image slot = is_mended (decision_at layout start image slot)
+abbrev pub needs_header : Layout → Start → ℕ → Units.Units → ℕ → Bool
+needs_header layout start top image slot = is_mended (decision_at layout start top image slot)
 
 -- ---- the list of what is to be written again
 
@@ -76,8 +76,8 @@ abbrev pub shown_class : Scan → ℕ → Class
 shown_class scan slot = class_of (entry scan slot).header
 
 -- the copies first, then the slots whose decision says so
-abbrev pub mend_list : Layout → Scan → Units.Units → List Slot → List Bool → List Mend
-mend_list layout scan image copies members = copy_mends copies members ++ slot_mends (needs_header layout scan.start image) (shown_class scan) layout.slots
+abbrev pub mend_list : Layout → Scan → ℕ → Units.Units → List Slot → List Bool → List Mend
+mend_list layout scan top image copies members = copy_mends copies members ++ slot_mends (needs_header layout scan.start top image) (shown_class scan) layout.slots
 
 -- ---- the table of headers
 
@@ -95,13 +95,14 @@ headers_in table slot = header_or_none (slice_get table slot)
 
 -- ---- what is found
 
--- the scan says what the rings of an image show, and this view is found in the image, behind the superblock that the scan started from
-pub record IsScanOf (layout : Layout) (sh : Shape) (image : Units.Units) (v : View) (scan : Scan) : Type 0 where
+-- the scan says what the rings of an image show, and this view with this head is found in the image, behind the superblock that the scan started from
+pub record IsScanOf (layout : Layout) (sh : Shape) (image : Units.Units) (v : View) (scan : Scan) (top : ℕ) : Type 0 where
   pub slots_are : slots sh ≡ layout.slots
   pub op : v.checkpoint.content.op ≡ scan.start.op
   pub pin : v.checkpoint.content.pin ≡ scan.start.head
   pub boot : boot_of v ≡ scan.start.boot
-  pub tells : Tells layout image scan
+  pub head_is : head v ≡ top
+  pub tells : TellsRings layout image scan
   pub found : IsFound sh image v
 
 -- no two units of the image have one checksum
@@ -109,8 +110,8 @@ abbrev pub AreDistinct : Units.Units → Type 0
 AreDistinct image = (place other : Place) (x y : AnyUnit) → image place ≡ Some x → image other ≡ Some y → Distinct x y
 
 -- each slot that isn't to be written again shows what it is to show
-abbrev pub OthersAreShown : Layout → Start → Units.Units → (ℕ → Units.Header) → Type 0
-OthersAreShown layout start image table = (slot : ℕ) → slot < layout.slots → needs_header layout start image slot ≡ false → image (HeaderPlace slot) ≡ Some (HeaderUnit (table slot))
+abbrev pub OthersAreShown : Layout → Start → ℕ → Units.Units → (ℕ → Units.Header) → Type 0
+OthersAreShown layout start top image table = (slot : ℕ) → slot < layout.slots → needs_header layout start top image slot ≡ false → image (HeaderPlace slot) ≡ Some (HeaderUnit (table slot))
 
 -- ---- one slot
 
@@ -124,13 +125,13 @@ header_by cluster slot seen (Take mend) = header_or_reserved cluster slot (heade
 header_by cluster slot seen (Empty false) = header_or_reserved cluster slot (header_of_seen seen.header)
 header_by cluster slot seen d = reserved_header cluster slot
 
--- this is decided of a slot, whatever image shows what was scanned
-abbrev pub IsDecided : Scan → ℕ → Decision → Type 0
-IsDecided scan slot d = (layout : Layout) (image : Units.Units) (o : ℕ) → Tells layout image scan → IsOpOf layout.slots scan.start.op slot o → decision_of d ≡ decision layout.slots scan.start.boot image o
+-- this is decided of a slot with this head, whatever image shows what was scanned
+abbrev pub IsDecided : Scan → ℕ → ℕ → Decision → Type 0
+IsDecided scan top slot d = (layout : Layout) (image : Units.Units) (o : ℕ) → TellsRings layout image scan → IsOpOf layout.slots scan.start.op slot o → decision_of d ≡ planned layout.slots scan.start top image o
 
 -- the table with the header that the decision says, in the slot
-abbrev pub PutsHeader : ℕ → Scan → ℕ → List Header → List Header → Type 0
-PutsHeader cluster scan slot old new = (d : Decision) × IsDecided scan slot d × (new ≡ slice_set old slot (header_by cluster slot (entry scan slot) d))
+abbrev pub PutsHeader : ℕ → Scan → ℕ → ℕ → List Header → List Header → Type 0
+PutsHeader cluster scan top slot old new = (d : Decision) × IsDecided scan top slot d × (new ≡ slice_set old slot (header_by cluster slot (entry scan slot) d))
 
 -- an element, if it is one that is wanted
 abbrev pub if_wanted : {X : Type 0} → Bool → X → List X
@@ -138,5 +139,5 @@ if_wanted true x = x ∷ []
 if_wanted false x = []
 
 -- the first k slots have their headers
-abbrev pub ArePlanned : ℕ → Scan → ℕ → List Header → Type 0
-ArePlanned cluster scan k table = (slot : ℕ) → slot < k → (d : Decision) × IsDecided scan slot d × (slice_get table slot ≡ Some (header_by cluster slot (entry scan slot) d))
+abbrev pub ArePlanned : ℕ → Scan → ℕ → ℕ → List Header → Type 0
+ArePlanned cluster scan top k table = (slot : ℕ) → slot < k → (d : Decision) × IsDecided scan top slot d × (slice_get table slot ≡ Some (header_by cluster slot (entry scan slot) d))

@@ -11,10 +11,10 @@ use Rattle.df_journal.specs.Scanned
 use Rattle.df_model.specs.declared.errors.OpenError.{OpenError}
 use Rattle.df_model.specs.declared.errors.OpenError.TheVariants.{LayoutDiffers}
 use Rattle.df_replies.specs.Shown
-use Rattle.df_recovery.specs.Found.{IsFound}
+use Rattle.df_recovery.specs.Found.{IsFoundAs}
 use Rattle.df_recovery.specs.Opening.{IsLayoutOf}
 use Rattle.df_recovery.specs.Starting.{start_of}
-use Rattle.df_recovery.specs.Surveys.{Surveys}
+use Rattle.df_recovery.specs.Surveys.{SurveysAs}
 use Rattle.df_recovery.specs.declared.superblock.Found.{Found}
 use Rattle.df_recovery.specs.declared.scanning.Copies.{Copies}
 use Rattle.df_recovery.specs.declared.scanned.Scanned.{Scanned}
@@ -44,14 +44,14 @@ abbrev pub IsUnserved : Layout → SuperFields → OpenError → Type 0
 IsUnserved layout f (LayoutDiffers reserved found) = (reserved ≡ layout) × IsLayoutOf found f × (found ≢ layout)
 IsUnserved layout f e = ⊥
 
--- what the image answers so far: the superblock, or, of whole sectors, the survey's refusal
-abbrev pub Reads : {T : Type 0} → (T → Found) → Layout → Image → Result T OpenError → Type 0
-Reads found layout image (Ok x) = IsFound image (found x)
-Reads found layout image (Err e) = IsImage image → Surveys layout image (Err e)
+-- what the image answers so far, where the version is asked for: the superblock, or, of whole sectors, the survey's refusal
+abbrev pub ReadsAs : {T : Type 0} → ℕ → (T → Found) → Layout → Image → Result T OpenError → Type 0
+ReadsAs version found layout image (Ok x) = IsFoundAs version image (found x)
+ReadsAs version found layout image (Err e) = IsImage image → SurveysAs version layout image (Err e)
 
-abbrev pub TellsRead : {T : Type 0} → (T → Found) → Layout → Option Told → Result T OpenError → Type 0
-TellsRead found layout None result = Unit {0}
-TellsRead found layout (Some t) result = Reads found layout t.shown result
+abbrev pub TellsReadAs : {T : Type 0} → ℕ → (T → Found) → Layout → Option Told → Result T OpenError → Type 0
+TellsReadAs version found layout None result = Unit {0}
+TellsReadAs version found layout (Some t) result = ReadsAs version found layout t.shown result
 
 -- what the rings and the reply slots show, where the disk tells it
 pub record AreScanned (layout : Layout) (cluster : ℕ) (told : Option Told) (slots : Scan) (replies : List (Result Header Class)) : Type 0 where
@@ -66,11 +66,11 @@ without_rooms (Err refused) = Err refused.1
 -- ---- the superblock
 
 -- four places were read, and the fields that passed their tests are those of the choice
-pub record AreCopies (told : Option Told) (copies : Copies) : Type 0 where
+pub record AreCopies (version : ℕ) (told : Option Told) (copies : Copies) : Type 0 where
   -- the choice has these fields
   pub same_fields : copies.found.content ≡ copies.found.chosen.content
-  -- they are of version 1, whatever the disk tells
-  pub version : copies.found.content.version ≡ 1
+  -- they are of the version that is asked for, whatever the disk tells
+  pub version_is : copies.found.content.version ≡ version
   -- each slot is what its place shows
   pub slots : ShowsSlots told copies.slots
   -- a sound copy has the content that its place shows
@@ -139,10 +139,11 @@ error_in (Err unread) = Err unread.error
 
 -- ---- the whole file
 
--- the file has the layout, and its superblock's cluster
+-- the file has the layout, and its superblock's cluster and version
 pub record IsFileOf (layout : Layout) (f : SuperFields) (file : DataFile) : Type 0 where
   pub layout_is : file.layout ≡ layout
   pub cluster_is : file.cluster ≡ f.cluster
+  pub version_is : file.version ≡ f.version
 
 -- what stands behind the superblock isn't read: the disk failed, or the trailer of its file is refused
 pub record RefusesBase (layout : Layout) (f : SuperFields) (told : Option Told) (e : OpenError) : Type 0 where
@@ -167,11 +168,19 @@ pub record IsReadBehind (layout : Layout) (told : Option Told) (s : Scanned) : T
   -- the tables have what the rings and the reply slots show
   pub tables : AreScanned layout s.copies.found.content.cluster told s.log.slots s.log.replies
 
--- a file was read into rooms of a layout
-pub record IsScan (layout : Layout) (told : Option Told) (s : Scanned) : Type 0 where
+-- a file of the version that is asked for was read into rooms of a layout
+pub record IsScanAs (version : ℕ) (layout : Layout) (told : Option Told) (s : Scanned) : Type 0 where
   -- the places of its superblock were read
-  pub copies : AreCopies told s.copies
+  pub copies : AreCopies version told s.copies
   -- the rooms are of its layout
   pub served : IsServed layout s.copies.found.content
   -- and so was what stands behind the superblock
   pub behind : IsReadBehind layout told s
+
+-- ---- where version 1 is asked for, as an open does
+
+abbrev pub TellsRead : {T : Type 0} → (T → Found) → Layout → Option Told → Result T OpenError → Type 0
+TellsRead found layout told result = TellsReadAs 1 found layout told result
+
+abbrev pub IsScan : Layout → Option Told → Scanned → Type 0
+IsScan layout told s = IsScanAs 1 layout told s

@@ -1,15 +1,14 @@
 // What an open finds behind a superblock, from what a scan saw of the slots and of the replies: the state, or the first
 // damage in the order of open.
 ghost use Rattle.std.specs.Prelude.{◌≡◌, ◌≤◌, ◌<◌, ◌+◌, ◌^◌, length, position, IfOk, IfErr};
-ghost use Rattle.df_recovery.specs.Below.{IsCheck, sessions_of, Tracks, CopyPlace, PreparePlace, ReplyPlace, Units, CountsAll, CountsOwn, CountsReplies, entry, class_of, AreNumbered, AreUnstored, ShowsTable, ShowsReplies, AreAsked};
+ghost use Rattle.df_recovery.specs.Below.{IsCheck, sessions_of, Tracks, CopyPlace, PreparePlace, ReplyPlace, Units, CountsAll, CountsBound, CountsReplies, entry, class_of, AreNumbered, AreUnstored, ShowsTable, ShowsReplies, AreAsked};
 ghost use Rattle.df_journal.specs.Shows.{IsTable};
 ghost use Rattle.df_recovery.specs.Finding.{Answers, FileIsRead, IsDamage, KeptIsAnswer, RefusedIsAnswer, StateIsOpened, damage, lowest_of};
 ghost use Rattle.df_recovery.specs.Starting.{start_of};
 
+use crate::known::find_known;
 use crate::{Found, OpenError};
-use df_journal::{
-    SlotTable, Tail, count_rings, find_tail, is_behind, is_lost, ring_top, slot_behind,
-};
+use df_journal::{SlotTable, Tail, bound_top, count_rings, is_behind, is_lost, slot_of};
 use df_layout::{Class, Layout, Place, Zone};
 use df_replies::{Lacking, ReplyTable};
 use df_sessions::SessionTable;
@@ -59,7 +58,7 @@ fn behind_damage(found: &Found) -> OpenError
     )
 }
 
-// The slot of the next op, where something above the tail left a trace.
+// The slot of an op whose prepare is wanted there.
 fn lost_damage(slots: &SlotTable, slot: u32) -> OpenError
     requires { slot < length slots.now.slots }
     ensures { result ≡ damage (PreparePlace slot) (class_of (entry slots.now slot).prepare) }
@@ -82,21 +81,26 @@ fn count_all(slots: &SlotTable, replies: &ReplyTable, boot: u64) -> Counters
     replies.count(&count_rings(slots), boot)
 }
 
-// The same counters, but for the ops of other boots in the rings.
-fn own_of(seen: &Counters, slots: &SlotTable, boot: u64) -> Counters
-    ensures { (image : Units) → ShowsTable image slots.now.slots → CountsReplies boot image seen.now → CountsOwn boot image result }
+// The same counters, but for the ops in the rings: of these the ones that bind the head, where it may be this one.
+fn bound_of(seen: &Counters, slots: &SlotTable, boot: u64, head: u64) -> Counters
+    requires { head < 2 ^ 63 }
+    ensures { (image : Units) → ShowsTable image slots.now.slots → CountsReplies boot image seen.now → CountsBound boot head image result }
 {
     Counters {
-        ring_op: ring_top(slots, boot),
+        ring_op: bound_top(slots, boot, head),
         reply_top: seen.reply_top,
         checkpoint: seen.checkpoint,
         boot: seen.boot,
     }
 }
 
+// The greatest boot, above which none can be raised.
+const GREATEST_BOOT: u64 = 1 << 62;
+
 /// The state behind the checkpoint of a superblock, which the table of slots and the replies show; the sessions, at first
-/// the checkpoint's, become those after the tail. Or the first place that an open refuses: `Superblock` where a unit is of a
-/// later checkpoint, `WalPrepares` where an op above the tail left a trace, `ClientReplies` where a reply is missing.
+/// the checkpoint's, become those after the tail. Or the first refusal of an open: `Superblock` where a unit is of a later
+/// checkpoint or boot, `WalPrepares` where a prepare that the superblock names isn't shown or doesn't fit, or an op above the tail
+/// left a trace, `ClientReplies` where a reply is missing, and `BootSpent` where the superblock has the greatest boot.
 pub fn find_state(
     layout: &Layout,
     found: &Found,
@@ -105,7 +109,7 @@ pub fn find_state(
     sessions: &mut SessionTable,
 ) -> Result<Traces, OpenError>
     requires table { IsTable layout.now slots.now.start.cluster slots.now.slots }
-    requires version { found.now.content.version ≡ 1 }
+    requires size { found.now.content.slots ≡ layout.now.slots }
     requires start { slots.now.start ≡ start_of found.now.content }
     requires replies { length replies.now ≡ layout.now.clients }
     requires places { sessions.old.max ≡ layout.now.clients }
@@ -135,18 +139,28 @@ pub fn find_state(
     ) {
         return Err(behind_damage(found));
     }
-    let tail = find_tail(layout, slots, &content.op_checksum, sessions);
-    let own = own_of(&seen, slots, content.boot);
-    if is_lost(&own, content.head, tail.op) {
-        return Err(lost_damage(slots, slot_behind(layout, &tail)));
+    let reach = match find_known(layout, content, slots, sessions) {
+        Ok(reach) => reach,
+        Err(slot) => return Err(lost_damage(slots, slot)),
+    };
+    let tail = reach.tail;
+    let bound = bound_of(&seen, slots, content.boot, tail.op);
+    if is_lost(&bound, content.head, tail.op) {
+        return Err(lost_damage(slots, slot_of(layout, reach.op + 1)));
     }
     let stored = replies.replies(content.replies, tail.mark, content.boot);
-    match replies.first_lacking(sessions, stored, content.boot) {
+    match replies.first_lacking(sessions, stored, content) {
         Some(lacking) => Err(reply_damage(&lacking)),
-        None => Ok(Traces {
-            tail,
-            replies: stored,
-        }),
+        None => {
+            if content.boot == GREATEST_BOOT {
+                Err(OpenError::BootSpent)
+            } else {
+                Ok(Traces {
+                    tail,
+                    replies: stored,
+                })
+            }
+        }
     }
 }
 

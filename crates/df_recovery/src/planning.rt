@@ -1,7 +1,7 @@
 // What an open plans of a file that it finds: which header each slot of the header ring is to have, and what is to be
 // written again. Nothing is written here.
 ghost use Rattle.std.specs.Prelude.{◌≡◌, ◌<◌, ◌≤◌, ◌+◌, ◌++◌, false, not, get_or, length, vec_len, vec_capacity};
-ghost use Rattle.df_recovery.specs.Below.{Shape, Units, View, Layout as AnyLayout, entry, Tells, decision_of};
+ghost use Rattle.df_recovery.specs.Below.{Shape, Units, View, Layout as AnyLayout, entry, TellsRings, decision_of};
 ghost use Rattle.df_theory.specs.MendLaws.{IsTable as IsSlotTable};
 ghost use Rattle.df_headers.specs.Ring.{IsTable};
 ghost use Rattle.df_journal.specs.Shows.{IsTable as AreSlots};
@@ -117,6 +117,7 @@ fn list_slot(found: &SlotTable, slot: u32, is_mended: bool, mends: &mut Vec<Mend
 fn plan_slot(
     cluster: u128,
     found: &SlotTable,
+    head: u64,
     slot: u32,
     headers: &mut HeaderTable,
     mends: &mut Vec<Mend>,
@@ -125,25 +126,26 @@ fn plan_slot(
     requires slot { slot < length found.now.slots }
     requires table { slot < length headers.old }
     requires room { vec_len mends.old < vec_capacity mends.old }
-    ensures header { PutsHeader cluster found.now slot headers.old headers.new }
-    ensures list { (layout : AnyLayout) (image : Units) → Tells layout image found.now
-        → mends.new.items ≡ mends.old.items ++ if_wanted (needs_header layout found.now.start image slot) (slot_mend (shown_class found.now) slot) }
+    ensures header { PutsHeader cluster found.now head slot headers.old headers.new }
+    ensures list { (layout : AnyLayout) (image : Units) → TellsRings layout image found.now
+        → mends.new.items ≡ mends.old.items ++ if_wanted (needs_header layout found.now.start head image slot) (slot_mend (shown_class found.now) slot) }
     ensures len { vec_len mends.new ≤ vec_len mends.old + 1 }
     ensures room { vec_capacity mends.new ≡ vec_capacity mends.old }
 {
-    let decision = found.decision(slot);
+    let decision = found.planned(slot, head);
     headers.set(slot, header_for(cluster, found, slot, &decision));
     list_slot(found, slot, is_mended(&decision), mends);
 }
 
 /// Puts into the table what each slot of the header ring is to show, and lists what is to be written again: the copies that
-/// aren't members of the choice, in order of number, then the slots whose decision says so, in order, each with the class of
-/// what is shown there. `copies` is what the four places show, and a sound copy there is one of its own place. The list
+/// aren't members of the choice, in order of number, then the slots whose decision says so with the head that was found, in order,
+/// each with the class of what is shown there. `copies` is what the four places show, and a sound copy there is one of its own place. The list
 /// takes no memory.
 pub fn plan(
     layout: &Layout,
     cluster: u128,
     found: &SlotTable,
+    head: u64,
     copies: &[Slot; 4],
     members: &[bool; 4],
     headers: &mut HeaderTable,
@@ -155,15 +157,15 @@ pub fn plan(
     requires headers { length headers.old ≡ layout.now.slots }
     requires room { layout.now.slots + 4 ≤ vec_capacity mends.old }
     ensures table { IsTable layout.now cluster headers.new }
-    ensures tells { (sh : Shape) (image : Units) (v : View) → IsScanOf layout.now sh image v found.now → IsSlotTable sh image v (headers_in headers.new) }
-    ensures whole { (sh : Shape) (image : Units) (v : View) → IsScanOf layout.now sh image v found.now → AreDistinct image → OthersAreShown layout.now found.now.start image (headers_in headers.new) }
-    ensures lists { (image : Units) → Tells layout.now image found.now → mends.new.items ≡ mend_list layout.now found.now image copies.now members.now }
+    ensures tells { (sh : Shape) (image : Units) (v : View) → IsScanOf layout.now sh image v found.now head → IsSlotTable sh image v (headers_in headers.new) }
+    ensures whole { (sh : Shape) (image : Units) (v : View) → IsScanOf layout.now sh image v found.now head → AreDistinct image → OthersAreShown layout.now found.now.start head image (headers_in headers.new) }
+    ensures lists { (image : Units) → TellsRings layout.now image found.now → mends.new.items ≡ mend_list layout.now found.now head image copies.now members.now }
     ensures room { vec_capacity mends.new ≡ vec_capacity mends.old }
 {
     list_copies(copies, members, mends);
     let mut slot = 0;
     while slot < layout.slots {
-        plan_slot(cluster, found, slot, headers, mends);
+        plan_slot(cluster, found, head, slot, headers, mends);
         slot += 1;
     }
 }

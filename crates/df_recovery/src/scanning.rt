@@ -1,16 +1,18 @@
 // What an open reads of a file: after the barrier the four copies of the superblock, the trailer, both rings and the reply slots.
 ghost use Rattle.std.specs.Prelude.{◌≡◌, IfOk, IfErr, Ok, OnOk};
 ghost use Rattle.df_recovery.specs.Below.{IsBlamed, is_open_fault};
-ghost use Rattle.df_recovery.specs.Found.{Syncs, TellsFound};
-ghost use Rattle.df_recovery.specs.Scanning.{AreCopies, IsCheckpoint, IsFileOf, IsReadBehind, IsScan, IsServed, IsUnserved, RefusesBase, TellsRead, found_in, without_rooms};
+ghost use Rattle.df_recovery.specs.Found.{Syncs, TellsFoundAs};
+ghost use Rattle.df_recovery.specs.Starting.{start_of};
+ghost use Rattle.df_recovery.specs.Scanning.{AreCopies, IsCheckpoint, IsFileOf, IsReadBehind, IsScanAs, IsServed, IsUnserved, RefusesBase, TellsReadAs, found_in, without_rooms};
 
 use crate::checkpoint::{Checkpoint, Unread, read_checkpoint};
+use crate::known::pin_of;
 use crate::superblock::superblock_of;
 use crate::zones::scan_zones;
 use crate::{Found, OpenError, Scanned};
 use df_buffers::ProbeRoom;
 use df_disk::Disk;
-use df_format::Super;
+use df_format::{Super, SuperFields};
 use df_journal::Start;
 use df_layout::Layout;
 use df_quorum::Slot;
@@ -25,14 +27,18 @@ pub struct Copies {
 }
 
 // The superblock that the four places show, with what they show.
-fn read_copies<D: Disk>(disk: &mut D, room: &mut ProbeRoom) -> Result<Copies, OpenError>
-    ensures copies { IfOk result (AreCopies (D.told disk.old)) }
-    ensures answer { TellsFound (D.told disk.old) (found_in result) }
+fn read_copies<D: Disk>(
+    disk: &mut D,
+    room: &mut ProbeRoom,
+    version: u32,
+) -> Result<Copies, OpenError>
+    ensures copies { IfOk result (AreCopies version (D.told disk.old)) }
+    ensures answer { TellsFoundAs version (D.told disk.old) (found_in result) }
     ensures same { D.told disk.new ≡ D.told disk.old }
     ensures cause { IsBlamed is_open_fault (D.faults disk.old) (D.faults disk.new) result }
 {
     match read_all(disk, room) {
-        Ok(slots) => match superblock_of(&slots) {
+        Ok(slots) => match superblock_of(&slots, version) {
             Ok(found) => Ok(Copies { found, slots }),
             Err(refusal) => Err(refusal),
         },
@@ -56,14 +62,18 @@ fn test_served(layout: &Layout, content: &Super) -> Result<(), OpenError>
 }
 
 // Makes durable whatever an earlier call left loose, and then finds the superblock.
-fn find_copies<D: Disk>(disk: &mut D, room: &mut ProbeRoom) -> Result<Copies, OpenError>
-    ensures copies { IfOk result (AreCopies (D.told disk.old)) }
-    ensures answer { TellsFound (D.told disk.old) (found_in result) }
+fn find_copies<D: Disk>(
+    disk: &mut D,
+    room: &mut ProbeRoom,
+    version: u32,
+) -> Result<Copies, OpenError>
+    ensures copies { IfOk result (AreCopies version (D.told disk.old)) }
+    ensures answer { TellsFoundAs version (D.told disk.old) (found_in result) }
     ensures barrier { Syncs (D.told disk.old) (D.told disk.new) result }
     ensures cause { IsBlamed is_open_fault (D.faults disk.old) (D.faults disk.new) result }
 {
     match disk.sync() {
-        Ok(()) => read_copies(disk, room),
+        Ok(()) => read_copies(disk, room, version),
         Err(_) => Err(OpenError::DiskFault),
     }
 }
@@ -73,19 +83,32 @@ fn find_served<D: Disk>(
     disk: &mut D,
     layout: &Layout,
     room: &mut ProbeRoom,
+    version: u32,
 ) -> Result<Copies, OpenError>
-    ensures copies { IfOk result (AreCopies (D.told disk.old)) }
+    ensures copies { IfOk result (AreCopies version (D.told disk.old)) }
     ensures served { IfOk result (λ copies. IsServed layout.now copies.found.content) }
-    ensures answer { TellsRead (λ copies. copies.found) layout.now (D.told disk.old) result }
+    ensures answer { TellsReadAs version (λ copies. copies.found) layout.now (D.told disk.old) result }
     ensures barrier { Syncs (D.told disk.old) (D.told disk.new) result }
     ensures cause { IsBlamed is_open_fault (D.faults disk.old) (D.faults disk.new) result }
 {
-    match find_copies(disk, room) {
+    match find_copies(disk, room, version) {
         Ok(copies) => match test_served(layout, &copies.found.content) {
             Ok(()) => Ok(copies),
             Err(refusal) => Err(refusal),
         },
         Err(refusal) => Err(refusal),
+    }
+}
+
+// Where the scan of a file starts.
+fn start_of(fields: &SuperFields) -> Start
+    ensures { result ≡ start_of fields.now }
+{
+    Start {
+        cluster: fields.cluster,
+        op: fields.op,
+        head: pin_of(fields),
+        boot: fields.boot,
     }
 }
 
@@ -108,14 +131,7 @@ fn scan_log<D: Disk>(
     ensures same { D.told disk.new ≡ D.told disk.old }
     ensures cause { IsBlamed is_open_fault (D.faults disk.old) (D.faults disk.new) (without_rooms result) }
 {
-    let fields = copies.found.content.fields();
-    // The superblock of a file of version 1 names no head above its op, and no boot.
-    let start = Start {
-        cluster: fields.cluster,
-        op: fields.op,
-        head: fields.op,
-        boot: 0,
-    };
+    let start = start_of(copies.found.content.fields());
     let (log, done) = scan_zones(disk, &start, log);
     let Checkpoint {
         grid,
@@ -165,6 +181,7 @@ fn scan_served<D: Disk>(
     let file = DataFile {
         layout: rooms.layout,
         cluster: content.fields().cluster,
+        version: content.fields().version,
     };
     let layout = rooms.layout;
     let (log, grid, trailer, scrub) = rooms.into_parts();
@@ -188,19 +205,23 @@ fn scan_served<D: Disk>(
     }
 }
 
-/// Makes durable whatever an earlier call left loose, finds the superblock, and where the rooms serve its file reads each block of
-/// the trailer twice, and each sector of the header ring, each slot of the ring of prepares and each reply slot once. The rooms
-/// come back with a refusal: one of the superblock, `LayoutDiffers`, or one of the trailer.
-pub fn scan_file<D: Disk>(disk: &mut D, rooms: Rooms) -> Result<Scanned, (Rooms, OpenError)>
-    ensures scanned { IfOk result (IsScan rooms.layout (D.told disk.old)) }
+/// Makes durable whatever an earlier call left loose, finds the superblock, where this version is asked for, and where the rooms
+/// serve its file reads each block of the trailer twice, and each sector of the header ring, each slot of the ring of prepares and
+/// each reply slot once. The rooms come back with a refusal: one of the superblock, `LayoutDiffers`, or one of the trailer.
+pub fn scan_file<D: Disk>(
+    disk: &mut D,
+    rooms: Rooms,
+    version: u32,
+) -> Result<Scanned, (Rooms, OpenError)>
+    ensures scanned { IfOk result (IsScanAs version rooms.layout (D.told disk.old)) }
     ensures given_back { IfErr result (λ refused. refused.0.layout ≡ rooms.layout) }
-    ensures answer { TellsRead (λ s. s.copies.found) rooms.layout (D.told disk.old) (without_rooms result) }
+    ensures answer { TellsReadAs version (λ s. s.copies.found) rooms.layout (D.told disk.old) (without_rooms result) }
     ensures barrier { Syncs (D.told disk.old) (D.told disk.new) (without_rooms result) }
     ensures cause { IsBlamed is_open_fault (D.faults disk.old) (D.faults disk.new) (without_rooms result) }
 {
     let layout = rooms.layout;
     let (mut log, grid, trailer, scrub) = rooms.into_parts();
-    let found = find_served(disk, &layout, &mut log.superblock);
+    let found = find_served(disk, &layout, &mut log.superblock, version);
     let rooms = Rooms {
         layout,
         log,

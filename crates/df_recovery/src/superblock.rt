@@ -1,8 +1,8 @@
 // What four copies of the superblock say, once they are read.
 ghost use Rattle.std.specs.Prelude.{◌≡◌, Option, IfOk, IfErr, Ok, None, Some};
 ghost use Rattle.df_recovery.specs.Below.{Told, ShowsSlots, ShowsCopies};
-ghost use Rattle.df_recovery.specs.Opening.{fault_asked};
-ghost use Rattle.df_recovery.specs.Found.{TellsChoice, TellsFound, HasFaultOf, IsRefusal, fault_error};
+ghost use Rattle.df_recovery.specs.Opening.{fault_as};
+ghost use Rattle.df_recovery.specs.Found.{TellsChoice, TellsFoundAs, HasFaultOf, IsRefusal, fault_error};
 
 use crate::OpenError;
 use df_format::{Super, SuperFault, SuperFields, test_fields};
@@ -42,18 +42,14 @@ fn refusal(fault: SuperFault) -> OpenError
     }
 }
 
-// The version that is opened.
-const VERSION: u32 = 1;
-
-// The superblock of these fields, if an open takes it: any version but the one that is asked for is refused before its fields
-// are tested.
-fn asked(fields: &SuperFields) -> Result<Super, SuperFault>
+// The superblock of these fields, where this version is asked for: any other is refused before its fields are tested.
+fn asked(fields: &SuperFields, version: u32) -> Result<Super, SuperFault>
     ensures fields { IfOk result (λ content. content ≡ fields.now) }
-    ensures version { IfOk result (λ content. content.version ≡ 1) }
-    ensures usable { IfOk result (λ _. fault_asked fields.now ≡ None) }
-    ensures fault { IfErr result (λ fault. fault_asked fields.now ≡ Some fault) }
+    ensures version { IfOk result (λ content. content.version ≡ version) }
+    ensures usable { IfOk result (λ _. fault_as version fields.now ≡ None) }
+    ensures fault { IfErr result (λ fault. fault_as version fields.now ≡ Some fault) }
 {
-    if fields.version == VERSION {
+    if fields.version == version {
         test_fields(fields)
     } else {
         Err(SuperFault::Version {
@@ -63,31 +59,31 @@ fn asked(fields: &SuperFields) -> Result<Super, SuperFault>
 }
 
 // The choice, if it can be used.
-fn usable(chosen: Chosen) -> Result<Found, OpenError>
+fn usable(chosen: Chosen, version: u32) -> Result<Found, OpenError>
     ensures same_fields { IfOk result (λ found. found.content ≡ found.chosen.content) }
     ensures chosen { IfOk result (λ found. found.chosen ≡ chosen) }
     ensures content { IfOk result (λ found. found.content ≡ chosen.content) }
-    ensures version { IfOk result (λ found. found.content.version ≡ 1) }
-    ensures usable { IfOk result (λ _. fault_asked chosen.content ≡ None) }
-    ensures fault { IfErr result (HasFaultOf chosen.content) }
-    ensures told { (told : Option Told) → TellsChoice told (Ok chosen) → TellsFound told result }
+    ensures version { IfOk result (λ found. found.content.version ≡ version) }
+    ensures usable { IfOk result (λ _. fault_as version chosen.content ≡ None) }
+    ensures fault { IfErr result (HasFaultOf version chosen.content) }
+    ensures told { (told : Option Told) → TellsChoice told (Ok chosen) → TellsFoundAs version told result }
     ensures refusal { IfErr result IsRefusal }
 {
-    match asked(&chosen.content) {
+    match asked(&chosen.content, version) {
         Ok(content) => Ok(Found { chosen, content }),
         Err(fault) => Err(refusal(fault)),
     }
 }
 
-/// The superblock that the four places say, or the first reason why the file can't be opened.
-pub fn superblock_of(copies: &[Slot; 4]) -> Result<Found, OpenError>
+/// The superblock that the four places say, where this version is asked for, or the first reason why the file can't be opened.
+pub fn superblock_of(copies: &[Slot; 4], version: u32) -> Result<Found, OpenError>
     ensures same_fields { IfOk result (λ found. found.content ≡ found.chosen.content) }
-    ensures version { IfOk result (λ found. found.content.version ≡ 1) }
-    ensures told { (told : Option Told) → ShowsSlots told copies.now → ShowsCopies told copies.now → TellsFound told result }
+    ensures version { IfOk result (λ found. found.content.version ≡ version) }
+    ensures told { (told : Option Told) → ShowsSlots told copies.now → ShowsCopies told copies.now → TellsFoundAs version told result }
     ensures refusal { IfErr result IsRefusal }
 {
     match chosen(copies) {
-        Ok(choice) => usable(choice),
+        Ok(choice) => usable(choice, version),
         Err(refusal) => Err(refusal),
     }
 }

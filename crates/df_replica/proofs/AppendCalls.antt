@@ -20,7 +20,10 @@ use Rattle.df_journal.proofs.Laws.{append_steps, ends_appended, next_sector}
 use Rattle.df_theory.specs.Units as theory
 use Rattle.df_theory.specs.Units.{AnyUnit, BlockPlace, CopyPlace, HeaderPlace, HeaderUnit, Place, PreparePlace, PrepareUnit, ReplyPlace, or_else}
 use Rattle.df_theory.specs.Next.{MayAppend}
+use Rattle.df_theory.specs.Device.{units_log}
 use Rattle.df_theory.specs.Shape.{Shape}
+use Rattle.df_theory.specs.TidyLaws.{IsTidy}
+use Rattle.df_units.specs.Format.{format_of, shape_as, shape_of}
 use Rattle.df_theory.specs.UnitLog.{put_one}
 use Rattle.df_theory.specs.WriterLaws.{IsHeaderSector}
 use Rattle.df_theory.proofs.Laws.{put_one_law}
@@ -154,6 +157,10 @@ module _ (s : State) (client request : ℕ) (body : List ℕ) (given : Given) (i
       last = λ no. absurd no;
     }
 
+    -- of version 1, as its superblock is
+    first_shape : shape s.file ≡ shape_of s.file.layout s.file.cluster s.file.named (parse_of (layout_of s.file.layout))
+    first_shape = ap (λ (version : ℕ). shape_as version s.file.layout s.file.cluster s.file.named (parse_of (layout_of s.file.layout))) (sym is.version ∙ is.plain.version)
+
     module _ (g : Grade) (w : Work) (t : Told) (k : IsKept g s w t.log) where
       next_is : IsNextSector s.file.layout s.file.cluster (now t.log) u.header (u.header.slot / 16) (new_sector u s.headers)
       next_is = next_sector s.file.layout u s.headers (now t.log) own is.ring k.ring
@@ -189,10 +196,11 @@ module _ (s : State) (client request : ℕ) (body : List ℕ) (given : Given) (i
             parse = parse_of (layout_of s.file.layout);
             view = w.view;
             is_log = k.log_is;
-            tidy = by.tidy;
+            tidy = subst (λ (sh : Shape). IsTidy sh (units_log (format_of s.file.layout s.file.cluster) t.log) w.view) first_shape by.tidy;
             may =
-                subst (λ (p : theory.Message). MayAppend (shape s.file) w.view (p ∷ [])) (prepare_is w k.stands)
-                (append_may_law (shape s.file) (spelling s.file) w (supplied_sum given) client request body by.sense (test_is w k.stands None none));
+                subst (λ (sh : Shape). MayAppend sh w.view (message_of u ∷ [])) first_shape
+                (subst (λ (p : theory.Message). MayAppend (shape s.file) w.view (p ∷ [])) (prepare_is w k.stands)
+                (append_may_law (shape s.file) (spelling s.file) w (supplied_sum given) client request body by.sense (test_is w k.stands None none)));
             ring = k.ring;
           }
 

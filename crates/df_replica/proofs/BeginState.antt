@@ -14,6 +14,7 @@ pub with_course : (s : State) (b : Blocks) (r : Option RunningState) → IsState
 with_course s b r is course = record {
   cluster = is.cluster;
   parent = is.parent;
+  version = is.version;
   plain = is.plain;
   sequence = is.sequence;
   root = is.root;

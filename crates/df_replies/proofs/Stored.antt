@@ -7,7 +7,9 @@ use Rattle.std.proofs.lemmas.Bool.{cases_lt, cond-true, cond-false, le-leb, lt-l
 use Rattle.std.proofs.lemmas.List.{length-map}
 use Rattle.std.proofs.lemmas.Option.{slice_get_cases, slice_get-map, slice_get_within}
 use Rattle.df_layout.specs.declared.damage.Class.{Class}
+use Rattle.df_format.specs.Copies.{content_with}
 use Rattle.df_format.specs.declared.header.Header.{Header}
+use Rattle.df_format.specs.declared.superblock.SuperFields.{SuperFields}
 use Rattle.df_sessions.specs.declared.session.Session.{Session}
 use Rattle.df_sessions.specs.Requests.{session_of, sessions_of}
 use Rattle.df_theory.specs.Units
@@ -16,38 +18,45 @@ use Rattle.df_theory.specs.Holds.{IsNamed}
 use Rattle.df_theory.specs.Opens.{IsAnswered, LacksReply}
 use Rattle.df_theory.specs.Found.{IsStored}
 use Rattle.df_theory.specs.View.{View, sessions}
-use Rattle.df_units.specs.Meaning.{header_of}
+use Rattle.df_units.specs.Meaning.{answered_of, content_of, header_of}
 use Rattle.df_replies.specs.declared.answers.Lacking.{Lacking}
+use Rattle.df_replies.specs.Named.{IsNamedBy}
 use Rattle.df_replies.specs.Shown.{ShowsReplies, ShowsReply}
 use Rattle.df_replies.proofs.Scanned.{has_class}
-use Rattle.df_replies.specs.Answers.{AnsweredTo, AnswersIn, FoundAreStored, HasClass, IsFirstLacking, Lacks, LacksHere, NamesNone, StoredAreFound, stored_by}
+use Rattle.df_replies.specs.Answers.{AnsweredTo, AnswersIn, FoundAreStored, HasClass, IsFirstLacking, Lacks, LacksHere, StoredAreFound, stored_by}
 
 -- ---- in the theory
 
--- a content that names no reply is answered by any reply of its boot
-named : (c : Content) (k : ℕ) (h : Header) (r : Message) → NamesNone c → (header_of h).boot ≡ c.boot → r.header ≡ header_of h → IsNamed c k r
-named c k h r names own is = record {
-  old = λ less. absurd (omega (arith, less, names.answered));
-  new = λ from. ap (λ (x : Units.Header). x.boot) is ∙ own;
+-- the content of a superblock names a reply with this header where the superblock does
+named : (f : SuperFields) (k : ℕ) (h : Header) (r : Message) → r.header ≡ header_of h → IsNamedBy f k h → IsNamed (content_of (content_with f)) k r
+named f k h r is by = record {
+  old = λ less. by.old (subst (λ (x : Units.Header). x.op < answered_of f) is less) ∙ sym (ap (λ (x : Units.Header). x.checksum) is);
+  new = λ from. ap (λ (x : Units.Header). x.boot) is ∙ by.new (subst (λ (x : Units.Header). answered_of f ≤ x.op) is from);
 }
 
-answers_shown : (boot : ℕ) (image : Units.Units) (c : Content) (k : ℕ) (s : Session) (reply : Result Header Class) → c.boot ≡ boot → NamesNone c → ShowsReply (image (ReplyPlace k)) reply → AnswersIn boot s reply ↔ IsAnswered image c k (session_of s)
-answers_shown boot image c k s (Ok h) own names (q, is, same) = (
+named_by : (f : SuperFields) (k : ℕ) (h : Header) (r : Message) → r.header ≡ header_of h → IsNamed (content_of (content_with f)) k r → IsNamedBy f k h
+named_by f k h r is by = record {
+  old = λ less. by.old (subst (λ (x : Units.Header). x.op < answered_of f) (sym is) less) ∙ ap (λ (x : Units.Header). x.checksum) is;
+  new = λ from. sym (ap (λ (x : Units.Header). x.boot) is) ∙ by.new (subst (λ (x : Units.Header). answered_of f ≤ x.op) (sym is) from);
+}
+
+answers_shown : (f : SuperFields) (image : Units.Units) (k : ℕ) (s : Session) (reply : Result Header Class) → ShowsReply (image (ReplyPlace k)) reply → AnswersIn f k s reply ↔ IsAnswered image (content_of (content_with f)) k (session_of s)
+answers_shown f image k s (Ok h) (q, is, same) = (
   λ of. (
     q,
     is,
     record { client = ap (λ (x : Units.Header). x.client) same ∙ of.0.client; request = ap (λ (x : Units.Header). x.request) same ∙ of.0.request; op = ap (λ (x : Units.Header). x.op) same ∙ of.0.op },
-    named c k h q names (of.1 ∙ sym own) same,
+    named f k h q same of.1,
   ),
   λ there.
       let both : Some (ReplyUnit there.0) ≡ Some (ReplyUnit q) = sym there.1 ∙ is in
       let one : there.0 ≡ q = cc in
       let header : there.0.header ≡ header_of h = ap (λ (m : Message). m.header) one ∙ same in (
         record { client = sym (ap (λ (x : Units.Header). x.client) header) ∙ there.2.client; request = sym (ap (λ (x : Units.Header). x.request) header) ∙ there.2.request; op = sym (ap (λ (x : Units.Header). x.op) header) ∙ there.2.op },
-        sym (ap (λ (x : Units.Header). x.boot) header) ∙ there.3.new (omega (arith, names.answered)) ∙ own,
+        named_by f k h there.0 header there.3,
       ),
 )
-answers_shown boot image c k s (Err class) own names none = (λ no. absurd no, λ there. let both : None ≡ Some (ReplyUnit there.0) = sym none ∙ there.1 in absurd (cc))
+answers_shown f image k s (Err class) none = (λ no. absurd no, λ there. let both : None ≡ Some (ReplyUnit there.0) = sym none ∙ there.1 in absurd (cc))
 
 session_at : (ss : List Session) (k : ℕ) (s : Session) → slice_get ss k ≡ Some s → slice_get (sessions_of ss) k ≡ Some (session_of s)
 session_at ss k s at = slice_get-map session_of ss k ∙ ap (option_map session_of) at
@@ -61,33 +70,36 @@ session_there ss k s at = elim (slice_get_cases ss k).1 [
   | inr past ↦ absurd (omega (arith, past.0, slice_get_within (sessions_of ss) k s at, length-map ss session_of))
 ]
 
-module _ (boot : ℕ) (image : Units.Units) (c : Content) (replies : List (Result Header Class)) (ss : List Session) (n : ℕ) (shows : ShowsReplies image replies) (own : c.boot ≡ boot) (names : NamesNone c) where
-  answered_before : (k : ℕ) → AnsweredTo boot ss n replies k → (j : ℕ) (s : Units.Session) → j < k → slice_get (sessions_of ss) j ≡ Some s → s.op ≤ n → IsAnswered image c j s
+module _ (f : SuperFields) (image : Units.Units) (replies : List (Result Header Class)) (ss : List Session) (n : ℕ) (shows : ShowsReplies image replies) where
+  abbrev c : Content
+  c = content_of (content_with f)
+
+  answered_before : (k : ℕ) → AnsweredTo f ss n replies k → (j : ℕ) (s : Units.Session) → j < k → slice_get (sessions_of ss) j ≡ Some s → s.op ≤ n → IsAnswered image c j s
   answered_before k before j s less at stored =
       let t = session_there ss j s at in
       let answer = before j t.0 less t.1 (subst (λ (x : Units.Session). x.op ≤ n) t.2 stored) in
-      subst (IsAnswered image c j) (sym t.2) ((answers_shown boot image c j t.0 answer.0 own names (shows.each j answer.0 answer.1)).0 answer.2)
+      subst (IsAnswered image c j) (sym t.2) ((answers_shown f image j t.0 answer.0 (shows.each j answer.0 answer.1)).0 answer.2)
 
-  first_lacks : (lacking : Lacking) → IsFirstLacking boot ss n replies lacking → LacksReply image c (sessions_of ss) n lacking.place
+  first_lacks : (lacking : Lacking) → IsFirstLacking f ss n replies lacking → LacksReply image c (sessions_of ss) n lacking.place
   first_lacks lacking is = record {
     session = session_of is.session;
     at = session_at ss lacking.place is.session is.at;
     stored = is.stored;
-    lacks = λ answered. is.lacks ((answers_shown boot image c lacking.place is.session is.reply own names (shows.each lacking.place is.reply is.there)).1 answered);
+    lacks = λ answered. is.lacks ((answers_shown f image lacking.place is.session is.reply (shows.each lacking.place is.reply is.there)).1 answered);
     first = answered_before lacking.place is.first;
   }
 
-  pub lacks_shown : (o : Option Lacking) → LacksHere boot ss n replies o → Lacks image c ss n o
+  pub lacks_shown : (o : Option Lacking) → LacksHere f ss n replies o → Lacks image c ss n o
   lacks_shown None all = λ k s at stored. answered_before (length ss) all k s (omega (arith, slice_get_within (sessions_of ss) k s at, length-map ss session_of)) at stored
   lacks_shown (Some lacking) is = first_lacks lacking is
 
-pub lacking_class : (boot : ℕ) (ss : List Session) (n : ℕ) (replies : List (Result Header Class)) (o : Option Lacking) → LacksHere boot ss n replies o → IfSome o (HasClass replies)
-lacking_class boot ss n replies None all = tt
-lacking_class boot ss n replies (Some lacking) is = has_class replies lacking is.reply is.there is.class
+pub lacking_class : (f : SuperFields) (ss : List Session) (n : ℕ) (replies : List (Result Header Class)) (o : Option Lacking) → LacksHere f ss n replies o → IfSome o (HasClass replies)
+lacking_class f ss n replies None all = tt
+lacking_class f ss n replies (Some lacking) is = has_class replies lacking is.reply is.there is.class
 
-pub lacking_within : (boot : ℕ) (ss : List Session) (n : ℕ) (replies : List (Result Header Class)) (o : Option Lacking) → LacksHere boot ss n replies o → IfSome o (λ lacking. lacking.place < length replies)
-lacking_within boot ss n replies None all = tt
-lacking_within boot ss n replies (Some lacking) is = slice_get_within replies lacking.place is.reply is.there
+pub lacking_within : (f : SuperFields) (ss : List Session) (n : ℕ) (replies : List (Result Header Class)) (o : Option Lacking) → LacksHere f ss n replies o → IfSome o (λ lacking. lacking.place < length replies)
+lacking_within f ss n replies None all = tt
+lacking_within f ss n replies (Some lacking) is = slice_get_within replies lacking.place is.reply is.there
 
 -- ---- the stored replies of a view
 

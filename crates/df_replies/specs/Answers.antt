@@ -5,6 +5,7 @@ use Rattle.df_layout.specs.declared.damage.Class.{Class}
 use Rattle.df_layout.specs.declared.damage.Class.TheVariants.{Stale}
 use Rattle.df_layout.specs.declared.layout.Layout.{Layout}
 use Rattle.df_format.specs.declared.header.Header.{Header}
+use Rattle.df_format.specs.declared.superblock.SuperFields.{SuperFields}
 use Rattle.df_sessions.specs.declared.session.Session.{Session}
 use Rattle.df_sessions.specs.Requests.{sessions_of}
 use Rattle.df_theory.specs.Units
@@ -14,6 +15,7 @@ use Rattle.df_theory.specs.Found.{IsStored}
 use Rattle.df_theory.specs.View.{View, sessions}
 use Rattle.df_units.specs.Wanted.{class_at}
 use Rattle.df_replies.specs.declared.answers.Lacking.{Lacking}
+use Rattle.df_replies.specs.Named.{IsNamedBy}
 use Rattle.df_replies.specs.Shown.{IsScanned}
 
 -- ---- in the table
@@ -24,10 +26,10 @@ pub record IsOf (s : Session) (h : Header) : Type 0 where
   pub request : h.request ≡ s.request
   pub op : h.op ≡ s.op
 
--- so a slot answers the session, where what it shows is of this boot
-abbrev pub AnswersIn : ℕ → Session → Result Header Class → Type 0
-AnswersIn boot s (Ok h) = IsOf s h × (h.boot ≡ boot)
-AnswersIn boot s (Err class) = ⊥
+-- so the slot of a place answers the session, where the superblock takes what it shows
+abbrev pub AnswersIn : SuperFields → ℕ → Session → Result Header Class → Type 0
+AnswersIn f place s (Ok h) = IsOf s h × IsNamedBy f place h
+AnswersIn f place s (Err class) = ⊥
 
 -- the class of a slot where another unit is wanted
 abbrev pub class_of : Result Header Class → Class
@@ -35,39 +37,35 @@ class_of (Ok h) = Stale
 class_of (Err class) = class
 
 -- a slot answers the session, or it has this class
-abbrev pub TestsReply : ℕ → Session → Result Header Class → Option Class → Type 0
-TestsReply boot s reply None = AnswersIn boot s reply
-TestsReply boot s reply (Some class) = (AnswersIn boot s reply → ⊥) × (class ≡ class_of reply)
+abbrev pub TestsReply : SuperFields → ℕ → Session → Result Header Class → Option Class → Type 0
+TestsReply f place s reply None = AnswersIn f place s reply
+TestsReply f place s reply (Some class) = (AnswersIn f place s reply → ⊥) × (class ≡ class_of reply)
 
 -- the same of a session whose reply is stored
-abbrev pub TestsStored : ℕ → Session → ℕ → Result Header Class → Option Class → Type 0
-TestsStored boot s n reply None = s.op ≤ n → AnswersIn boot s reply
-TestsStored boot s n reply (Some class) = (s.op ≤ n) × (AnswersIn boot s reply → ⊥) × (class ≡ class_of reply)
+abbrev pub TestsStored : SuperFields → ℕ → Session → ℕ → Result Header Class → Option Class → Type 0
+TestsStored f place s n reply None = s.op ≤ n → AnswersIn f place s reply
+TestsStored f place s n reply (Some class) = (s.op ≤ n) × (AnswersIn f place s reply → ⊥) × (class ≡ class_of reply)
 
 -- each of the first k sessions whose reply is stored is answered
-abbrev pub AnsweredTo : ℕ → List Session → ℕ → List (Result Header Class) → ℕ → Type 0
-AnsweredTo boot ss n replies k = (j : ℕ) (s : Session) → j < k → slice_get ss j ≡ Some s → s.op ≤ n → (reply : Result Header Class) × (slice_get replies j ≡ Some reply) × AnswersIn boot s reply
+abbrev pub AnsweredTo : SuperFields → List Session → ℕ → List (Result Header Class) → ℕ → Type 0
+AnsweredTo f ss n replies k = (j : ℕ) (s : Session) → j < k → slice_get ss j ≡ Some s → s.op ≤ n → (reply : Result Header Class) × (slice_get replies j ≡ Some reply) × AnswersIn f j s reply
 
 -- the first session whose reply is stored and isn't in the table
-pub record IsFirstLacking (boot : ℕ) (ss : List Session) (n : ℕ) (replies : List (Result Header Class)) (lacking : Lacking) : Type 0 where
+pub record IsFirstLacking (f : SuperFields) (ss : List Session) (n : ℕ) (replies : List (Result Header Class)) (lacking : Lacking) : Type 0 where
   pub session : Session
   pub at : slice_get ss lacking.place ≡ Some session
   pub stored : session.op ≤ n
   pub reply : Result Header Class
   pub there : slice_get replies lacking.place ≡ Some reply
-  pub lacks : AnswersIn boot session reply → ⊥
+  pub lacks : AnswersIn f lacking.place session reply → ⊥
   pub class : lacking.class ≡ class_of reply
-  pub first : AnsweredTo boot ss n replies lacking.place
+  pub first : AnsweredTo f ss n replies lacking.place
 
-abbrev pub LacksHere : ℕ → List Session → ℕ → List (Result Header Class) → Option Lacking → Type 0
-LacksHere boot ss n replies None = AnsweredTo boot ss n replies (length ss)
-LacksHere boot ss n replies (Some lacking) = IsFirstLacking boot ss n replies lacking
+abbrev pub LacksHere : SuperFields → List Session → ℕ → List (Result Header Class) → Option Lacking → Type 0
+LacksHere f ss n replies None = AnsweredTo f ss n replies (length ss)
+LacksHere f ss n replies (Some lacking) = IsFirstLacking f ss n replies lacking
 
 -- ---- in the theory
-
--- the content names no reply, as in version 1: whatever answers a session's last request will do
-pub record NamesNone (c : Content) : Type 0 where
-  pub answered : c.answered ≡ 0
 
 -- each stored reply is shown
 abbrev pub AllAnswered : Units.Units → Content → List Units.Session → ℕ → Type 0

@@ -1,5 +1,6 @@
 pub mod Slots
 pub mod Shown
 pub mod Counts
+pub mod Named
 pub mod Answers
 pub mod Below

@@ -4,16 +4,17 @@ ghost use Rattle.df_replies.specs.Answers.{IsOf, LacksHere, TestsReply, TestsSto
 ghost use Rattle.df_replies.specs.Counts.{IsGreatest};
 
 use crate::counts::op_in;
-use df_format::Header;
+use crate::named::is_named;
+use df_format::{Header, SuperFields};
 use df_layout::Class;
 use df_sessions::{Session, SessionTable};
 
-/// A session whose reply is stored and not shown; of version 1, whose superblock names no reply.
+/// A session whose reply is stored and not shown.
 #[derive(Clone, Copy, Debug, PartialEq, Eq)]
 pub struct Lacking {
     /// The session's place.
     pub place: u64,
-    /// What its slot shows: Stale for a valid reply to another request.
+    /// What its slot shows: Stale for a valid reply that isn't the one.
     pub class: Class,
 }
 
@@ -35,13 +36,19 @@ fn is_of(session: &Session, header: &Header) -> bool
     header.client == session.client && header.request == session.request && header.op == session.op
 }
 
-// The class of a slot that doesn't show the reply of this boot to the session's last request.
-fn lacks(session: &Session, reply: &Result<Header, Class>, boot: u64) -> Option<Class>
-    ensures { TestsReply boot session.now reply.now result }
+// The class of the slot of a place that doesn't show the reply to the session's last request.
+fn lacks(
+    fields: &SuperFields,
+    place: u64,
+    session: &Session,
+    reply: &Result<Header, Class>,
+) -> Option<Class>
+    requires { place < 64 }
+    ensures { TestsReply fields.now place session.now reply.now result }
 {
     match reply {
         Ok(header) => {
-            if is_of(session, header) && header.boot == boot {
+            if is_of(session, header) && is_named(fields, place, header) {
                 None
             } else {
                 Some(Class::Stale)
@@ -51,17 +58,19 @@ fn lacks(session: &Session, reply: &Result<Header, Class>, boot: u64) -> Option<
     }
 }
 
-// The class of a slot that doesn't show the reply to a session's last request, where that reply is stored.
+// The same, where that reply is stored.
 fn lacks_stored(
+    fields: &SuperFields,
+    place: u64,
     session: &Session,
     stored: u64,
     reply: &Result<Header, Class>,
-    boot: u64,
 ) -> Option<Class>
-    ensures { TestsStored boot session.now stored reply.now result }
+    requires { place < 64 }
+    ensures { TestsStored fields.now place session.now stored reply.now result }
 {
     if session.op <= stored {
-        lacks(session, reply, boot)
+        lacks(fields, place, session, reply)
     } else {
         None
     }
@@ -72,15 +81,16 @@ pub(crate) fn first_lacking(
     sessions: &SessionTable,
     stored: u64,
     replies: &[Result<Header, Class>],
-    boot: u64,
+    fields: &SuperFields,
 ) -> Option<Lacking>
     requires { sessions.now.max ≡ length replies.now }
-    ensures { LacksHere boot sessions.now.sessions stored replies.now result }
+    ensures { LacksHere fields.now sessions.now.sessions stored replies.now result }
 {
     let mut place = 0;
     while place < sessions.len() {
         let session = sessions.get(place)?;
-        if let Some(class) = lacks_stored(&session, stored, &replies[place as usize], boot) {
+        let reply = &replies[place as usize];
+        if let Some(class) = lacks_stored(fields, place, &session, stored, reply) {
             return Some(Lacking { place, class });
         }
         place += 1;

@@ -3,6 +3,7 @@
 
 mod answers;
 mod counts;
+mod named;
 mod scans;
 mod shown;
 mod slot;

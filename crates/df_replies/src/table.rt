@@ -1,7 +1,7 @@
 // The table of replies: what the slots show, place by place, for an open to look at.
 ghost use Rattle.std.specs.Prelude.{◌≡◌, ◌↔◌, ◌<◌, ◌≤◌, List, ℕ, Some, Err, length, replicate, slice_get, IfOk, IfSome, OnOk};
-ghost use Rattle.df_replies.specs.Below.{HasCause, Blank, IsReplies, last_mark, Content, Message, Units};
-ghost use Rattle.df_replies.specs.Answers.{HasClass, Lacks, NamesNone};
+ghost use Rattle.df_replies.specs.Below.{HasCause, Blank, IsReplies, last_mark, Content, Message, Units, content_of, content_with};
+ghost use Rattle.df_replies.specs.Answers.{HasClass, Lacks};
 ghost use Rattle.df_replies.specs.Counts.{RepliesWithin, in_boot};
 ghost use Rattle.df_replies.specs.Shown.{IsScanned, ShowsReplies};
 
@@ -12,7 +12,7 @@ use crate::scans::scan_replies;
 use df_base::{Failed, OutOfMemory};
 use df_buffers::{Raw, Reply};
 use df_disk::Disk;
-use df_format::Header;
+use df_format::{Header, SuperFields};
 use df_layout::{Class, Layout};
 use df_sessions::SessionTable;
 use df_stamps::Counters;
@@ -97,14 +97,19 @@ impl ReplyTable {
         greatest_op(superblock.max(mark), &self.replies, boot)
     }
 
-    /// The first session, by place, whose op is at most `stored` and whose slot doesn't show the reply of this boot to its last
-    /// request.
-    pub fn first_lacking(&self, sessions: &SessionTable, stored: u64, boot: u64) -> Option<Lacking>
+    /// The first session, by place, whose op is at most `stored` and whose slot doesn't show the reply to its last request: of those
+    /// that the superblock names the one with the checksum that it has for the place, and else one of its boot.
+    pub fn first_lacking(
+        &self,
+        sessions: &SessionTable,
+        stored: u64,
+        fields: &SuperFields,
+    ) -> Option<Lacking>
         requires { sessions.now.max ≡ length self.now }
-        ensures lacks { (image : Units) (c : Content) → ShowsReplies image self.now → c.boot ≡ boot → NamesNone c → Lacks image c sessions.now.sessions stored result }
+        ensures lacks { (image : Units) → ShowsReplies image self.now → Lacks image (content_of (content_with fields.now)) sessions.now.sessions stored result }
         ensures class { IfSome result (HasClass self.now) }
         ensures within { IfSome result (λ lacking. lacking.place < length self.now) }
     {
-        first_lacking(sessions, stored, &self.replies, boot)
+        first_lacking(sessions, stored, &self.replies, fields)
     }
 }

@@ -102,7 +102,8 @@ supplied_is_result s w t command given rep supplied sum =
 of_file : (s : State) (w : Work) → Keeps Firm s w None → IsOfFile s.file (memory s).content
 of_file s w k =
     let tests : PassesTests (shape s.file) (memory s).content = subst (PassesTests (shape s.file)) (sym (ap (λ (m : Memory). m.content) k.1)) k.0.view.checkpoint.tests in
-    record { version = inl (tests.version, (tests.of.one tests.version).0); layout = tests.layout; cluster = tests.cluster; rest = tests.rest }
+    let first = tests.version ∙ k.0.version.version in
+    record { version = inl (first, (tests.of.one first).0); layout = tests.layout; cluster = tests.cluster; rest = tests.rest }
 
 module _ (given : Given) (command : Command) (s u : State) (t : Told) (new : Option Told) (answer : Answer) (w : Work) (shown : Shown) (call : IsCall given command s u (Some t) new (Some answer)) (k : Keeps Firm s w None)
     (whole : IsImage t.shown) (agree : AgreeShown s.file.layout (shown_of s.file t.shown) shown) where

@@ -20,7 +20,7 @@ use Rattle.df_theory.specs.Shape.{Shape}
 use Rattle.df_model.specs.Blocks.{Blocks, sum_at}
 use Rattle.df_model.specs.Memory.{Course, Memory, memory_of}
 use Rattle.df_model.specs.Work.{Tour, Work}
-use Rattle.df_checkpoint.specs.Below.{spell, parse_of, captured_parts, shape_of, content_of, layout_of, number_of}
+use Rattle.df_checkpoint.specs.Below.{spell, parse_of, captured_parts, shape_as, content_of, layout_of, number_of}
 use Rattle.df_grid.specs.Grid.{GridState}
 use Rattle.df_grid.specs.Table.{IsIdle}
 use Rattle.df_grid.specs.Writes.{first_address, first_sum}
@@ -116,7 +116,7 @@ memory s = record {
 
 -- the shape of its file
 abbrev pub shape : DataFile → Shape
-shape file = shape_of file.layout file.cluster file.named (parse_of (layout_of file.layout))
+shape file = shape_as file.version file.layout file.cluster file.named (parse_of (layout_of file.layout))
 
 -- the replica stands for this state of the machine
 abbrev pub Represents : State → Work → Type 0
@@ -165,6 +165,7 @@ pub record IsPlain (f : SuperFields) : Type 0 where
 pub record IsState (s : State) : Type 0 where
   pub cluster : s.file.cluster < 2 ^ 128
   pub parent : IsCheck s.head_checksum
+  pub version : s.fields.version ≡ s.file.version
   pub plain : IsPlain s.fields
   pub sequence : (0 < s.fields.sequence) × (s.fields.sequence ≤ 2 ^ 62)
   pub root : length s.root ≤ 1024

@@ -66,6 +66,20 @@ impl SessionTable {
         SessionTable { sessions, max }
     }
 
+    /// A second table of the same sessions.
+    pub fn copied(&self) -> SessionTable
+        ensures { result ≡ self.now }
+    {
+        let mut sessions = ArrayVec::new();
+        for session in self.sessions.as_slice() {
+            sessions.push(*session);
+        }
+        SessionTable {
+            sessions,
+            max: self.max,
+        }
+    }
+
     /// How many sessions there are.
     pub fn len(&self) -> u64
         ensures value { result ≡ length self.now.sessions }

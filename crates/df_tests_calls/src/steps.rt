@@ -1,5 +1,7 @@
 // Calls of a replica, each with the answer that is wanted, and how many device calls and events it makes. A caller's proof is told
 // nothing of the calls.
+ghost use Rattle.std.specs.Prelude.{◌≡◌, true};
+
 use crate::opened::opened;
 use df_format::Header;
 use df_images::{
@@ -47,36 +49,21 @@ pub(crate) enum Step<'a> {
     Advance(Result<Progress, StepError>),
 }
 
-// Whether the read of a prepare is answered so.
-pub(crate) fn is_prepare(
-    disk: &mut MemoryDisk,
-    replica: &mut Replica,
-    op: u64,
-    wanted: &Result<Unit<'_>, PrepareError>,
-) -> bool {
-    if !replica.live() {
-        return false;
-    }
-    match (replica.read_prepare(disk, op), wanted) {
-        (Ok(lent), Ok(unit)) => unit.is(lent.header(), lent.body()),
-        (Err(error), Err(wanted)) => error == *wanted,
-        _ => false,
-    }
-}
-
-// Whether the read of a client's reply is answered so.
-pub(crate) fn is_reply(
-    disk: &mut MemoryDisk,
-    replica: &mut Replica,
-    client: u128,
-    wanted: &Result<Unit<'_>, LookupError>,
-) -> bool {
-    if !replica.live() {
-        return false;
-    }
-    match (replica.read_reply(disk, client), wanted) {
-        (Ok(lent), Ok(unit)) => unit.is(lent.header(), lent.body()),
-        (Err(error), Err(wanted)) => error == *wanted,
+// Whether the read of a prepare, or of a client's reply, is answered so.
+fn is_lent(disk: &mut MemoryDisk, replica: &mut Replica, read: &Step<'_>) -> bool
+    requires live { replica.old.live ≡ true }
+{
+    match *read {
+        Step::ReadPrepare(op, wanted) => match (replica.read_prepare(disk, op), wanted) {
+            (Ok(lent), Ok(unit)) => unit.is(lent.header(), lent.body()),
+            (Err(error), Err(wanted)) => error == wanted,
+            _ => false,
+        },
+        Step::ReadReply(client, wanted) => match (replica.read_reply(disk, client), wanted) {
+            (Ok(lent), Ok(unit)) => unit.is(lent.header(), lent.body()),
+            (Err(error), Err(wanted)) => error == wanted,
+            _ => false,
+        },
         _ => false,
     }
 }
@@ -88,10 +75,9 @@ fn is_appended(
     request: u64,
     body: &[u8],
     wanted: Result<u64, AppendError>,
-) -> bool {
-    if !replica.live() {
-        return false;
-    }
+) -> bool
+    requires live { replica.old.live ≡ true }
+{
     match replica.append(disk, client, request, body) {
         Ok(receipt) => wanted == Ok(receipt.op),
         Err(error) => wanted == Err(error),
@@ -104,10 +90,9 @@ fn is_replied(
     op: u64,
     body: &[u8],
     wanted: Result<(), ReplyError>,
-) -> bool {
-    if !replica.live() {
-        return false;
-    }
+) -> bool
+    requires live { replica.old.live ≡ true }
+{
     match replica.reply(disk, op, body) {
         Ok(_) => wanted == Ok(()),
         Err(error) => wanted == Err(error),
@@ -121,10 +106,9 @@ fn is_written(
     kind: u8,
     body: &[u8],
     wanted: Result<u64, BlockError>,
-) -> bool {
-    if !replica.live() {
-        return false;
-    }
+) -> bool
+    requires live { replica.old.live ≡ true }
+{
     match replica.write_block(disk, kind, body) {
         Ok(made) => {
             wanted == Ok(made.address) && replica.reference(made.address) == Some(made.checksum)
@@ -134,10 +118,9 @@ fn is_written(
 }
 
 // Behind a release nothing is known of the address.
-fn is_released(replica: &mut Replica, address: u64, wanted: Result<(), NotLive>) -> bool {
-    if !replica.live() {
-        return false;
-    }
+fn is_released(replica: &mut Replica, address: u64, wanted: Result<(), NotLive>) -> bool
+    requires live { replica.old.live ≡ true }
+{
     let answer = replica.release(address);
     answer == wanted && replica.reference(address).is_none()
 }
@@ -147,10 +130,9 @@ fn is_read(
     replica: &mut Replica,
     address: u64,
     wanted: Result<(u8, &[u8]), ReadError>,
-) -> bool {
-    if !replica.live() {
-        return false;
-    }
+) -> bool
+    requires live { replica.old.live ≡ true }
+{
     match (replica.read_block(disk, address), wanted) {
         (Ok(lent), Ok((kind, body))) => lent.header().block_kind == kind && lent.body() == body,
         (Err(error), Err(wanted)) => error == wanted,
@@ -158,10 +140,9 @@ fn is_read(
     }
 }
 
-fn is_begun(replica: &mut Replica, root: &[u8], wanted: Result<u64, BeginError>) -> bool {
-    if !replica.live() {
-        return false;
-    }
+fn is_begun(replica: &mut Replica, root: &[u8], wanted: Result<u64, BeginError>) -> bool
+    requires live { replica.old.live ≡ true }
+{
     replica.checkpoint_begin(root) == wanted
 }
 
@@ -169,21 +150,23 @@ fn is_advanced(
     disk: &mut MemoryDisk,
     replica: &mut Replica,
     wanted: Result<Progress, StepError>,
-) -> bool {
-    if !replica.live() {
-        return false;
-    }
+) -> bool
+    requires live { replica.old.live ≡ true }
+{
     replica.checkpoint_step(disk) == wanted
 }
 
-fn is_answered(disk: &mut MemoryDisk, replica: &mut Replica, step: &Step<'_>) -> bool {
+// Whether a call of a live replica is answered so.
+pub(crate) fn is_answered(disk: &mut MemoryDisk, replica: &mut Replica, step: &Step<'_>) -> bool {
+    if !replica.live() {
+        return false;
+    }
     match *step {
         Step::Append(client, request, body, wanted) => {
             is_appended(disk, replica, client, request, body, wanted)
         }
         Step::Reply(op, body, wanted) => is_replied(disk, replica, op, body, wanted),
-        Step::ReadPrepare(op, wanted) => is_prepare(disk, replica, op, &wanted),
-        Step::ReadReply(client, wanted) => is_reply(disk, replica, client, &wanted),
+        Step::ReadPrepare(..) | Step::ReadReply(..) => is_lent(disk, replica, step),
         Step::Write(kind, body, wanted) => is_written(disk, replica, kind, body, wanted),
         Step::Release(address, wanted) => is_released(replica, address, wanted),
         Step::Read(address, wanted) => is_read(disk, replica, address, wanted),

@@ -1,9 +1,10 @@
 // Sectors that are struck between two reads of a replica: the unit there is told by the class of what is shown, the other one is
 // still lent whole, and both are again once the old bytes are written back.
 use crate::opened::{do_all, opened};
-use crate::steps::{Unit, is_prepare, is_reply};
+use crate::steps::{Step, Unit, is_answered};
 use df_base::SECTOR;
 use df_disk::Disk;
+use df_images::Call::{Append, Reply};
 use df_images::{Call, LookupError, PrepareError, Replica, served_file, small_file};
 use df_layout::{Class, Layout, Place, Zone};
 use df_memdisk::{MemoryDisk, Strike};
@@ -13,21 +14,16 @@ use std::test::Fail;
 // Prepares 1 to 3 begin at sectors 8, 10 and 12; the replies of clients 1 and 2 begin at sectors 70 and 72. The last two units,
 // of client 1, fill both sectors of their places, and all others fill half a kilobyte at most.
 const CALLS: [Call; 6] = [
-    Call::Append(1, 1, 0),
-    Call::Reply(1, 0),
-    Call::Append(2, 1, 0),
-    Call::Reply(2, 0),
-    Call::Append(1, 2, 7936),
-    Call::Reply(3, 7936),
+    Append(1, 1, 0),
+    Reply(1, 0),
+    Append(2, 1, 0),
+    Reply(2, 0),
+    Append(1, 2, 7936),
+    Reply(3, 7936),
 ];
 
 // Another file of the cluster, whose second prepare and second reply are another client's.
-const OTHER_CALLS: [Call; 4] = [
-    Call::Append(1, 1, 0),
-    Call::Reply(1, 0),
-    Call::Append(3, 1, 0),
-    Call::Reply(2, 0),
-];
+const OTHER_CALLS: [Call; 4] = [Append(1, 1, 0), Reply(1, 0), Append(3, 1, 0), Reply(2, 0)];
 
 // How a sector is hurt.
 #[derive(Clone, Copy)]
@@ -85,8 +81,8 @@ const OF_REPLY_1: Option<Class> = Some(Class::Elsewhere(Place {
     index: 1,
 }));
 
-// A sector, how it is hurt, and what is then found wrong with the prepare and with the reply.
-type Row = (u8, Blow, Option<Class>, Option<Class>);
+// Sectors, how each of them is hurt, and what is then found wrong with the unit there.
+type Row = (&'static [u8], Blow, Option<Class>);
 
 // A request whose prepare and reply are read, the bodies of both, and the place of the reply.
 #[derive(Clone, Copy)]
@@ -122,6 +118,10 @@ impl<'a> Request<'a> {
     }
 }
 
+fn place(zone: Zone, index: u64) -> Place {
+    Place { zone, index }
+}
+
 // Whether both units are read as these classes say: whole, or damaged at their places.
 fn are_read(
     disk: &mut MemoryDisk,
@@ -133,25 +133,26 @@ fn are_read(
     let wanted_prepare = match prepare {
         None => Ok(request.prepare()),
         Some(class) => Err(PrepareError::Damaged {
-            place: Place {
-                zone: Zone::WalPrepares,
-                index: request.op,
-            },
+            place: place(Zone::WalPrepares, request.op),
             class,
         }),
     };
     let wanted_reply = match reply {
         None => Ok(request.reply()),
         Some(class) => Err(LookupError::Damaged {
-            place: Place {
-                zone: Zone::ClientReplies,
-                index: request.place,
-            },
+            place: place(Zone::ClientReplies, request.place),
             class,
         }),
     };
-    is_prepare(disk, replica, request.op, &wanted_prepare)
-        && is_reply(disk, replica, request.client, &wanted_reply)
+    is_answered(
+        disk,
+        replica,
+        &Step::ReadPrepare(request.op, wanted_prepare),
+    ) && is_answered(
+        disk,
+        replica,
+        &Step::ReadReply(request.client, wanted_reply),
+    )
 }
 
 fn shown(disk: &mut MemoryDisk, sector: u8) -> Result<[u8; SECTOR], Fail> {
@@ -160,7 +161,13 @@ fn shown(disk: &mut MemoryDisk, sector: u8) -> Result<[u8; SECTOR], Fail> {
     Ok(bytes)
 }
 
-fn hurt(disk: &mut MemoryDisk, other: &mut MemoryDisk, sector: u8, blow: Blow) -> Result<(), Fail> {
+// What this sector of the other file shows.
+fn shown_there(alloc: Global, sector: u8) -> Result<[u8; SECTOR], Fail> {
+    let mut other = served_file(alloc, &OTHER_CALLS)?;
+    shown(&mut other, sector)
+}
+
+fn hurt(alloc: Global, disk: &mut MemoryDisk, sector: u8, blow: Blow) -> Result<(), Fail> {
     match blow {
         Blow::Struck(strike) => disk.strike(u64::from(sector), strike)?,
         Blow::From(at) => {
@@ -171,102 +178,91 @@ fn hurt(disk: &mut MemoryDisk, other: &mut MemoryDisk, sector: u8, blow: Blow) -
             disk.write(u64::from(sector), &bytes)?;
         }
         Blow::OfOtherFile => {
-            let bytes = shown(other, sector)?;
+            let bytes = shown_there(alloc, sector)?;
             disk.write(u64::from(sector), &bytes)?;
         }
     }
     Ok(())
 }
 
-// Whether both units are read as a row says behind its blow, and are whole again once the old bytes are written back.
+// Whether both units are read as a row says behind its blow to this sector, and are whole again once the old bytes are back.
+// Replies stand from sector 70 on.
 fn is_told(
+    alloc: Global,
     disk: &mut MemoryDisk,
-    other: &mut MemoryDisk,
     replica: &mut Replica,
     request: &Request<'_>,
+    sector: u8,
     row: &Row,
 ) -> Result<bool, Fail> {
-    let (sector, blow, prepare, reply) = *row;
+    let (_, blow, class) = *row;
+    let (prepare, reply) = if sector < 70 {
+        (class, None)
+    } else {
+        (None, class)
+    };
     let bytes = shown(disk, sector)?;
-    hurt(disk, other, sector, blow)?;
+    hurt(alloc, disk, sector, blow)?;
     let told = are_read(disk, replica, request, prepare, reply);
     disk.write(u64::from(sector), &bytes)?;
     Ok(told && are_read(disk, replica, request, None, None))
 }
 
-// The first row that isn't told so.
+// The first row and sector that aren't told so behind the calls.
 fn first_untold(
+    alloc: Global,
     disk: &mut MemoryDisk,
-    other: &mut MemoryDisk,
     replica: &mut Replica,
     request: &Request<'_>,
     rows: &[Row],
-) -> Result<Option<usize>, Fail> {
+) -> Result<Option<(usize, u8)>, Fail> {
+    do_all(alloc, disk, replica, &CALLS)?;
     for (index, row) in rows.iter().enumerate() {
-        if !is_told(disk, other, replica, request, row)? {
-            return Ok(Some(index));
+        for sector in row.0 {
+            if !is_told(alloc, disk, replica, request, *sector, row)? {
+                return Ok(Some((index, *sector)));
+            }
         }
     }
     Ok(None)
-}
-
-// The first row that isn't told so behind the calls.
-fn first_behind(
-    alloc: Global,
-    disk: &mut MemoryDisk,
-    other: &mut MemoryDisk,
-    replica: &mut Replica,
-    request: &Request<'_>,
-    rows: &[Row],
-) -> Result<Option<usize>, Fail> {
-    do_all(alloc, disk, replica, &CALLS)?;
-    first_untold(disk, other, replica, request, rows)
 }
 
 // The same of a replica of a new file.
 fn first_of(
     alloc: Global,
     disk: &mut MemoryDisk,
-    other: &mut MemoryDisk,
     request: &Request<'_>,
     rows: &[Row],
-) -> Result<Option<usize>, Fail> {
+) -> Result<Option<(usize, u8)>, Fail> {
     let mut replica = opened(alloc, disk, &Layout::small())?;
-    first_behind(alloc, disk, other, &mut replica, request, rows)
+    first_untold(alloc, disk, &mut replica, request, rows)
 }
 
-fn first_other(alloc: Global, request: &Request<'_>, rows: &[Row]) -> Result<Option<usize>, Fail> {
-    let mut other = served_file(alloc, &OTHER_CALLS)?;
+fn first_other(
+    alloc: Global,
+    request: &Request<'_>,
+    rows: &[Row],
+) -> Result<Option<(usize, u8)>, Fail> {
     let mut disk = small_file(alloc, 0)?;
-    first_of(alloc, &mut disk, &mut other, request, rows)
+    first_of(alloc, &mut disk, request, rows)
 }
 
-const ONES: [Row; 23] = [
-    (10, A5, GARBLED, None),
-    (10, ZEROS, BLANK, None),
-    (10, Blow::From(255), GARBLED, None),
-    (10, Blow::From(256), None, None),
-    (11, A5, None, None),
-    (10, LIKE_8, OF_PREPARE_1, None),
-    (10, LIKE_72, OF_REPLY_1, None),
+const ONES: [Row; 13] = [
+    (&[10, 72], A5, GARBLED),
+    (&[10, 72], ZEROS, BLANK),
+    (&[10, 72], Blow::From(255), GARBLED),
+    (&[10, 72], Blow::From(256), None),
+    (&[10, 72], Blow::OfOtherFile, STALE),
+    (&[10, 72], LIKE_8, OF_PREPARE_1),
+    (&[10], LIKE_72, OF_REPLY_1),
     // A superblock's copy, a sector of headers, and the front of a unit of two sectors.
-    (10, LIKE_0, GARBLED, None),
-    (10, LIKE_4, GARBLED, None),
-    (10, LIKE_12, GARBLED, None),
-    (10, Blow::OfOtherFile, STALE, None),
-    (72, A5, None, GARBLED),
-    (72, ZEROS, None, BLANK),
-    (72, Blow::From(255), None, GARBLED),
-    (72, Blow::From(256), None, None),
-    (73, A5, None, None),
-    (72, LIKE_8, None, OF_PREPARE_1),
-    (72, LIKE_4, None, GARBLED),
-    (72, LIKE_70, None, GARBLED),
-    (72, Blow::OfOtherFile, None, STALE),
+    (&[10], LIKE_0, GARBLED),
+    (&[10, 72], LIKE_4, GARBLED),
+    (&[10], LIKE_12, GARBLED),
+    (&[72], LIKE_70, GARBLED),
     // Sectors that neither read is about.
-    (4, A5, None, None),
-    (12, ZEROS, None, None),
-    (70, ZEROS, None, None),
+    (&[4, 11, 73], A5, None),
+    (&[12, 70], ZEROS, None),
 ];
 
 // Each unit is the header alone, 256 bytes of the first sector of its place.
@@ -284,27 +280,19 @@ fn units_of_one_sector_are_told_by_their_bytes(rt: HostRuntime) -> Result<(), Fa
     Ok(())
 }
 
-const TWOS: [Row; 20] = [
-    (12, A5, GARBLED, None),
-    (13, A5, GARBLED, None),
-    (12, ZEROS, BLANK, None),
-    (13, ZEROS, GARBLED, None),
-    (13, Blow::From(4095), GARBLED, None),
-    (12, BEFORE_THE_LAST_APPEND, BLANK, None),
-    (13, BEFORE_THE_LAST_APPEND, GARBLED, None),
-    (12, LIKE_10, OF_PREPARE_2, None),
-    (12, LIKE_72, OF_REPLY_1, None),
-    (12, LIKE_70, GARBLED, None),
-    (70, A5, None, GARBLED),
-    (71, A5, None, GARBLED),
-    (70, ZEROS, None, BLANK),
-    (71, ZEROS, None, GARBLED),
-    (71, Blow::From(4095), None, GARBLED),
-    (70, BEFORE_THE_LAST_REPLY, None, STALE),
-    (71, BEFORE_THE_LAST_REPLY, None, GARBLED),
-    (70, LIKE_72, None, OF_REPLY_1),
-    (70, LIKE_10, None, OF_PREPARE_2),
-    (70, Blow::OfOtherFile, None, STALE),
+const TWOS: [Row; 12] = [
+    (&[12, 13, 70, 71], A5, GARBLED),
+    (&[12, 70], ZEROS, BLANK),
+    (&[13, 71], ZEROS, GARBLED),
+    (&[13, 71], Blow::From(4095), GARBLED),
+    (&[12], BEFORE_THE_LAST_APPEND, BLANK),
+    (&[13], BEFORE_THE_LAST_APPEND, GARBLED),
+    (&[70], BEFORE_THE_LAST_REPLY, STALE),
+    (&[71], BEFORE_THE_LAST_REPLY, GARBLED),
+    (&[12, 70], LIKE_10, OF_PREPARE_2),
+    (&[12, 70], LIKE_72, OF_REPLY_1),
+    (&[12], LIKE_70, GARBLED),
+    (&[70], Blow::OfOtherFile, STALE),
 ];
 
 // Each unit fills both sectors of its place; the reply stands over an earlier one of one sector.

@@ -22,14 +22,16 @@ fn probed(rt: &impl Abort, alloc: Global, disk: &mut MemoryDisk) -> Result<Layou
 enum Made {
     Zeros,
     Noise,
-    Copy(u8, &'static [(usize, u8)]),
+    Copied(u8, &'static [(usize, u8)]),
 }
+
+use Made::{Copied, Noise, Zeros};
 
 fn sector_of(made: &Made) -> [u8; SECTOR] {
     match made {
         Made::Zeros => [0; SECTOR],
         Made::Noise => [0xa5; SECTOR],
-        Made::Copy(number, changes) => copy(*number, changes),
+        Made::Copied(number, changes) => copy(*number, changes),
     }
 }
 
@@ -67,70 +69,45 @@ const LATER_BOOT: &[(usize, u8)] = &[(152, 7)];
 const LAST_BYTE: &[(usize, u8)] = &[(4095, 1)];
 
 const REFUSALS: [([Made; 4], OpenError); 12] = [
-    ([Made::Zeros; 4], OpenError::NotFormatted),
+    ([Zeros; 4], OpenError::NotFormatted),
     (
-        [Made::Noise; 4],
+        [Noise; 4],
         OpenError::NoQuorum {
             classes: [Class::Garbled; 4],
         },
     ),
     (
-        [Made::Zeros, Made::Zeros, Made::Copy(2, &[]), Made::Zeros],
+        [Zeros, Zeros, Copied(2, &[]), Zeros],
         OpenError::NoQuorum {
             classes: [Class::Blank, Class::Blank, Class::Stale, Class::Blank],
         },
     ),
     (
-        [
-            Made::Copy(1, &[]),
-            Made::Copy(1, &[]),
-            Made::Copy(1, &[]),
-            Made::Noise,
-        ],
+        [Copied(1, &[]), Copied(1, &[]), Copied(1, &[]), Noise],
         OpenError::NoQuorum {
             classes: [ELSEWHERE_1, Class::Stale, ELSEWHERE_1, Class::Garbled],
         },
     ),
     (
-        [
-            Made::Copy(0, NINTH),
-            Made::Noise,
-            Made::Zeros,
-            Made::Copy(3, NINTH),
-        ],
+        [Copied(0, NINTH), Noise, Zeros, Copied(3, NINTH)],
         OpenError::Version { found: 9 },
     ),
     (
-        [
-            Made::Noise,
-            Made::Copy(1, NO_SLOTS),
-            Made::Copy(2, NO_SLOTS),
-            Made::Zeros,
-        ],
+        [Noise, Copied(1, NO_SLOTS), Copied(2, NO_SLOTS), Zeros],
         OpenError::BadField {
             field: Field::Slots,
             value: 0,
         },
     ),
     (
-        [
-            Made::Copy(0, NO_CLUSTER),
-            Made::Copy(1, NO_CLUSTER),
-            Made::Noise,
-            Made::Noise,
-        ],
+        [Copied(0, NO_CLUSTER), Copied(1, NO_CLUSTER), Noise, Noise],
         OpenError::BadField {
             field: Field::Cluster,
             value: 0,
         },
     ),
     (
-        [
-            Made::Copy(0, LAST_BYTE),
-            Made::Noise,
-            Made::Noise,
-            Made::Copy(3, LAST_BYTE),
-        ],
+        [Copied(0, LAST_BYTE), Noise, Noise, Copied(3, LAST_BYTE)],
         OpenError::BadField {
             field: Field::Zero,
             value: 4095,
@@ -138,30 +115,20 @@ const REFUSALS: [([Made; 4], OpenError); 12] = [
     ),
     // One of version 2 is refused by its version, sound or not.
     (
-        [
-            Made::Copy(0, SECOND),
-            Made::Noise,
-            Made::Zeros,
-            Made::Copy(3, SECOND),
-        ],
+        [Copied(0, SECOND), Noise, Zeros, Copied(3, SECOND)],
         OpenError::Version { found: 2 },
     ),
     (
-        [
-            Made::Copy(0, BROKEN),
-            Made::Copy(1, BROKEN),
-            Made::Noise,
-            Made::Noise,
-        ],
+        [Copied(0, BROKEN), Copied(1, BROKEN), Noise, Noise],
         OpenError::Version { found: 2 },
     ),
     // Of two contents of one sequence that of the later boot is chosen, whatever its version.
     (
         [
-            Made::Copy(0, &[]),
-            Made::Copy(1, &[]),
-            Made::Copy(2, LATER_BOOT),
-            Made::Copy(3, LATER_BOOT),
+            Copied(0, &[]),
+            Copied(1, &[]),
+            Copied(2, LATER_BOOT),
+            Copied(3, LATER_BOOT),
         ],
         OpenError::BadField {
             field: Field::Boot,
@@ -170,10 +137,10 @@ const REFUSALS: [([Made; 4], OpenError); 12] = [
     ),
     (
         [
-            Made::Copy(0, &[]),
-            Made::Copy(1, &[]),
-            Made::Copy(2, STRANGE),
-            Made::Copy(3, STRANGE),
+            Copied(0, &[]),
+            Copied(1, &[]),
+            Copied(2, STRANGE),
+            Copied(3, STRANGE),
         ],
         OpenError::Version { found: 9 },
     ),
@@ -190,10 +157,10 @@ const LATER: &[(usize, u8)] = &[(72, 2)];
 
 // Two copies of a later sequence beside two that can't be used.
 const TWO_LATER: [Made; 4] = [
-    Made::Copy(0, LATER),
-    Made::Copy(1, LATER),
-    Made::Copy(2, NO_SLOTS),
-    Made::Copy(3, NO_SLOTS),
+    Copied(0, LATER),
+    Copied(1, LATER),
+    Copied(2, NO_SLOTS),
+    Copied(3, NO_SLOTS),
 ];
 
 // A look for the superblock ends so.

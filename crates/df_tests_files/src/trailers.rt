@@ -9,8 +9,16 @@ use std::test::Fail;
 const NO_ROOT: Part = Count(0);
 
 const NO_SESSIONS: Part = Count(0);
+
 // The bits of the 64 blocks of layout small, none of them set.
 const NO_BITS: Part = Bytes(8, 0);
+
+// Those of the first eight blocks, of which the second's alone is set; those of all others; and the checksum of a referenced block.
+const BLOCK_2: Part = Bytes(1, 2);
+
+const REST: Part = Bytes(7, 0);
+
+const SUM: Part = Bytes(16, 9);
 
 const SMALL: Forged = Forged {
     layout: "small",
@@ -32,22 +40,31 @@ const TWELVE: Forged = Forged {
 };
 
 // A checkpoint of two ops, of which none, one or both wait for their replies.
-const TWO_OPS: Forged = Forged { op: 2, ..SMALL };
+const OPS: Forged = Forged { op: 2, ..SMALL };
 
-const ONE_WAITS: Forged = Forged {
-    waiting: 1,
-    ..TWO_OPS
-};
+const ONE_WAITS: Forged = Forged { waiting: 1, ..OPS };
 
-const BOTH_WAIT: Forged = Forged {
-    waiting: 2,
-    ..TWO_OPS
-};
+const BOTH_WAIT: Forged = Forged { waiting: 2, ..OPS };
+
+const ONE: Part = Count(1);
+
+const TWO: Part = Count(2);
 
 // Two sessions of different clients and ops.
-const SESSIONS: &[Part] = &[NO_ROOT, Count(2), FIRST, Session(8, 1, 2), NO_BITS];
+const SESSIONS: &[Part] = &[NO_ROOT, TWO, FIRST, SECOND, NO_BITS];
 
 const FIRST: Part = Session(7, 1, 1);
+
+const SECOND: Part = Session(8, 1, 2);
+
+// The first client's with the other's op, with an op above the checkpoint's, with no request, and with one above the greatest.
+const LATE: Part = Session(7, 1, 2);
+
+const AHEAD: Part = Session(7, 1, 3);
+
+const UNASKED: Part = Session(7, 0, 1);
+
+const BEYOND: Part = Session(7, 4_611_686_018_427_387_905, 1);
 
 // The file, the text of its trailer, and what a run over it prints.
 type Row = (Forged, &'static [Part], &'static str);
@@ -92,14 +109,10 @@ const ROOTS_AND_ENDS: [Row; 9] = [
     ),
     (
         SMALL,
-        &[NO_ROOT, NO_SESSIONS, Bytes(1, 2), Bytes(7, 0)],
+        &[NO_ROOT, NO_SESSIONS, BLOCK_2, REST],
         "refused BadField TrailerEnd 16\n",
     ),
-    (
-        SMALL,
-        &[NO_ROOT, NO_SESSIONS, Bytes(1, 2), Bytes(7, 0), Bytes(16, 9)],
-        OPENS,
-    ),
+    (SMALL, &[NO_ROOT, NO_SESSIONS, BLOCK_2, REST, SUM], OPENS),
     (
         TWELVE,
         &[NO_ROOT, NO_SESSIONS, Bytes(1, 0), Bytes(1, 16)],
@@ -107,65 +120,36 @@ const ROOTS_AND_ENDS: [Row; 9] = [
     ),
     (
         TWELVE,
-        &[NO_ROOT, NO_SESSIONS, Bytes(1, 0), Bytes(1, 8), Bytes(16, 9)],
+        &[NO_ROOT, NO_SESSIONS, Bytes(1, 0), Bytes(1, 8), SUM],
         OPENS,
     ),
 ];
 
+const SESSION_0: &str = "refused BadField TrailerSessions 0\n";
+
+const SESSION_1: &str = "refused BadField TrailerSessions 1\n";
+
+const FIVE_SESSIONS: &str = "refused BadField TrailerSessions 5\n";
+
 const FORGED_SESSIONS: [Row; 10] = [
     // The trailer is sound; the replies that it speaks of were never stored.
-    (TWO_OPS, SESSIONS, "refused Damaged ClientReplies 0 Blank\n"),
-    (
-        SMALL,
-        &[NO_ROOT, Count(5)],
-        "refused BadField TrailerSessions 5\n",
-    ),
-    (
-        TWO_OPS,
-        &[NO_ROOT, Count(2), FIRST, Session(7, 1, 2), NO_BITS],
-        "refused BadField TrailerSessions 1\n",
-    ),
-    (
-        TWO_OPS,
-        &[
-            NO_ROOT,
-            Count(2),
-            Session(7, 1, 2),
-            Session(8, 1, 2),
-            NO_BITS,
-        ],
-        "refused BadField TrailerSessions 1\n",
-    ),
-    (
-        TWO_OPS,
-        &[NO_ROOT, Count(1), Session(7, 1, 3), NO_BITS],
-        "refused BadField TrailerSessions 0\n",
-    ),
-    (
-        TWO_OPS,
-        &[NO_ROOT, Count(1), Session(7, 0, 1), NO_BITS],
-        "refused BadField TrailerSessions 0\n",
-    ),
-    (
-        TWO_OPS,
-        &[
-            NO_ROOT,
-            Count(1),
-            Session(7, 4_611_686_018_427_387_905, 1),
-            NO_BITS,
-        ],
-        "refused BadField TrailerSessions 0\n",
-    ),
+    (OPS, SESSIONS, "refused Damaged ClientReplies 0 Blank\n"),
+    (SMALL, &[NO_ROOT, Count(5)], FIVE_SESSIONS),
+    (OPS, &[NO_ROOT, TWO, FIRST, LATE, NO_BITS], SESSION_1),
+    (OPS, &[NO_ROOT, TWO, LATE, SECOND, NO_BITS], SESSION_1),
+    (OPS, &[NO_ROOT, ONE, AHEAD, NO_BITS], SESSION_0),
+    (OPS, &[NO_ROOT, ONE, UNASKED, NO_BITS], SESSION_0),
+    (OPS, &[NO_ROOT, ONE, BEYOND, NO_BITS], SESSION_0),
     // Both ops wait for their replies, and each is a session's last request; or the first of them, or both, are no session's.
     (BOTH_WAIT, SESSIONS, OPENS),
     (
         BOTH_WAIT,
-        &[NO_ROOT, Count(1), Session(8, 1, 2), NO_BITS],
+        &[NO_ROOT, ONE, SECOND, NO_BITS],
         "refused BadField Pending 1\n",
     ),
     (
         ONE_WAITS,
-        &[NO_ROOT, Count(1), FIRST, NO_BITS],
+        &[NO_ROOT, ONE, FIRST, NO_BITS],
         "refused BadField Pending 2\n",
     ),
 ];
@@ -188,7 +172,7 @@ const CHAINS: [Row; 4] = [
     (ANOTHER_INDEX, NOTHING, "refused BadField TrailerChain 1\n"),
     (
         SMALL,
-        &[NO_ROOT, NO_SESSIONS, Bytes(1, 1), Bytes(7, 0), Bytes(16, 9)],
+        &[NO_ROOT, NO_SESSIONS, Bytes(1, 1), REST, SUM],
         "refused BadField TrailerChain 1\n",
     ),
     (TOO_LONG, NOTHING, "refused BadField TrailerSize 2193\n"),

@@ -58,9 +58,9 @@ impl CapturedBlocks for Counted {
 pub(crate) fn layout_of(blocks: u32) -> Layout
     requires some { 8 ≤ blocks }
     requires most { blocks ≤ 16384 }
-    ensures blocks { result.blocks ≡ blocks }
     ensures clients { result.clients ≡ 1 }
     ensures block_size { result.block_size ≡ 4096 }
+    ensures blocks { result.blocks ≡ blocks }
 {
     Layout {
         slots: 16,

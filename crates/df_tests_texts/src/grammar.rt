@@ -15,6 +15,13 @@ fn append(client: u128, request: u64, length: u64) -> Line {
 
 const MOST: u64 = u64::MAX;
 
+// Lines with the greatest number.
+const LAST_PREPARE: Line = Line::Prepare { op: MOST };
+
+const LAST_RELEASE: Line = Line::Release { address: MOST };
+
+const LAST_READ: Line = Line::Read { address: MOST };
+
 #[test]
 fn lines_on_messages_are_read_with_their_bodies(rt: HostRuntime) {
     one_meaning();
@@ -38,11 +45,7 @@ fn lines_on_messages_are_read_with_their_bodies(rt: HostRuntime) {
             b"\x01\x02",
         ),
         (b"prepare 2", Line::Prepare { op: 2 }, b""),
-        (
-            b"prepare 18446744073709551615",
-            Line::Prepare { op: MOST },
-            b"",
-        ),
+        (b"prepare 18446744073709551615", LAST_PREPARE, b""),
         (b"lookup 5", Line::Lookup { client: 5 }, b""),
         (
             b"lookup 340282366920938463463374607431768211455",
@@ -64,11 +67,7 @@ fn lines_on_blocks_and_checkpoints_are_read_with_their_bodies(rt: HostRuntime) {
         (b"block 0 -", block(0, 0), b""),
         (b"block 255 0aF0", block(255, 2), b"\x0a\xf0"),
         (b"release 1", Line::Release { address: 1 }, b""),
-        (
-            b"release 18446744073709551615",
-            Line::Release { address: MOST },
-            b"",
-        ),
+        (b"release 18446744073709551615", LAST_RELEASE, b""),
         (b"checkpoint -", Line::Checkpoint { length: 0 }, b""),
         (
             b"checkpoint 00fF10",
@@ -77,11 +76,7 @@ fn lines_on_blocks_and_checkpoints_are_read_with_their_bodies(rt: HostRuntime) {
         ),
         (b"step", Line::Step, b""),
         (b"read 0", Line::Read { address: 0 }, b""),
-        (
-            b"read 18446744073709551615",
-            Line::Read { address: MOST },
-            b"",
-        ),
+        (b"read 18446744073709551615", LAST_READ, b""),
         (b"scrub", Line::Scrub, b""),
         (b"recent", Line::Recent, b""),
     ];

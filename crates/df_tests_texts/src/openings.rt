@@ -76,6 +76,7 @@ fn a_file_that_is_not_opened_has_its_line(rt: HostRuntime) {
             differs,
             "refused LayoutDiffers 1024 1048576 64 524288 16384 32 8192 4 16384 64\n",
         ),
+        (OpenError::BootSpent, "refused BootSpent\n"),
     ];
     expect_refused(&rt, rt.alloc(), &rows);
 }

@@ -1,7 +1,10 @@
 // What each place of layout small shows with given bytes: the unit that is valid there, or the class of what is.
 ghost use Rattle.std.specs.Prelude.{◌≡◌};
 
-use crate::examples::{BLOCK, FIRST_TRAILER, PREPARE, REPLY, RESERVED, TRAILER, changed, spelled};
+use crate::examples::{
+    ALONE, BLOCK, BOOTED, Example, FIRST_TRAILER, PAIR, PREPARE, Put, REPLY, RESERVED, TRAILER,
+    UNBOOTED, made, spelled,
+};
 use df_format::{Header, decode_header, decode_unit};
 use df_layout::{Class, Layout, Place, Zone};
 
@@ -26,12 +29,7 @@ fn place(zone: Zone, index: u64) -> Place
 
 // What a place of layout small shows whose bytes begin with these.
 #[tactic(auto, unfolding(df_layout::specs::Spans::place_sectors))]
-pub(crate) fn shown(
-    cluster: u128,
-    zone: Zone,
-    index: u64,
-    front: &[u8; 256],
-) -> Result<Header, Class> {
+fn shown(cluster: u128, zone: Zone, index: u64, front: &[u8; 256]) -> Result<Header, Class> {
     let small = Layout::small();
     match zone {
         Zone::Superblock => Err(Class::Garbled),
@@ -56,20 +54,6 @@ pub(crate) fn shown(
     }
 }
 
-// What is shown: the header that is there, or its class.
-#[derive(Clone, Copy)]
-enum Shows {
-    Header,
-    Other(Zone, u64),
-    Garbled,
-}
-
-// A place, what stands there, one byte of it that is changed before its checksum is taken, and what is shown then.
-type Row = (Zone, u64, [u8; 124], (usize, u8), Shows);
-
-// The byte that each header has at this offset.
-const AS_IT_IS: (usize, u8) = (122, 1);
-
 const RING: Zone = Zone::WalHeaders;
 
 const PREPARES: Zone = Zone::WalPrepares;
@@ -78,62 +62,103 @@ const REPLIES: Zone = Zone::ClientReplies;
 
 const GRID: Zone = Zone::Grid;
 
-const ROWS: [Row; 28] = [
-    (RING, 3, RESERVED, AS_IT_IS, Shows::Header),
-    (RING, 1, PREPARE, AS_IT_IS, Shows::Header),
-    (PREPARES, 1, PREPARE, AS_IT_IS, Shows::Header),
-    (REPLIES, 2, REPLY, AS_IT_IS, Shows::Header),
-    (GRID, 9, BLOCK, AS_IT_IS, Shows::Header),
-    (GRID, 8, FIRST_TRAILER, AS_IT_IS, Shows::Header),
-    (GRID, 9, TRAILER, AS_IT_IS, Shows::Header),
-    (RING, 1, PREPARE, (113, 0x20), Shows::Header),
-    // units of other places
-    (RING, 4, RESERVED, AS_IT_IS, Shows::Other(RING, 3)),
-    (RING, 2, PREPARE, AS_IT_IS, Shows::Other(RING, 1)),
-    (PREPARES, 2, PREPARE, AS_IT_IS, Shows::Other(PREPARES, 1)),
-    (REPLIES, 1, PREPARE, AS_IT_IS, Shows::Other(PREPARES, 1)),
-    (GRID, 1, PREPARE, AS_IT_IS, Shows::Other(PREPARES, 1)),
-    (PREPARES, 2, REPLY, AS_IT_IS, Shows::Other(REPLIES, 2)),
-    (PREPARES, 9, BLOCK, AS_IT_IS, Shows::Other(GRID, 9)),
-    (GRID, 8, BLOCK, AS_IT_IS, Shows::Other(GRID, 9)),
-    // a prepare's slot that isn't its op's, and slots, places and addresses that the layout lacks
-    (PREPARES, 1, PREPARE, (116, 2), Shows::Garbled),
-    (RING, 1, PREPARE, (116, 2), Shows::Garbled),
-    (RING, 3, RESERVED, (116, 32), Shows::Garbled),
-    (REPLIES, 3, REPLY, (116, 4), Shows::Garbled),
-    (GRID, 64, BLOCK, (80, 65), Shows::Garbled),
-    // a body that isn't there, and sizes above the greatest of the place
-    (PREPARES, 1, PREPARE, (112, 1), Shows::Garbled),
-    (PREPARES, 1, BLOCK, (113, 0x21), Shows::Garbled),
-    (RING, 1, PREPARE, (113, 0x21), Shows::Garbled),
-    (GRID, 9, BLOCK, (113, 0x41), Shows::Garbled),
-    // units as they are, of a kind that doesn't stand in the ring
-    (PREPARES, 3, RESERVED, AS_IT_IS, Shows::Garbled),
-    (RING, 2, REPLY, AS_IT_IS, Shows::Garbled),
-    (RING, 9, BLOCK, AS_IT_IS, Shows::Garbled),
+// A unit, bytes that are put over it, and a place with it.
+type Row = (Example, &'static [Put], Zone, u64);
+
+// The greatest size of a unit in a slot.
+const LARGEST: &'static [Put] = &[(113, 0x20)];
+
+// Units that are valid at their place, as they are and with the bytes put over them.
+const VALID: [Row; 10] = [
+    (RESERVED, UNBOOTED, RING, 3),
+    (PREPARE, ALONE, RING, 1),
+    (PREPARE, PAIR, RING, 1),
+    (PREPARE, LARGEST, RING, 1),
+    (PREPARE, ALONE, PREPARES, 1),
+    (PREPARE, PAIR, PREPARES, 1),
+    (REPLY, BOOTED, REPLIES, 2),
+    (BLOCK, BOOTED, GRID, 9),
+    (FIRST_TRAILER, BOOTED, GRID, 8),
+    (TRAILER, BOOTED, GRID, 9),
 ];
 
-// What a row's place is to show with its bytes.
-fn wanted(bytes: &[u8; 256], shows: Shows) -> Result<Header, Class> {
-    match shows {
-        Shows::Header => decode_header(bytes).ok_or(Class::Garbled),
-        Shows::Other(zone, index) => Err(Class::Elsewhere(Place { zone, index })),
-        Shows::Garbled => Err(Class::Garbled),
+fn is_valid(zone: Zone, index: u64, bytes: &[u8; 256]) -> bool {
+    match decode_header(bytes) {
+        Some(header) => shown(7, zone, index, bytes) == Ok(header),
+        None => false,
     }
 }
 
 #[test]
-fn tells_what_each_place_shows(rt: HostRuntime) {
-    for (i, (zone, index, front, (at, byte), shows)) in ROWS.iter().enumerate() {
-        let bytes = changed(front, *at, *byte);
-        let is = shown(7, *zone, *index, &bytes);
-        assert!(rt; is == wanted(&bytes, *shows), "row {i}");
-        assert!(rt; is.is_ok() == (i < 8), "row {i}");
+fn a_unit_is_valid_at_its_own_place(rt: HostRuntime) {
+    for (i, (unit, puts, zone, index)) in VALID.iter().enumerate() {
+        assert!(rt; is_valid(*zone, *index, &spelled(unit)), "row {i}");
+        assert!(rt; is_valid(*zone, *index, &made(unit, puts)), "row {i}, put");
     }
 }
+
+// A unit, bytes that are put over it, a place with it, and its own place.
+type Strayed = (Example, &'static [Put], (Zone, u64), (Zone, u64));
+
+// The places tell where the units belong, as they are and with the bytes put over them.
+const STRAYED: [Strayed; 9] = [
+    (RESERVED, UNBOOTED, (RING, 4), (RING, 3)),
+    (PREPARE, ALONE, (RING, 2), (RING, 1)),
+    (PREPARE, ALONE, (PREPARES, 2), (PREPARES, 1)),
+    (PREPARE, ALONE, (REPLIES, 1), (PREPARES, 1)),
+    (PREPARE, ALONE, (GRID, 1), (PREPARES, 1)),
+    (REPLY, BOOTED, (PREPARES, 2), (REPLIES, 2)),
+    (REPLY, BOOTED, (REPLIES, 1), (REPLIES, 2)),
+    (BLOCK, BOOTED, (PREPARES, 9), (GRID, 9)),
+    (BLOCK, BOOTED, (GRID, 8), (GRID, 9)),
+];
+
+#[test]
+fn a_unit_at_another_place_is_elsewhere(rt: HostRuntime) {
+    for (i, (unit, puts, (zone, index), (own, at))) in STRAYED.iter().enumerate() {
+        let class = Class::Elsewhere(place(*own, *at));
+        assert!(rt;
+            shown(7, *zone, *index, &spelled(unit)) == Err(class),
+            "row {i}"
+        );
+        assert!(rt;
+            shown(7, *zone, *index, &made(unit, puts)) == Err(class),
+            "row {i}, put"
+        );
+    }
+}
+
+// Units with a slot that isn't their op's, a slot, place or address that the layout lacks, a body that isn't there, a size above
+// the greatest of the place, a boot or a group that breaks a rule of version 2, or of a kind that doesn't stand in the ring.
+const GARBLED: [Row; 18] = [
+    (RESERVED, &[(116, 32)], RING, 3),
+    (RESERVED, &[], PREPARES, 3),
+    (RESERVED, BOOTED, RING, 3),
+    (PREPARE, &[(116, 2)], PREPARES, 1),
+    (PREPARE, &[(116, 2)], RING, 1),
+    (PREPARE, &[(112, 1)], PREPARES, 1),
+    (PREPARE, &[(113, 0x21)], RING, 1),
+    (PREPARE, BOOTED, PREPARES, 1),
+    (REPLY, &[(116, 4)], REPLIES, 3),
+    (REPLY, &[], RING, 2),
+    (REPLY, UNBOOTED, REPLIES, 2),
+    (REPLY, PAIR, REPLIES, 2),
+    (BLOCK, &[(80, 65)], GRID, 64),
+    (BLOCK, &[(113, 0x21)], PREPARES, 1),
+    (BLOCK, &[(113, 0x41)], GRID, 9),
+    (BLOCK, &[], RING, 9),
+    (BLOCK, UNBOOTED, GRID, 9),
+    (TRAILER, UNBOOTED, GRID, 9),
+];
 
 #[test]
 fn tells_blank_and_garbled_places(rt: HostRuntime) {
+    for (i, (unit, puts, zone, index)) in GARBLED.iter().enumerate() {
+        assert!(rt;
+            shown(7, *zone, *index, &made(unit, puts)) == Err(Class::Garbled),
+            "row {i}"
+        );
+    }
     let mut one = [0; 256];
     one[255] = 1;
     for zone in [RING, PREPARES, REPLIES, GRID] {

@@ -1,21 +1,17 @@
 // The headers of each kind against values from outside, and each rule of each kind broken once.
 ghost use Rattle.std.specs.Prelude.{◌≡◌, length};
 
-use crate::examples::{BLOCK, FIRST_TRAILER, PREPARE, REPLY, RESERVED, TRAILER, changed, spelled};
-use crate::room_examples::{block, prepare, reply, trailer};
-use df_base::{Check, check};
+use crate::examples::{
+    BLOCK, Example, FIRST_TRAILER, PREPARE, REPLY, RESERVED, TRAILER, checksum_of, made, spelled,
+};
+use crate::room_examples::header_of;
+use df_base::check;
 use df_format::{
     Header, Kind, decode_header, encode_header, headers_have_one_spelling, seal_header,
 };
 
-fn checksum_of(front: &[u8; 124]) -> Check {
-    let mut checksum = [0; 16];
-    checksum.copy_from_slice(&front[..16]);
-    checksum
-}
-
 // The header without a body as its maker gives it, and what is sealed into it.
-fn whole(header: Header, front: &[u8; 124]) -> Header {
+fn whole(header: Header, front: &Example) -> Header {
     Header {
         checksum: checksum_of(front),
         checksum_body: check(&[]),
@@ -43,19 +39,19 @@ fn reads_the_fields_of_each_kind(rt: HostRuntime) {
     };
     let answer = Header {
         parent: checksum_of(&PREPARE),
-        ..reply(&[])
+        ..header_of(Kind::Reply, &[])
     };
     let last = Header {
         parent: checksum_of(&FIRST_TRAILER),
         request: 8,
         mark: 1,
-        ..trailer(&[])
+        ..header_of(Kind::Trailer, &[])
     };
     let cases = [
         (RESERVED, reserved),
-        (PREPARE, prepare(&[])),
+        (PREPARE, header_of(Kind::Prepare, &[])),
         (REPLY, answer),
-        (BLOCK, block(&[])),
+        (BLOCK, header_of(Kind::Block, &[])),
         (TRAILER, last),
     ];
     for (i, (front, header)) in cases.iter().enumerate() {
@@ -66,132 +62,94 @@ fn reads_the_fields_of_each_kind(rt: HostRuntime) {
     }
 }
 
-// Changes of a byte that are judged alike: the offset, the byte, and whether it is a header still.
-type Rule = (usize, u8, bool);
+// Bytes, and the offsets at which each of them is put over an example, one at a time. 64 as the last byte of a number is 2^62.
+type Puts = &'static [(u8, &'static [usize])];
 
-const OF_ALL: &'static [Rule] = &[
-    (32, 0, false),
-    (113, 0, false),
-    (120, 0, false),
-    (120, 6, false),
-    (122, 0, false),
-    (122, 3, false),
-    (123, 1, false),
-    (124, 1, false),
-    (140, 1, false),
-    (148, 1, false),
-    (132, 1, false),
-    (255, 1, false),
-    (255, 0, true),
+// What leaves no header of any kind.
+const OF_NO_KIND: Puts = &[
+    (0, &[32, 113, 120, 122]),
+    (1, &[123, 124, 132, 140, 148, 255]),
+    (3, &[122]),
+    (6, &[120]),
 ];
 
-const OF_RESERVED: &'static [Rule] = &[
-    (16, 0, false),
-    (48, 1, false),
-    (64, 1, false),
-    (80, 1, false),
-    (88, 1, false),
-    (96, 1, false),
-    (104, 1, false),
-    (112, 1, false),
-    (121, 1, false),
-    (116, 9, true),
-    (122, 2, true),
+// An example, what leaves no header, and what leaves one.
+const RULES: [(Example, Puts, Puts); 6] = [
+    (
+        RESERVED,
+        &[(0, &[16]), (1, &[48, 64, 80, 88, 96, 104, 112, 121])],
+        &[(2, &[122]), (9, &[116])],
+    ),
+    (
+        PREPARE,
+        &[
+            (0, &[64, 80, 88, 104]),
+            (1, &[48, 96, 120, 121]),
+            (2, &[122]),
+            (64, &[87, 95, 111]),
+        ],
+        &[(1, &[112]), (2, &[80]), (9, &[116]), (63, &[87])],
+    ),
+    (
+        REPLY,
+        &[
+            (0, &[64, 80, 88, 96, 104]),
+            (1, &[121]),
+            (2, &[80, 122]),
+            (64, &[95, 103, 111]),
+        ],
+        &[(0, &[16]), (1, &[112]), (9, &[48, 116]), (63, &[103])],
+    ),
+    (
+        BLOCK,
+        &[
+            (0, &[80, 121]),
+            (1, &[48, 64, 88, 96, 104, 116]),
+            (2, &[122]),
+        ],
+        &[(1, &[112]), (255, &[87, 121])],
+    ),
+    (FIRST_TRAILER, &[(1, &[48, 88, 96])], &[]),
+    (
+        TRAILER,
+        &[
+            (0, &[80, 88, 96]),
+            (1, &[64, 104, 116, 121]),
+            (2, &[122]),
+            (64, &[111]),
+        ],
+        &[(9, &[48])],
+    ),
 ];
 
-const OF_PREPARES: &'static [Rule] = &[
-    (48, 1, false),
-    (96, 1, false),
-    (121, 1, false),
-    (64, 0, false),
-    (80, 0, false),
-    (88, 0, false),
-    (104, 0, false),
-    (80, 2, true),
-    (87, 0x3f, true),
-    (112, 1, true),
-    (116, 9, true),
-    (87, 0x40, false),
-    (95, 0x40, false),
-    (111, 0x40, false),
-    (120, 1, false),
-    (122, 2, false),
-];
-
-const OF_REPLIES: &'static [Rule] = &[
-    (121, 1, false),
-    (64, 0, false),
-    (80, 0, false),
-    (88, 0, false),
-    (96, 0, false),
-    (104, 0, false),
-    (16, 0, true),
-    (48, 9, true),
-    (103, 0x3f, true),
-    (112, 1, true),
-    (116, 9, true),
-    (80, 2, false),
-    (95, 0x40, false),
-    (103, 0x40, false),
-    (111, 0x40, false),
-    (122, 2, false),
-];
-
-const OF_BLOCKS: &'static [Rule] = &[
-    (48, 1, false),
-    (64, 1, false),
-    (88, 1, false),
-    (96, 1, false),
-    (104, 1, false),
-    (116, 1, false),
-    (80, 0, false),
-    (121, 0, false),
-    (87, 0xff, true),
-    (112, 1, true),
-    (121, 255, true),
-    (122, 2, false),
-];
-
-const OF_FIRST_TRAILERS: &'static [Rule] = &[(48, 1, false), (88, 1, false), (96, 1, false)];
-
-const OF_TRAILERS: &'static [Rule] = &[
-    (64, 1, false),
-    (116, 1, false),
-    (121, 1, false),
-    (80, 0, false),
-    (88, 0, false),
-    (96, 0, false),
-    (48, 9, true),
-    (104, 1, false),
-    (111, 0x40, false),
-    (122, 2, false),
-];
-
-// The first offset at which a byte is judged otherwise.
-fn first_other(front: &[u8; 124], rules: &[Rule]) -> Option<usize> {
-    for (at, byte, is) in rules {
-        if decode_header(&changed(front, *at, *byte)).is_some() != *is {
+// The first of these offsets at which a byte is judged otherwise.
+fn first_at(front: &Example, byte: u8, offsets: &[usize], is: bool) -> Option<usize> {
+    for at in offsets {
+        if decode_header(&made(front, &[(*at, byte)])).is_some() != is {
             return Some(*at);
         }
     }
     None
 }
 
-const TABLES: [([u8; 124], &'static [Rule]); 6] = [
-    (RESERVED, OF_RESERVED),
-    (PREPARE, OF_PREPARES),
-    (REPLY, OF_REPLIES),
-    (BLOCK, OF_BLOCKS),
-    (FIRST_TRAILER, OF_FIRST_TRAILERS),
-    (TRAILER, OF_TRAILERS),
-];
+// The first byte and offset that are judged otherwise.
+fn first_other(front: &Example, puts: Puts, is: bool) -> Option<(u8, usize)> {
+    for (byte, offsets) in puts {
+        if let Some(at) = first_at(front, *byte, offsets, is) {
+            return Some((*byte, at));
+        }
+    }
+    None
+}
 
 #[test]
 fn each_kind_is_written_as_it_was_read_and_has_its_rules(rt: HostRuntime) {
-    for (front, rules) in &TABLES {
+    for (front, broken, kept) in &RULES {
         let bytes = spelled(front);
         assert!(rt; rewritten(&bytes) == Some(bytes));
-        assert!(rt; first_other(front, OF_ALL) == None);
-        assert!(rt; first_other(front, rules) == None);
+        assert!(rt; first_other(front, OF_NO_KIND, false) == None);
+        assert!(rt; first_other(front, broken, false) == None);
+        assert!(rt; first_other(front, kept, true) == None);
+        assert!(rt; first_other(front, &[(0, &[255])], true) == None);
     }
 }

@@ -1,7 +1,10 @@
 // What rooms of layout small answer that is asked for a unit: the one wanted, or that what is there is stale.
 ghost use Rattle.std.specs.Prelude.{◌≡◌, IfOk};
 
-use crate::examples::{BLOCK, PREPARE, REPLY, RESERVED, TRAILER, spelled};
+use crate::examples::{
+    ALONE, BLOCK, BOOTED, Example, PAIR, PREPARE, REPLY, RESERVED, TRAILER, checksum_of, made,
+    spelled,
+};
 use crate::room_examples::identity_at;
 use df_base::OutOfMemory;
 use df_buffers::{Block, HeaderSector, Prepare, Raw, Reply, RoomKind, Trailer, UnitKind, Wanted};
@@ -10,7 +13,7 @@ use df_layout::{Class, Layout, Place, Zone};
 use std::alloc::Global;
 
 // The header of the unit that is there, or the class of what is; None where memory was refused.
-pub(crate) type Shown = Option<Result<Header, Class>>;
+type Shown = Option<Result<Header, Class>>;
 
 // Puts bytes at the front and nines behind them.
 fn begin_with(bytes: &mut [u8], front: &[u8; 256]) {
@@ -33,12 +36,7 @@ fn room_with<K: RoomKind>(
 }
 
 // What a room of the kind answers at a place of its zone.
-pub(crate) fn proved<K: UnitKind>(
-    alloc: Global,
-    index: u64,
-    wanted: Wanted,
-    front: &[u8; 256],
-) -> Shown {
+fn proved<K: UnitKind>(alloc: Global, index: u64, wanted: Wanted, front: &[u8; 256]) -> Shown {
     let layout = Layout::small();
     let room = room_with::<K>(alloc, &layout, front).ok()?;
     let identity = identity_at(layout, K::ZONE, index, wanted);
@@ -48,11 +46,11 @@ pub(crate) fn proved<K: UnitKind>(
     }
 }
 
-fn read(front: &[u8; 124]) -> Shown {
-    decode_header(&spelled(front)).map(|header| Ok(header))
+fn read(bytes: &[u8; 256]) -> Shown {
+    decode_header(bytes).map(|header| Ok(header))
 }
 
-pub(crate) const STALE: Shown = Some(Err(Class::Stale));
+const STALE: Shown = Some(Err(Class::Stale));
 
 #[test]
 fn wants_a_unit_of_its_kind(rt: HostRuntime) {
@@ -72,33 +70,58 @@ fn answer(client: u128, request: u64, op: u64) -> Wanted {
 
 #[test]
 fn wants_what_it_was_asked_for(rt: HostRuntime) {
-    let prepare = read(&PREPARE);
-    let mut checksum = [0; 16];
-    checksum.copy_from_slice(&PREPARE[..16]);
+    let prepare = spelled(&PREPARE);
     let of_prepares = [
-        (Wanted::Op(1), prepare),
+        (Wanted::Op(1), read(&prepare)),
         (Wanted::Op(33), STALE),
-        (Wanted::Checksum(checksum), prepare),
+        (Wanted::Checksum(checksum_of(&PREPARE)), read(&prepare)),
         (Wanted::Checksum([3; 16]), STALE),
         (answer(5, 1, 1), STALE),
     ];
     for (wanted, what) in &of_prepares {
-        assert!(rt; proved::<Prepare>(rt.alloc(), 1, *wanted, &spelled(&PREPARE)) == *what);
+        assert!(rt; proved::<Prepare>(rt.alloc(), 1, *wanted, &prepare) == *what);
     }
+    let reply = spelled(&REPLY);
     let of_replies = [
-        (answer(5, 1, 1), read(&REPLY)),
+        (answer(5, 1, 1), read(&reply)),
         (answer(6, 1, 1), STALE),
         (answer(5, 2, 1), STALE),
         (answer(5, 1, 2), STALE),
         (Wanted::Op(1), STALE),
     ];
     for (wanted, what) in &of_replies {
-        assert!(rt; proved::<Reply>(rt.alloc(), 2, *wanted, &spelled(&REPLY)) == *what);
+        assert!(rt; proved::<Reply>(rt.alloc(), 2, *wanted, &reply) == *what);
     }
 }
 
+// A unit of the same fields in another version, or in another group, is another unit: it has another checksum.
+#[test]
+fn a_unit_of_another_version_is_stale(rt: HostRuntime) {
+    let alone = made(&PREPARE, ALONE);
+    let pair = made(&PREPARE, PAIR);
+    let mut checksum = [0; 16];
+    checksum.copy_from_slice(&alone[..16]);
+    for (wanted, bytes, what) in [
+        (Wanted::Op(1), &alone, read(&alone)),
+        (Wanted::Op(33), &alone, STALE),
+        (Wanted::Checksum(checksum), &alone, read(&alone)),
+        (Wanted::Checksum(checksum), &pair, STALE),
+        (Wanted::Checksum(checksum), &spelled(&PREPARE), STALE),
+    ] {
+        assert!(rt; proved::<Prepare>(rt.alloc(), 1, wanted, bytes) == what);
+    }
+    let reply = made(&REPLY, BOOTED);
+    let block = made(&BLOCK, BOOTED);
+    let trailer = made(&TRAILER, BOOTED);
+    assert!(rt; proved::<Reply>(rt.alloc(), 2, answer(5, 1, 1), &reply) == read(&reply));
+    assert!(rt; proved::<Reply>(rt.alloc(), 2, Wanted::Checksum(checksum), &reply) == STALE);
+    assert!(rt; proved::<Block>(rt.alloc(), 9, Wanted::Any, &block) == read(&block));
+    assert!(rt; proved::<Trailer>(rt.alloc(), 9, Wanted::Any, &block) == STALE);
+    assert!(rt; proved::<Trailer>(rt.alloc(), 9, Wanted::Any, &trailer) == read(&trailer));
+}
+
 // What a header sector answers that begins with this header, for a place of the header ring.
-fn first_header(alloc: Global, index: u64, wanted: Wanted, front: &[u8; 124]) -> Shown {
+fn first_header(alloc: Global, index: u64, wanted: Wanted, front: &Example) -> Shown {
     let layout = Layout::small();
     let room = room_with::<HeaderSector>(alloc, &layout, &spelled(front)).ok()?;
     let identity = identity_at(layout, Zone::WalHeaders, index, wanted);
@@ -115,9 +138,9 @@ fn reads_headers_of_a_sector(rt: HostRuntime) {
         index: 3,
     };
     let cases = [
-        (3, Wanted::Any, RESERVED, read(&RESERVED)),
+        (3, Wanted::Any, RESERVED, read(&spelled(&RESERVED))),
         (4, Wanted::Any, RESERVED, Some(Err(Class::Elsewhere(place)))),
-        (1, Wanted::Op(1), PREPARE, read(&PREPARE)),
+        (1, Wanted::Op(1), PREPARE, read(&spelled(&PREPARE))),
         (1, Wanted::Op(33), PREPARE, STALE),
         (2, Wanted::Any, REPLY, Some(Err(Class::Garbled))),
     ];

@@ -1,13 +1,12 @@
 // Each public call on its happy path, at each kind.
-ghost use Rattle.std.specs.Prelude.{◌≡◌, ◌+◌, ◌≤◌, length, IsSome};
+ghost use Rattle.std.specs.Prelude.{◌≡◌, ◌+◌, ◌≤◌, length};
 ghost use Rattle.df_format.specs.Rules.{ObeysRules};
-ghost use Rattle.df_format.specs.Own.{own_place};
 ghost use Rattle.df_format.specs.Whole.{greatest_size};
 ghost use Rattle.df_format.specs.Making.{for_body};
 
-use crate::room_examples::{block, identity_at, prepare, reply, trailer};
+use crate::room_examples::{header_of, identity_at};
 use df_buffers::{Block, Prepare, Raw, Reply, Trailer, UnitKind, Wanted};
-use df_format::Header;
+use df_format::{Header, Kind, own_place};
 use df_layout::Layout;
 
 // Whether a sector holds the body behind a header, and zeros up to its end.
@@ -19,8 +18,7 @@ fn is_padded(sectors: &[u8], body: &[u8]) -> bool {
         && sectors[end..].iter().all(|b| *b == 0)
 }
 
-// Whether a unit that is made in a room has the header's fields and the body, and is valid at its place once its room
-// was loosened.
+// Whether a unit that is made in a room has the header's fields and the body, and is valid at this place once its room was loosened.
 fn is_made_at<K: UnitKind>(
     room: Raw<K>,
     layout: Layout,
@@ -31,9 +29,11 @@ fn is_made_at<K: UnitKind>(
     requires layout { room.layout ≡ layout }
     requires rules { ObeysRules (for_body header body.now) }
     requires kind { header.kind ≡ K.KIND }
-    requires own { IsSome (own_place layout K.ZONE header) }
     requires fits { 256 + length body.now ≤ greatest_size layout K.ZONE }
 {
+    let Some(_) = own_place(&layout, K::ZONE, &header) else {
+        return false;
+    };
     let unit = room.make(header, body);
     let made = *unit.header();
     let is_written = is_padded(unit.sectors(), body) && unit.body() == body;
@@ -56,11 +56,19 @@ fn makes_and_proves_units_of_each_kind(rt: HostRuntime) {
     let layout = Layout::small();
     let alloc = rt.alloc();
     let room = Raw::<Prepare>::reserve(alloc, &layout).expect(&rt, "memory of a prepare");
-    assert!(rt; is_made_at(room, layout, prepare(b"abc"), b"abc", 1));
+    assert!(rt; is_made_at(room, layout, header_of(Kind::Prepare, b"abc"), b"abc", 1));
     let room = Raw::<Reply>::reserve(alloc, &layout).expect(&rt, "memory of a reply");
-    assert!(rt; is_made_at(room, layout, reply(b""), b"", 2));
+    assert!(rt; is_made_at(room, layout, header_of(Kind::Reply, b""), b"", 2));
     let room = Raw::<Block>::reserve(alloc, &layout).expect(&rt, "memory of a block");
-    assert!(rt; is_made_at(room, layout, block(b"abcdef"), b"abcdef", 9));
+    assert!(rt;
+        is_made_at(
+            room,
+            layout,
+            header_of(Kind::Block, b"abcdef"),
+            b"abcdef",
+            9
+        )
+    );
     let room = Raw::<Trailer>::reserve(alloc, &layout).expect(&rt, "memory of a trailer block");
-    assert!(rt; is_made_at(room, layout, trailer(b"a"), b"a", 9));
+    assert!(rt; is_made_at(room, layout, header_of(Kind::Trailer, b"a"), b"a", 9));
 }

@@ -1,190 +1,79 @@
 // Headers of version 2 against values from outside, and each rule of boots and groups kept and broken once.
-use crate::examples::{BLOCK, PREPARE, REPLY, RESERVED, TRAILER, spelled};
-use crate::room_examples::prepare;
-use df_base::check;
-use df_format::{Header, decode_header};
+use crate::examples::{BLOCK, Example, PREPARE, REPLY, RESERVED, TRAILER, made, sealed, spelled};
+use crate::room_examples::header_of;
+use df_base::{check, put_u16, put_u64};
+use df_format::{Header, Kind, decode_header};
 
-// A byte that is put over one of an example's.
-pub(crate) type Put = (usize, u8);
-
-// The example with these bytes and the checksum made right again.
-pub(crate) fn made(front: &[u8; 124], puts: &[Put]) -> [u8; 256] {
+// The example of this version, with this op, this boot, and the first and the last op of a group.
+fn numbered(front: &Example, version: u16, numbers: &[u64; 4]) -> [u8; 256] {
+    let [op, boot, first, last] = *numbers;
     let mut bytes = spelled(front);
-    for (at, byte) in puts {
-        if *at < bytes.len() {
-            bytes[*at] = *byte;
-        }
-    }
-    let sum = check(&bytes[16..]);
-    bytes[..16].copy_from_slice(&sum);
-    bytes
+    put_u64(&mut bytes, 80, op);
+    put_u16(&mut bytes, 122, version);
+    put_u64(&mut bytes, 124, boot);
+    put_u64(&mut bytes, 132, first);
+    put_u64(&mut bytes, 140, last);
+    sealed(bytes)
 }
 
-// An example, bytes that are put over it, and whether that is a header still.
-type Row = (&'static str, [u8; 124], &'static [Put], bool);
+// An example, its version and its numbers, and whether that is a header.
+type Row = (&'static str, Example, u16, [u64; 4], bool);
 
-const RULES: [Row; 37] = [
-    ("a reserved header", RESERVED, &[(122, 2)], true),
-    ("with a boot", RESERVED, &[(122, 2), (124, 1)], false),
-    ("with a first op", RESERVED, &[(122, 2), (132, 1)], false),
-    ("with a last op", RESERVED, &[(122, 2), (140, 1)], false),
-    (
-        "a prepare by itself",
-        PREPARE,
-        &[(122, 2), (124, 1), (132, 1), (140, 1)],
-        true,
-    ),
-    (
-        "of the greatest boot",
-        PREPARE,
-        &[(122, 2), (131, 0x40), (132, 1), (140, 1)],
-        true,
-    ),
-    (
-        "of a greater one",
-        PREPARE,
-        &[(122, 2), (124, 1), (131, 0x40), (132, 1), (140, 1)],
-        false,
-    ),
-    (
-        "of no boot",
-        PREPARE,
-        &[(122, 2), (132, 1), (140, 1)],
-        false,
-    ),
-    ("of no group", PREPARE, &[(122, 2), (124, 1)], false),
-    (
-        "of a group without a first",
-        PREPARE,
-        &[(122, 2), (124, 1), (140, 1)],
-        false,
-    ),
-    (
-        "of a later group",
-        PREPARE,
-        &[(122, 2), (124, 1), (132, 2), (140, 2)],
-        false,
-    ),
-    (
-        "the first of eight",
-        PREPARE,
-        &[(122, 2), (124, 1), (132, 1), (140, 8)],
-        true,
-    ),
-    (
-        "the first of nine",
-        PREPARE,
-        &[(122, 2), (124, 1), (132, 1), (140, 9)],
-        false,
-    ),
-    (
-        "the last of three",
-        PREPARE,
-        &[(80, 3), (122, 2), (124, 1), (132, 1), (140, 3)],
-        true,
-    ),
-    (
-        "of an earlier group",
-        PREPARE,
-        &[(80, 3), (122, 2), (124, 1), (132, 1), (140, 2)],
-        false,
-    ),
-    (
-        "with a byte behind its fields",
-        PREPARE,
-        &[(122, 2), (124, 1), (132, 1), (140, 1), (148, 1)],
-        false,
-    ),
-    (
-        "with a last byte",
-        PREPARE,
-        &[(122, 2), (124, 1), (132, 1), (140, 1), (255, 1)],
-        false,
-    ),
-    ("version 1 with a boot", PREPARE, &[(124, 1)], false),
-    (
-        "version 1 with a group",
-        PREPARE,
-        &[(132, 1), (140, 1)],
-        false,
-    ),
-    ("version 1 with a last op", PREPARE, &[(140, 1)], false),
-    ("version 0", PREPARE, &[(122, 0)], false),
-    (
-        "version 3",
-        PREPARE,
-        &[(122, 3), (124, 1), (132, 1), (140, 1)],
-        false,
-    ),
-    (
-        "version 258",
-        PREPARE,
-        &[(122, 2), (123, 1), (124, 1), (132, 1), (140, 1)],
-        false,
-    ),
-    ("a reply", REPLY, &[(122, 2), (124, 1)], true),
-    ("of no boot", REPLY, &[(122, 2)], false),
-    (
-        "of a boot above the greatest",
-        REPLY,
-        &[(122, 2), (124, 1), (131, 0x40)],
-        false,
-    ),
-    (
-        "with a first op",
-        REPLY,
-        &[(122, 2), (124, 1), (132, 1)],
-        false,
-    ),
-    (
-        "with a last op",
-        REPLY,
-        &[(122, 2), (124, 1), (140, 1)],
-        false,
-    ),
-    (
-        "in a group of two",
-        REPLY,
-        &[(122, 2), (124, 1), (132, 1), (140, 2)],
-        false,
-    ),
-    ("a block", BLOCK, &[(122, 2), (124, 1)], true),
-    ("of no boot", BLOCK, &[(122, 2)], false),
-    (
-        "of a boot above the greatest",
-        BLOCK,
-        &[(122, 2), (124, 1), (131, 0x40)],
-        false,
-    ),
-    (
-        "in a group",
-        BLOCK,
-        &[(122, 2), (124, 1), (132, 9), (140, 9)],
-        false,
-    ),
-    ("a trailer block", TRAILER, &[(122, 2), (124, 1)], true),
-    ("of no boot", TRAILER, &[(122, 2)], false),
-    (
-        "of a boot above the greatest",
-        TRAILER,
-        &[(122, 2), (124, 1), (131, 0x40)],
-        false,
-    ),
-    (
-        "in a group",
-        TRAILER,
-        &[(122, 2), (124, 1), (132, 9), (140, 9)],
-        false,
-    ),
+// The greatest boot.
+const TOP: u64 = 1 << 62;
+
+const RULES: [Row; 21] = [
+    ("a reserved header", RESERVED, 2, [0, 0, 0, 0], true),
+    ("with a boot", RESERVED, 2, [0, 1, 0, 0], false),
+    ("with a first op", RESERVED, 2, [0, 0, 1, 0], false),
+    ("with a last op", RESERVED, 2, [0, 0, 0, 1], false),
+    ("a prepare by itself", PREPARE, 2, [1, 1, 1, 1], true),
+    ("of the greatest boot", PREPARE, 2, [1, TOP, 1, 1], true),
+    ("of a greater one", PREPARE, 2, [1, TOP + 1, 1, 1], false),
+    ("of no boot", PREPARE, 2, [1, 0, 1, 1], false),
+    ("of no group", PREPARE, 2, [1, 1, 0, 0], false),
+    ("of a last op alone", PREPARE, 2, [1, 1, 0, 1], false),
+    ("of a later group", PREPARE, 2, [1, 1, 2, 2], false),
+    ("the first of eight", PREPARE, 2, [1, 1, 1, 8], true),
+    ("the first of nine", PREPARE, 2, [1, 1, 1, 9], false),
+    ("the last of three", PREPARE, 2, [3, 1, 1, 3], true),
+    ("of an earlier group", PREPARE, 2, [3, 1, 1, 2], false),
+    ("version 1 with a boot", PREPARE, 1, [1, 1, 0, 0], false),
+    ("version 1 with a group", PREPARE, 1, [1, 0, 1, 1], false),
+    ("version 1 with a last op", PREPARE, 1, [1, 0, 0, 1], false),
+    ("version 0", PREPARE, 0, [1, 0, 0, 0], false),
+    ("version 3", PREPARE, 3, [1, 1, 1, 1], false),
+    ("version 258", PREPARE, 258, [1, 1, 1, 1], false),
+];
+
+// The boot, the first and the last op of a unit of another kind that is appended with no others.
+const ALONE: [(&'static str, [u64; 3], bool); 7] = [
+    ("of a boot", [1, 0, 0], true),
+    ("of no boot", [0, 0, 0], false),
+    ("of too great a boot", [TOP + 1, 0, 0], false),
+    ("with a first op", [1, 1, 0], false),
+    ("with a last op", [1, 0, 1], false),
+    ("in a group of two", [1, 1, 2], false),
+    ("in a group of op 9", [1, 9, 9], false),
 ];
 
 #[test]
 fn boots_and_groups_have_their_rules(rt: HostRuntime) {
-    for (i, (name, front, puts, is)) in RULES.iter().enumerate() {
-        assert!(rt;
-            decode_header(&made(front, puts)).is_some() == *is,
-            "row {i}, {name}"
-        );
+    for (i, (name, front, version, numbers, is)) in RULES.iter().enumerate() {
+        let bytes = numbered(front, *version, numbers);
+        assert!(rt; decode_header(&bytes).is_some() == *is, "row {i}, {name}");
+    }
+    for (front, op) in [(REPLY, 1), (BLOCK, 9), (TRAILER, 9)] {
+        for (name, group, is) in &ALONE {
+            let [boot, first, last] = *group;
+            let bytes = numbered(&front, 2, &[op, boot, first, last]);
+            assert!(rt; decode_header(&bytes).is_some() == *is, "op {op}, {name}");
+        }
+    }
+    // A byte behind the fields, and the last one.
+    for at in [148, 255] {
+        let bytes = made(&PREPARE, &[(122, 2), (124, 1), (132, 1), (140, 1), (at, 1)]);
+        assert!(rt; decode_header(&bytes).is_none(), "at {at}");
     }
 }
 
@@ -202,8 +91,8 @@ fn reads_the_boot_and_the_group_of_a_prepare(rt: HostRuntime) {
         boot: 1,
         group: 1,
         group_last: 1,
-        ..prepare(&[])
+        ..header_of(Kind::Prepare, &[])
     };
-    let bytes = made(&PREPARE, &[(122, 2), (124, 1), (132, 1), (140, 1)]);
+    let bytes = numbered(&PREPARE, 2, &[1, 1, 1, 1]);
     assert!(rt; decode_header(&bytes) == Some(header));
 }

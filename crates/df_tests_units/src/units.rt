@@ -1,7 +1,7 @@
 // The definitions against values from outside: the bytes of an example, and which of them are refused when changed.
 use crate::examples::{PREPARE, spelled};
-use crate::room_examples::prepare;
-use df_format::{Header, decode_header, decode_unit, make_unit};
+use crate::room_examples::header_of;
+use df_format::{Header, Kind, decode_header, decode_unit, make_unit};
 use df_layout::{Class, Layout, Place, Zone};
 
 fn example() -> [u8; 256] {
@@ -29,7 +29,7 @@ fn shown(cluster: u128, index: u64, slot: &[u8; 8192]) -> Result<Header, Class> 
 #[test]
 fn makes_and_reads_the_example(rt: HostRuntime) {
     let mut slot = [9u8; 8192];
-    let made = make_unit(prepare(&[]), &[], &mut slot);
+    let made = make_unit(header_of(Kind::Prepare, &[]), &[], &mut slot);
     assert!(rt; made.length == 4096);
     assert!(rt; is_example_before_nines(&slot));
     assert!(rt; decode_header(&example()) == Some(made.header));
@@ -39,7 +39,7 @@ fn makes_and_reads_the_example(rt: HostRuntime) {
 #[test]
 fn tests_the_body_and_not_what_follows_it(rt: HostRuntime) {
     let mut slot = [0u8; 8192];
-    let made = make_unit(prepare(b"abc"), b"abc", &mut slot);
+    let made = make_unit(header_of(Kind::Prepare, b"abc"), b"abc", &mut slot);
     slot[259] = 1;
     assert!(rt; shown(7, 1, &slot) == Ok(made.header));
     slot[258] = b'd';

@@ -11,6 +11,10 @@ mod files;
 #[cfg(test)]
 mod headers;
 #[cfg(test)]
+mod named;
+#[cfg(test)]
+mod recorded;
+#[cfg(test)]
 mod replies;
 #[cfg(test)]
 mod rings;

@@ -3,7 +3,7 @@
 ghost use Rattle.std.specs.Prelude.{◌≡◌};
 ghost use Rattle.df_layout.specs.declared.places.Zone.{Zone as AnyZone};
 
-use crate::stored::{Board, Stored, ask, new_table, put, room_for, scan};
+use crate::stored::{Board, Stored, ask, fields_of, new_table, put, room_for, scan};
 use df_buffers::{Identity, Raw, Reply, Wanted};
 use df_disk::Disk;
 use df_layout::{Class, Layout, Place, Zone};
@@ -28,10 +28,10 @@ fn four_sessions() -> SessionTable
 // The replies to two requests of each of four clients, in turn.
 fn turn_of(turn: u8) -> Stored {
     Stored {
-        boot: 0,
         client: turn % 4 + 1,
         request: turn / 4 + 1,
         op: turn.saturating_add(1),
+        boot: None,
         ahead: 0,
         checkpoint: 1,
         slot: turn % 4,
@@ -54,7 +54,9 @@ fn the_second_reply_of_the_third_of_four_clients_is_torn(rt: HostRuntime) {
     let sessions = four_sessions();
     let mut table = new_table(&rt, rt.alloc());
     assert!(rt; scan(&rt, rt.alloc(), &mut board, &mut table) == Ok(()));
-    assert!(rt; table.replies(4, 3, 0) == 8 && table.first_lacking(&sessions, 8, 0) == None);
+    assert!(rt;
+        table.replies(4, 3, 0) == 8 && table.first_lacking(&sessions, 8, &fields_of(0)) == None
+    );
     assert!(rt; board.write(75, &before) == Ok(()));
     assert!(rt; scan(&rt, rt.alloc(), &mut board, &mut table) == Ok(()));
     assert!(rt; table.get(2).err() == Some(Class::Garbled) && table.replies(4, 3, 0) == 8);
@@ -62,32 +64,32 @@ fn the_second_reply_of_the_third_of_four_clients_is_torn(rt: HostRuntime) {
         place: 2,
         class: Class::Garbled,
     };
-    assert!(rt; table.first_lacking(&sessions, 8, 0) == Some(lacking));
-    assert!(rt; table.first_lacking(&sessions, 6, 0) == None);
+    assert!(rt; table.first_lacking(&sessions, 8, &fields_of(0)) == Some(lacking));
+    assert!(rt; table.first_lacking(&sessions, 6, &fields_of(0)) == None);
 }
 
-const FIRST: Stored = Stored {
-    boot: 0,
+pub(crate) const FIRST: Stored = Stored {
     client: 1,
     request: 2,
     op: 5,
+    boot: None,
     ahead: 1,
     checkpoint: 1,
     slot: 0,
 };
 
-const SECOND: Stored = Stored {
-    boot: 0,
+pub(crate) const SECOND: Stored = Stored {
     client: 2,
     request: 1,
     op: 6,
+    boot: None,
     ahead: 0,
     checkpoint: 1,
     slot: 1,
 };
 
 // The place of the first session, whose slot shows another reply.
-const FIRST_LACKS: Option<Lacking> = Some(Lacking {
+pub(crate) const FIRST_LACKS: Option<Lacking> = Some(Lacking {
     place: 0,
     class: Class::Stale,
 });
@@ -116,10 +118,10 @@ fn found(top: u64, checkpoint: u64, replies: u64, lacking: Option<Lacking>) -> F
 
 // A reply in a place that the table of sessions lacks.
 const PAST: Stored = Stored {
-    boot: 0,
     client: 9,
     request: 1,
     op: 9,
+    boot: None,
     ahead: 0,
     checkpoint: 1,
     slot: 3,
@@ -182,7 +184,7 @@ fn found_behind(rt: &impl Abort, alloc: Global, replies: &[Stored; 3], boot: u64
         checkpoint: seen.checkpoint,
         boot: seen.boot,
         replies: table.replies(0, 0, boot),
-        lacking: table.first_lacking(&sessions, 6, boot),
+        lacking: table.first_lacking(&sessions, 6, &fields_of(boot)),
     }
 }
 
@@ -194,10 +196,18 @@ fn other_replies_in_a_slot_are_told_apart(rt: HostRuntime) {
     }
 }
 
+// The same reply of this boot.
+pub(crate) fn of_boot(stored: Stored, boot: u8) -> Stored {
+    Stored {
+        boot: Some(boot),
+        ..stored
+    }
+}
+
 // The replies to the two sessions and one more, the boot that is asked for, and what is found of it.
 fn booted_cases() -> [(&'static str, [Stored; 3], u64, Finding); 5] {
-    let first = Stored { boot: 3, ..FIRST };
-    let second = Stored { boot: 3, ..SECOND };
+    let first = of_boot(FIRST, 3);
+    let second = of_boot(SECOND, 3);
     let later = Finding {
         boot: 3,
         ..found(6, 1, 6, FIRST_LACKS)
@@ -244,7 +254,7 @@ fn booted_cases() -> [(&'static str, [Stored; 3], u64, Finding); 5] {
         ),
         (
             "one of a later boot",
-            [first, second, Stored { boot: 4, ..first }],
+            [first, second, of_boot(FIRST, 4)],
             3,
             Finding {
                 boot: 4,

@@ -9,7 +9,7 @@ ghost use Rattle.df_format.specs.Making.{for_body};
 use df_base::{Failed, SECTOR, check};
 use df_buffers::{Raw, Reply};
 use df_disk::Disk;
-use df_format::{Header, Kind};
+use df_format::{Header, Kind, SuperFields};
 use df_layout::{Layout, Zone};
 use df_replies::{ReplyTable, write_reply};
 use df_sessions::SessionTable;
@@ -78,13 +78,14 @@ impl Disk for Board {
     }
 }
 
-// A reply by its numbers, each but the boot 1 at the least; its mark is so many ops ahead of its own. In boot 0 it is of version 1.
+// A reply by its numbers; client, request, op, boot and checkpoint are 1 at the least. Its mark is so many ops ahead of its own, and
+// where it names no boot, it is of version 1.
 #[derive(Clone, Copy)]
 pub(crate) struct Stored {
-    pub(crate) boot: u8,
     pub(crate) client: u8,
     pub(crate) request: u8,
     pub(crate) op: u8,
+    pub(crate) boot: Option<u8>,
     pub(crate) ahead: u8,
     pub(crate) checkpoint: u8,
     pub(crate) slot: u8,
@@ -109,14 +110,13 @@ fn header_of(stored: &Stored, body: &[u8]) -> Header
         slot: u32::from(stored.slot % 4),
         ..Header::of(Kind::Reply, 7)
     };
-    if stored.boot == 0 {
-        first
-    } else {
-        Header {
+    match stored.boot {
+        None => first,
+        Some(boot) => Header {
             version: 2,
-            boot: u64::from(stored.boot),
+            boot: u64::from(boot.max(1)),
             ..first
-        }
+        },
     }
 }
 
@@ -175,5 +175,19 @@ pub(crate) fn ask(sessions: &mut SessionTable, stored: &Stored)
     let client = u128::from(stored.client);
     if client != 0 && (sessions.place_of(client).is_some() || sessions.len() < 4) {
         let _ = sessions.apply(client, u64::from(stored.request), u64::from(stored.op));
+    }
+}
+
+// The superblock of a boot, which names no reply: of version 1 in boot 0, and else of version 2.
+pub(crate) fn fields_of(boot: u64) -> SuperFields {
+    let first = SuperFields::of(&Layout::small(), 7);
+    if boot == 0 {
+        first
+    } else {
+        SuperFields {
+            version: 2,
+            boot,
+            ..first
+        }
     }
 }

@@ -4,8 +4,8 @@ ghost use Rattle.df_headers.specs.Ring.{IsTable};
 
 use crate::files::{prepare_header, scanned};
 use crate::rings::reserved_table;
-use df_base::{Check, Failed};
-use df_buffers::{HeaderSector, Prepare, Raw};
+use df_base::Check;
+use df_buffers::{Prepare, Raw};
 use df_cases::Decision;
 use df_disk::Disk;
 use df_headers::HeaderTable;
@@ -43,18 +43,24 @@ fn append_next(
 }
 
 // Writes both sectors of the header ring.
-fn write_ring(
+pub(crate) fn write_ring(
+    rt: &impl Abort,
+    alloc: Global,
     disk: &mut MemoryDisk,
     layout: &Layout,
     table: &HeaderTable,
-    sector: &mut Raw<HeaderSector>,
-) -> Result<(), Failed>
+)
     requires slots { layout.now.slots ≡ 32 }
     requires table { IsTable layout.now 7 table.now }
 {
-    table.write_sector(disk, sector, 0)?;
-    table.write_sector(disk, sector, 1)?;
-    disk.sync()
+    let mut sector = Raw::reserve(alloc, layout).expect(rt, "memory of a sector");
+    table
+        .write_sector(disk, &mut sector, 0)
+        .expect(rt, "a write");
+    table
+        .write_sector(disk, &mut sector, 1)
+        .expect(rt, "a write");
+    disk.sync().expect(rt, "a sync");
 }
 
 // The boots of five prepares.
@@ -67,8 +73,7 @@ fn five(rt: &impl Abort, alloc: Global, layout: &Layout, boots: &Boots) -> Memor
 {
     let mut disk = MemoryDisk::new(alloc, Vec::new(alloc));
     let mut table = reserved_table(alloc, layout).expect(rt, "memory of a table");
-    let mut sector = Raw::reserve(alloc, layout).expect(rt, "memory of a sector");
-    write_ring(&mut disk, layout, &table, &mut sector).expect(rt, "a new ring");
+    write_ring(rt, alloc, &mut disk, layout, &table);
     let boot = u64::from(boots[0]);
     let one = append_next(&mut disk, layout, &mut table, rt, alloc, 1, boot, [0; 16]);
     let boot = u64::from(boots[1]);
@@ -136,17 +141,23 @@ const CLEAR: Decision = Decision::Empty { mend: true };
 
 const LOST: Decision = Decision::Lost;
 
+// Which of the five prepares are taken.
+const ALL: [Decision; 8] = [EMPTY, TAKE, TAKE, TAKE, TAKE, TAKE, EMPTY, EMPTY];
+
+const FIRST_THREE: [Decision; 8] = [EMPTY, TAKE, TAKE, TAKE, EMPTY, EMPTY, EMPTY, EMPTY];
+
+const FIRST_FOUR: [Decision; 8] = [EMPTY, TAKE, TAKE, TAKE, TAKE, EMPTY, EMPTY, EMPTY];
+
+const ALL_BUT_FIRST: [Decision; 8] = [EMPTY, EMPTY, TAKE, TAKE, TAKE, TAKE, EMPTY, EMPTY];
+
+const NONE: [Decision; 8] = [EMPTY; 8];
+
 // The sector of that file that is spoilt, if any; the op and the mark of the tail that is found, whether anything is lost; and the
 // decisions on the first eight slots.
 type Row = (&'static str, Option<u64>, (u64, u64, bool), [Decision; 8]);
 
 const ROWS: [Row; 3] = [
-    (
-        "five appends",
-        None,
-        (5, 4, false),
-        [EMPTY, TAKE, TAKE, TAKE, TAKE, TAKE, EMPTY, EMPTY],
-    ),
+    ("five appends", None, (5, 4, false), ALL),
     (
         "a spoilt header sector loses no prepare",
         Some(4),
@@ -183,62 +194,31 @@ fn five_appends_are_found_but_for_a_spoilt_prepare(rt: HostRuntime) {
 
 // The boots of the five prepares, and the superblock's; the op and the mark of the tail, whether anything is behind and whether it is
 // lost; and the decisions on the first eight slots.
-type Booted = (
-    &'static str,
-    Boots,
-    u64,
-    (u64, u64, bool, bool),
-    [Decision; 8],
-);
+type Booted = (Boots, u64, (u64, u64, bool, bool), [Decision; 8]);
 
 const BOOTED: [Booted; 5] = [
-    (
-        "all of the superblock's boot",
-        [3, 3, 3, 3, 3],
-        3,
-        (5, 4, false, false),
-        [EMPTY, TAKE, TAKE, TAKE, TAKE, TAKE, EMPTY, EMPTY],
-    ),
-    (
-        "two of boot 3 in a file of version 1",
-        [0, 0, 0, 3, 3],
-        0,
-        (3, 2, true, false),
-        [EMPTY, TAKE, TAKE, TAKE, EMPTY, EMPTY, EMPTY, EMPTY],
-    ),
-    (
-        "the last of an earlier boot",
-        [3, 3, 3, 3, 2],
-        3,
-        (4, 3, false, false),
-        [EMPTY, TAKE, TAKE, TAKE, TAKE, EMPTY, EMPTY, EMPTY],
-    ),
-    (
-        "the first of an earlier boot",
-        [2, 3, 3, 3, 3],
-        3,
-        (0, 0, false, true),
-        [EMPTY, EMPTY, TAKE, TAKE, TAKE, TAKE, EMPTY, EMPTY],
-    ),
-    (
-        "of version 1 in a file of version 2",
-        [0, 0, 0, 0, 0],
-        1,
-        (0, 0, false, false),
-        [EMPTY, EMPTY, EMPTY, EMPTY, EMPTY, EMPTY, EMPTY, EMPTY],
-    ),
+    // All are of the superblock's boot.
+    ([3, 3, 3, 3, 3], 3, (5, 4, false, false), ALL),
+    // Two are of boot 3, in a file of version 1.
+    ([0, 0, 0, 3, 3], 0, (3, 2, true, false), FIRST_THREE),
+    // The last is of an earlier boot.
+    ([3, 3, 3, 3, 2], 3, (4, 3, false, false), FIRST_FOUR),
+    // The first is.
+    ([2, 3, 3, 3, 3], 3, (0, 0, false, true), ALL_BUT_FIRST),
+    // All are of version 1, in a file of version 2.
+    ([0, 0, 0, 0, 0], 1, (0, 0, false, false), NONE),
 ];
 
 #[test]
 fn a_unit_of_another_boot_is_neither_taken_nor_lost(rt: HostRuntime) {
     let layout = Layout::small();
-    for (name, boots, boot, ended, decided) in &BOOTED {
+    for (boots, boot, ended, decided) in &BOOTED {
         let mut disk = five(&rt, rt.alloc(), &layout, boots);
         let (tail, behind, lost) = found(&rt, rt.alloc(), &mut disk, &layout, *boot);
-        assert!(rt; (tail.op, tail.mark, behind, lost) == *ended, "{name}");
+        assert!(rt; (tail.op, tail.mark, behind, lost) == *ended, "{boots:?}");
         assert!(rt;
             decisions(&rt, rt.alloc(), &mut disk, &layout, *boot) == *decided,
-            "{name}"
+            "{boots:?}"
         );
     }
 }

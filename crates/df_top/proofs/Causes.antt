@@ -71,6 +71,7 @@ module _ (disk disk_now source sink sink_now : ℕ) (old new : Option (List ℕ)
   open_causes T (opens.BadField a b) by prints blame = line_causes _ Refused calm_refused by (prints.other (λ no. cc)) blame
   open_causes T (opens.LayoutDiffers a b) by prints blame = line_causes _ Refused calm_refused by (prints.other (λ no. cc)) blame
   open_causes T (opens.Damaged a b) by prints blame = line_causes _ Refused calm_refused by (prints.other (λ no. cc)) blame
+  open_causes T opens.BootSpent by prints blame = line_causes _ Refused calm_refused by (prints.other (λ no. cc)) blame
 
 -- neither want of memory nor other words are answered of such a file
 pub refused_never : (e : OpenError) (old new : Option (List ℕ)) (status : Status) → PrintsError e old new status → (status ≡ Memory → ⊥) × (status ≡ Words → ⊥)
@@ -81,6 +82,7 @@ refused_never (opens.Version a) old new status prints = never_printed _ Refused 
 refused_never (opens.BadField a b) old new status prints = never_printed _ Refused old new status calm_refused (prints.other (λ no. cc))
 refused_never (opens.LayoutDiffers a b) old new status prints = never_printed _ Refused old new status calm_refused (prints.other (λ no. cc))
 refused_never (opens.Damaged a b) old new status prints = never_printed _ Refused old new status calm_refused (prints.other (λ no. cc))
+refused_never opens.BootSpent old new status prints = never_printed _ Refused old new status calm_refused (prints.other (λ no. cc))
 
 -- ---- nor at the end of a session
 

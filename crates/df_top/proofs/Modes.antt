@@ -172,43 +172,35 @@ one_mode words (Format l c) (Format m d) one other =
 
 -- ---- three words
 
+-- one of the two words that stand before two more means them
+of_three : (word one two : List ℕ) → ((s n : ℕ) → Means (word ∷ one ∷ two ∷ []) (Workload s n) → ⊥) → ((l : Layout) (c : ℕ) → Means (word ∷ one ∷ two ∷ []) (Format l c) → ⊥) → (mode : Mode) → Means (word ∷ one ∷ two ∷ []) mode → ⊥
+of_three word one two no_workload no_format Run says = one_is_not_three (codes "run") word one two (word ∷ one ∷ two ∷ []) says refl
+of_three word one two no_workload no_format Recover says = one_is_not_three (codes "recover") word one two (word ∷ one ∷ two ∷ []) says refl
+of_three word one two no_workload no_format Inspect says = one_is_not_three (codes "inspect") word one two (word ∷ one ∷ two ∷ []) says refl
+of_three word one two no_workload no_format Scrub says = one_is_not_three (codes "scrub") word one two (word ∷ one ∷ two ∷ []) says refl
+of_three word one two no_workload no_format (Paced p) says = three_is_not_four word one two (codes "paced") (decimal p.scrub) (decimal p.every) (decimal p.steps) (word ∷ one ∷ two ∷ []) refl says.is
+of_three word one two no_workload no_format (Workload s n) says = no_workload s n says
+of_three word one two no_workload no_format (Format l c) says = no_format l c says
+
 -- their first one is `format` or `workload`
 pub no_other : (word one two : List ℕ) → (word ≡ codes "format" → ⊥) → (word ≡ codes "workload" → ⊥) → (mode : Mode) → Means (word ∷ one ∷ two ∷ []) mode → ⊥
-no_other word one two no_format no_workload Run says = one_is_not_three (codes "run") word one two (word ∷ one ∷ two ∷ []) says refl
-no_other word one two no_format no_workload Recover says = one_is_not_three (codes "recover") word one two (word ∷ one ∷ two ∷ []) says refl
-no_other word one two no_format no_workload Inspect says = one_is_not_three (codes "inspect") word one two (word ∷ one ∷ two ∷ []) says refl
-no_other word one two no_format no_workload Scrub says = one_is_not_three (codes "scrub") word one two (word ∷ one ∷ two ∷ []) says refl
-no_other word one two no_format no_workload (Paced p) says = three_is_not_four word one two (codes "paced") (decimal p.scrub) (decimal p.every) (decimal p.steps) (word ∷ one ∷ two ∷ []) refl says.is
-no_other word one two no_format no_workload (Workload s n) says = no_workload (first_of word one two (codes "workload") (decimal s) (decimal n) says.is)
-no_other word one two no_format no_workload (Format l c) says = no_format (first_of word one two (codes "format") says.name (decimal c) says.is)
+no_other word one two no_format no_workload =
+    of_three word one two (λ s n says. no_workload (first_of word one two (codes "workload") (decimal s) (decimal n) says.is))
+    (λ l c says. no_format (first_of word one two (codes "format") says.name (decimal c) says.is))
 
 -- behind `format` they name a layout, and a cluster
 pub only_format : (name cluster : List ℕ) → ((layout : Layout) (n : ℕ) → NamesLayout name layout → cluster ≡ decimal n → n < 2 ^ 128 → ⊥) → (mode : Mode) → Means (codes "format" ∷ name ∷ cluster ∷ []) mode → ⊥
-only_format name cluster none Run says = one_is_not_three (codes "run") (codes "format") name cluster (codes "format" ∷ name ∷ cluster ∷ []) says refl
-only_format name cluster none Recover says = one_is_not_three (codes "recover") (codes "format") name cluster (codes "format" ∷ name ∷ cluster ∷ []) says refl
-only_format name cluster none Inspect says = one_is_not_three (codes "inspect") (codes "format") name cluster (codes "format" ∷ name ∷ cluster ∷ []) says refl
-only_format name cluster none Scrub says = one_is_not_three (codes "scrub") (codes "format") name cluster (codes "format" ∷ name ∷ cluster ∷ []) says refl
-only_format name cluster none (Paced p) says = three_is_not_four (codes "format") name cluster (codes "paced") (decimal p.scrub) (decimal p.every) (decimal p.steps) (codes "format" ∷ name ∷ cluster ∷ []) refl says.is
-only_format name cluster none (Workload s n) says =
-    let letter : 102 ≡ 119 = ap (λ (l : List ℕ). get_or l 0 0) (first_of (codes "format") name cluster (codes "workload") (decimal s) (decimal n) says.is) in
-    omega (arith, letter)
-only_format name cluster none (Format l c) says =
-    let parts = three (codes "format") name cluster (codes "format") says.name (decimal c) says.is in
-    none l c (subst (λ (n : List ℕ). NamesLayout n l) (sym parts.0) says.names) parts.1 says.cluster_fits
+only_format name cluster none =
+    of_three (codes "format") name cluster
+    (λ s n says. let letter : 102 ≡ 119 = ap (λ (l : List ℕ). get_or l 0 0) (first_of (codes "format") name cluster (codes "workload") (decimal s) (decimal n) says.is) in omega (arith, letter))
+    (λ l c says. let parts = three (codes "format") name cluster (codes "format") says.name (decimal c) says.is in none l c (subst (λ (n : List ℕ). NamesLayout n l) (sym parts.0) says.names) parts.1 says.cluster_fits)
 
 -- and behind `workload` two numbers
 pub only_workload : (seed count : List ℕ) → ((s n : ℕ) → seed ≡ decimal s → count ≡ decimal n → s < 2 ^ 64 → 1 ≤ n → n ≤ 1000000 → ⊥) → (mode : Mode) → Means (codes "workload" ∷ seed ∷ count ∷ []) mode → ⊥
-only_workload seed count none Run says = one_is_not_three (codes "run") (codes "workload") seed count (codes "workload" ∷ seed ∷ count ∷ []) says refl
-only_workload seed count none Recover says = one_is_not_three (codes "recover") (codes "workload") seed count (codes "workload" ∷ seed ∷ count ∷ []) says refl
-only_workload seed count none Inspect says = one_is_not_three (codes "inspect") (codes "workload") seed count (codes "workload" ∷ seed ∷ count ∷ []) says refl
-only_workload seed count none Scrub says = one_is_not_three (codes "scrub") (codes "workload") seed count (codes "workload" ∷ seed ∷ count ∷ []) says refl
-only_workload seed count none (Paced p) says = three_is_not_four (codes "workload") seed count (codes "paced") (decimal p.scrub) (decimal p.every) (decimal p.steps) (codes "workload" ∷ seed ∷ count ∷ []) refl says.is
-only_workload seed count none (Workload s n) says =
-    let parts = three (codes "workload") seed count (codes "workload") (decimal s) (decimal n) says.is in
-    none s n parts.0 parts.1 says.seed_fits says.some says.million
-only_workload seed count none (Format l c) says =
-    let letter : 119 ≡ 102 = ap (λ (l : List ℕ). get_or l 0 0) (first_of (codes "workload") seed count (codes "format") says.name (decimal c) says.is) in
-    omega (arith, letter)
+only_workload seed count none =
+    of_three (codes "workload") seed count
+    (λ s n says. let parts = three (codes "workload") seed count (codes "workload") (decimal s) (decimal n) says.is in none s n parts.0 parts.1 says.seed_fits says.some says.million)
+    (λ l c says. let letter : 119 ≡ 102 = ap (λ (l : List ℕ). get_or l 0 0) (first_of (codes "workload") seed count (codes "format") says.name (decimal c) says.is) in omega (arith, letter))
 
 -- ---- four words
 

@@ -13,7 +13,7 @@ use Rattle.df_layout.specs.declared.layout.Layout.{Layout}
 use Rattle.df_layout.specs.declared.places.Zone.TheVariants.{WalHeaders}
 use Rattle.df_quorum.specs.Quorum.{AreMembers}
 use Rattle.df_quorum.proofs.Laws.{one_law}
-use Rattle.df_session.proofs.Laws.{filter_more, one_super, same_file}
+use Rattle.df_session.proofs.Laws.{filter_more, one_super, same_file, super_shown}
 use Rattle.df_session.specs.Below.{if_wanted, needs_header, slot_mends, start_of, IsOpened, memory, reply_sum, shape, spelling, stored_sum, DataFile, State}
 use Rattle.df_session.specs.Replica.{Survey, summary_of}
 use Rattle.df_session.specs.Surveying.{IsMendable, copy_mend_at, mends_of}
@@ -86,11 +86,11 @@ members_same image c d m k same one other n below =
     (λ is. (other n below).1 ((one n below).0 is ∙ ap Some same))
     (λ is. (one n below).1 ((other n below).0 is ∙ ap Some (sym same)))
 
-mends_same : (layout : Layout) (image : Image) (f g : SuperFields) (m k : List Bool) → f ≡ g → ((n : ℕ) → n < 4 → get_or m n false ≡ get_or k n false) → mends_of layout image f m ≡ mends_of layout image g k
-mends_same layout image f g m k fields bits =
-    ap (λ (ns : List ℕ). map (copy_mend_at image) ns ++ slot_mends (needs_header layout (start_of f) (unit_at layout f.cluster image)) (λ s. class_at layout f.cluster image (place_in WalHeaders s)) layout.slots)
+mends_same : (layout : Layout) (image : Image) (f g : SuperFields) (top head : ℕ) (m k : List Bool) → f ≡ g → top ≡ head → ((n : ℕ) → n < 4 → get_or m n false ≡ get_or k n false) → mends_of layout image f top m ≡ mends_of layout image g head k
+mends_same layout image f g top head m k fields level bits =
+    ap (λ (ns : List ℕ). map (copy_mend_at image) ns ++ slot_mends (needs_header layout (start_of f) top (unit_at layout f.cluster image)) (λ s. class_at layout f.cluster image (place_in WalHeaders s)) layout.slots)
     (filter_same (λ n. not (get_or m n false)) (λ n. not (get_or k n false)) 4 (λ n below. ap not (bits n below)))
-    ∙ ap (λ (x : SuperFields). mends_of layout image x k) fields
+    ∙ ap (λ (x : SuperFields). mends_of layout image x top k) fields ∙ ap (λ (n : ℕ). mends_of layout image g n k) level
 
 -- replicas with the same superblock, and the same in memory, have one summary
 pub summary_same : (s u : State) → s.file ≡ u.file → s.fields ≡ u.fields → memory s ≡ memory u → summary_of s ≡ summary_of u
@@ -112,10 +112,10 @@ summary_same s u file fields known = λ i. record {
 
 module _ (layout : Layout) (image : Image) (s u : Survey) (one : IsOpened layout image s.state) (one_mends : IsMendable layout image s) (other : IsOpened layout image u.state) (other_mends : IsMendable layout image u) where
   fields : s.state.fields ≡ u.state.fields
-  fields = one_super image s.state.fields u.state.fields one.has.super other.has.super
+  fields = one_super image s.state.fields u.state.fields (super_shown layout image s.state one) (super_shown layout image u.state other)
 
   file : s.state.file ≡ u.state.file
-  file = same_file s.state.file u.state.file (one.of ∙ sym other.of) (sym one.has.cluster ∙ ap (λ (f : SuperFields). f.cluster) fields ∙ other.has.cluster)
+  file = same_file s.state.file u.state.file (one.of.layout_is ∙ sym other.of.layout_is) (sym one.has.cluster ∙ ap (λ (f : SuperFields). f.cluster) fields ∙ other.has.cluster) (one.of.version_is ∙ sym other.of.version_is)
 
   view : one.view ≡ other.view
   view =
@@ -143,7 +143,7 @@ module _ (layout : Layout) (image : Image) (s u : Survey) (one : IsOpened layout
 
   mends : s.mends ≡ u.mends
   mends =
-      one_mends.mends ∙ mends_same layout image s.state.fields u.state.fields s.chosen.members u.chosen.members fields
+      one_mends.mends ∙ mends_same layout image s.state.fields u.state.fields s.state.head u.state.head s.chosen.members u.chosen.members fields (ap (λ (m : Memory). m.head) known)
       (members_same image one_mends.choice.content other_mends.choice.content s.chosen.members u.chosen.members contents one_mends.choice.members other_mends.choice.members)
       ∙ sym other_mends.mends
 

@@ -46,6 +46,7 @@ syncs_once old new (opens.Version a) other syncs = syncs
 syncs_once old new (opens.BadField a b) other syncs = syncs
 syncs_once old new (opens.LayoutDiffers a b) other syncs = syncs
 syncs_once old new (opens.Damaged a b) other syncs = syncs
+syncs_once old new opens.BootSpent other syncs = syncs
 
 syncs_failed : (old new : Option Told) (e : OpenError) → e ≡ opens.DiskFault → Syncs {T = Replica} old new (Err e) → AddsPart (Sync ∷ []) old new
 syncs_failed old new e is syncs = subst (λ (x : OpenError). Syncs {T = Replica} old new (Err x)) is syncs
@@ -115,7 +116,7 @@ module _ (layout : Layout) (t : Told) (old new : Outside) (status : Status) (s :
   found = record { replica = s; is_opened = is_opened; mended = new.told; mending = over.mending }
 
   calls : CallsKeep t found.replica found.mended found.mending (no_calls found)
-  calls = calls_keep t s new.told over s new.told [] [] None (refl, refl) whole live (subst (λ (l : Layout). IsOpened l t.shown s) (sym is_opened.of) is_opened)
+  calls = calls_keep t s new.told over s new.told [] [] None (refl, refl) whole live (subst (λ (l : Layout). IsOpened l t.shown s) (sym is_opened.of.layout_is) is_opened)
 
   pub recovers : PrintsLine (summary_text (summary_of s)) Done old.written new.written status → (found : FoundFile layout t) × Recovers layout t found old new status
   recovers prints = (found, record { prints = prints; unread = unread; told = refl; calls = calls })

@@ -160,6 +160,7 @@ by_fault P (opens.Version a) fault other = other (λ no. cc)
 by_fault P (opens.BadField a b) fault other = other (λ no. cc)
 by_fault P (opens.LayoutDiffers a b) fault other = other (λ no. cc)
 by_fault P (opens.Damaged a b) fault other = other (λ no. cc)
+by_fault P opens.BootSpent fault other = other (λ no. cc)
 
 -- so no word is carried out
 pub not_opened : (mode : Mode) (layout : Layout) (t : Told) (old new : Outside) (status : Status) (e : OpenError) → IsImage t.shown → old.told ≡ Some t → TellsSurvey layout old.told (Err e) → new.left ≡ old.left → ((e ≡ opens.DiskFault → ⊥) → new.told ≡ after Sync old.told)

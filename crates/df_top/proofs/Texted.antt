@@ -25,7 +25,7 @@ use Rattle.df_pace.specs.declared.pace.Pace.{Pace}
 use Rattle.df_pace.proofs.Laws.{idle_law}
 use Rattle.df_session.specs.Below.{DataFile, IsOpened, State as Replica, shape}
 use Rattle.df_session.specs.Reading.{shown_of}
-use Rattle.df_session.proofs.Laws.{one_super, same_file}
+use Rattle.df_session.proofs.Laws.{one_super, same_file, super_shown}
 use Rattle.df_session.specs.Below.{AgreeShown, codec}
 use Rattle.df_session.specs.Found.{FoundFile}
 use Rattle.df_top.specs.Lines.{Failing, Turned, act_of, all_said, all_text, command_of, printed, said_of}
@@ -187,10 +187,11 @@ module _ (layout : Layout) (a b : Image) (same : ShowSame layout a b) where
   -- of one file
   one_file : (s u : Replica) → IsOpened layout a s → IsOpened layout b u → s.file ≡ u.file
   one_file s u one other =
-      let chosen = super_there s.fields one.has.super.content one.has.super.chosen in
+      let own = super_shown layout a s one in
+      let chosen = super_there s.fields own.content own.chosen in
       let fields : s.fields ≡ u.fields =
-      one_super b s.fields u.fields (record { content = one.has.super.content; chosen = chosen; fields = one.has.super.fields; usable = one.has.super.usable }) other.has.super in
-      same_file s.file u.file (one.of ∙ sym other.of) (sym one.has.cluster ∙ ap (λ (f : SuperFields). f.cluster) fields ∙ other.has.cluster)
+      one_super b s.fields u.fields (record { content = own.content; chosen = chosen; fields = own.fields; usable = own.usable }) (super_shown layout b u other) in
+      same_file s.file u.file (one.of.layout_is ∙ sym other.of.layout_is) (sym one.has.cluster ∙ ap (λ (f : SuperFields). f.cluster) fields ∙ other.has.cluster) (one.of.version_is ∙ sym other.of.version_is)
 
   -- and of one view
   one_view : (s u : Replica) (one : IsOpened layout a s) (other : IsOpened layout b u) → one.view ≡ other.view
@@ -211,13 +212,13 @@ module _ (layout : Layout) (a b : Image) (same : ShowSame layout a b) where
       → text_over pace s.file (shown_of s.file b) (opened (shape s.file) (unit_at s.file.layout s.file.cluster a) one.view) says ≡ text_over pace u.file (shown_of u.file b) (opened (shape u.file) (unit_at u.file.layout u.file.cluster b) other.view) says
   one_line pace s u one other says =
       let there : unit_at s.file.layout s.file.cluster a ≡ unit_at s.file.layout s.file.cluster b =
-      subst (λ (l : Layout). unit_at l s.file.cluster a ≡ unit_at l s.file.cluster b) (sym one.of) (units_there s.file.cluster) in
+      subst (λ (l : Layout). unit_at l s.file.cluster a ≡ unit_at l s.file.cluster b) (sym one.of.layout_is) (units_there s.file.cluster) in
       ap (λ (image : Place → Option AnyUnit). text_over pace s.file (shown_of s.file b) (opened (shape s.file) image one.view) says) there
       ∙ ap (λ (v : View). text_over pace s.file (shown_of s.file b) (opened (shape s.file) (unit_at s.file.layout s.file.cluster b) v) says) (one_view s u one other)
       ∙ ap (λ (f : DataFile). text_over pace f (shown_of f b) (opened (shape f) (unit_at f.layout f.cluster b) other.view) says) (one_file s u one other)
 
 pub found_here : (layout : Layout) (image : Image) (s : Replica) (is : IsOpened layout image s) → IsFound (shape s.file) (unit_at s.file.layout s.file.cluster image) is.view
-found_here layout image s is = subst (λ (l : Layout). IsFound (shape s.file) (unit_at l s.file.cluster image) is.view) (sym is.of) is.found
+found_here layout image s is = subst (λ (l : Layout). IsFound (shape s.file) (unit_at l s.file.cluster image) is.view) (sym is.of.layout_is) is.found
 
 pub one_text : OneText
 one_text pace layout t u old new before now status ending text here there one other same left also is are =
@@ -225,7 +226,7 @@ one_text pace layout t u old new before now status ending text here there one ot
     let r = there.replica in
     let script = script_of pace layout u before now ending there other text also are in
     let says : List Said = all_said other.session.turns in
-    let first = prints_over pace layout t old new status here one text left is here.is_opened.view (shown_of s.file u.shown) says script (found_here layout t.shown s here.is_opened) (agree_there layout t.shown u.shown same s.file here.is_opened.of) in
+    let first = prints_over pace layout t old new status here one text left is here.is_opened.view (shown_of s.file u.shown) says script (found_here layout t.shown s here.is_opened) (agree_there layout t.shown u.shown same s.file here.is_opened.of.layout_is) in
     let second = prints_over pace layout u before now ending there other text also are there.is_opened.view (shown_of r.file u.shown) says script (found_here layout u.shown r there.is_opened) (agree_self r.file.layout (shown_of r.file u.shown)) in
     let line = one_line layout t.shown u.shown same pace s r here.is_opened there.is_opened says in (
       first.0 ∙ sym second.0,

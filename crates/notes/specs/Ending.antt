@@ -4,7 +4,7 @@ use Rattle.notes.specs.declared.ended.Ended.{Ended}
 use Rattle.notes.specs.declared.ended.Ended.TheVariants.{Refused, DiskFault, ReadFault, WriteFault, Memory}
 
 -- the status of the exit
-abbrev pub number_of : Ended → ℕ
+abbrev pub number_of : (ended : Ended) → ℕ
 number_of Refused = 4
 number_of DiskFault = 5
 number_of ReadFault = 6

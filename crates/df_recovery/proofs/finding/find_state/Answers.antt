@@ -1,5 +1,5 @@
 -- Each step answers as the theory's step.
-use Rattle.std.proofs.Common.{Bool, refl, sym, ap, subst}
+use Rattle.std.proofs.Common.{Bool, refl, sym, ◌∙◌, ap, subst}
 use Rattle.std.specs.Bool.{OnFalse}
 use Rattle.df_layout.specs.declared.damage.Class.TheVariants.{Stale}
 use Rattle.df_format.specs.SuperRules.{IsSuper}
@@ -7,125 +7,125 @@ use Rattle.df_format.specs.declared.superblock.SuperFields.{SuperFields}
 use Rattle.df_journal.specs.Scan.{entry}
 use Rattle.df_journal.specs.Seen.{class_of}
 use Rattle.df_journal.proofs.Laws.{class_shown}
+use Rattle.df_replies.specs.Answers.{AllAnswered}
 use Rattle.df_replies.proofs.Laws.{stored_found}
 use Rattle.df_sessions.specs.Requests.{sessions_of}
 use Rattle.df_stamps.specs.Evidence.{IsComplete}
+use Rattle.df_theory.specs.Opens.{LacksReply}
 use Rattle.df_theory.specs.Sessions.{Tracks}
 use Rattle.df_theory.specs.Units.{Content, CopyPlace, PreparePlace, ReplyPlace}
 use Rattle.df_recovery.specs.Finding.{lowest_of}
-use Rattle.df_recovery.proofs.FindingBounds.{any_base, any_shape, any_starts, asked_on, booted, few_wait, image_of, not_above, shows_replies, shows_table, tracks_on}
-use Rattle.df_recovery.proofs.FindingSteps.{boot_is, content_same, counts_own, finds, names_none, opens_behind, opens_lacking, opens_lost, starts}
-use Rattle.df_recovery.proofs.Starts.{version_one}
+use Rattle.df_recovery.proofs.FindingBounds.{any_base, any_is, any_shape, asked_on, few_wait, image_of, not_above, shows_replies, shows_table, tracks_on}
+use Rattle.df_recovery.proofs.FindingSteps.{at_place, below_spent, boot_is, content_same, counts_bound, finds, is_base, opens_behind, opens_known, opens_lacking, opens_lost, opens_spent}
 use Rattle.df_recovery.proofs.finding.find_state.Goals as goal
 
 pub returns-then-is_behind-clause-answer : goal.returns-then-is_behind-clause-answer
-returns-then-is_behind-clause-answer c = record {
-  at = CopyPlace (lowest_of c.args.found.now.chosen.members);
-  class = Stale;
-  error_is = c.behind_damage.ensures;
-  opens = λ sh image b is.
-      let content = content_same sh image b _ is c.fields-content.result.now c.fields-content.ensures.value in
-      let counts = c.count_all-seen.ensures.all image is.tells.shows is.shows in
-      opens_behind sh image b _ is ((c.is_behind.ensures.behind sh image b.content counts (boot_is sh image b _ is c.fields-content.result.now c.fields-content.ensures.value) (ap (λ (x : Content). x.sequence) content) (ap (λ (x : Content). x.op) content) is.slots_are).0 c.if-is_behind.true);
-  class_is = λ t scanned. refl;
-}
+returns-then-is_behind-clause-answer c = at_place _ (CopyPlace (lowest_of c.args.found.now.chosen.members)) Stale c.behind_damage.result c.behind_damage.ensures
+    (λ sh image b is.
+    let content = content_same sh image b _ is c.fields-content.result.now c.fields-content.ensures.value in
+    let counts = c.count_all-seen.ensures.all image is.tells.shows is.shows in
+    opens_behind sh image b _ is ((c.is_behind.ensures.behind sh image b.content counts (boot_is sh image b _ is c.fields-content.result.now c.fields-content.ensures.value) (ap (λ (x : Content). x.sequence) content) (ap (λ (x : Content). x.op) content) is.slots_are).0 c.if-is_behind.true))
+    (λ t scanned. refl)
 
-pub returns-then-is_lost-clause-answer : goal.returns-then-is_lost-clause-answer
-returns-then-is_lost-clause-answer c = record {
-  at = PreparePlace c.slot_behind.result;
-  class = class_of (entry c.args.slots.now c.slot_behind.result).prepare;
-  error_is = c.lost_damage.ensures;
-  opens = λ sh image b is.
-      let content = content_same sh image b _ is c.fields-content.result.now c.fields-content.ensures.value in
-      let counts = c.count_all-seen.ensures.all image is.tells.shows is.shows in
-      let early = (c.is_behind.ensures.none sh image b.content counts (boot_is sh image b _ is c.fields-content.result.now c.fields-content.ensures.value) (ap (λ (x : Content). x.sequence) content) (ap (λ (x : Content). x.op) content) is.slots_are).0 c.if-is_behind.false in
-      let found = c.find_tail-tail.ensures.tail sh image b is.tells (starts sh image b _ is c.fields-content.result.now c.requires.start c.fields-content.ensures.value) in
-      let lost = (c.is_lost.ensures.lost image b.content (counts_own sh image b _ is c.fields-content.result.now c.own_of-own.result c.fields-content.ensures.value (c.own_of-own.ensures image is.tells.shows (c.count_all-seen.ensures.own image is.tells.shows is.shows))) is.alone (ap (λ (x : Content). x.head) content)).0 c.if-is_lost.true in
-      let sessions = c.find_tail-tail.new.sessions.sessions in
-      opens_lost sh image b _ is c.find_tail-tail.result sessions early found c.slot_behind.result (c.slot_behind.ensures.slot sh b found.tail sessions is.slots_are found.ends) lost;
-  class_is = λ t scanned. (class_shown c.args.layout.now t c.args.slots.now c.slot_behind.result scanned.slots c.slot_behind.ensures.below).1;
-}
-
-pub returns-in-Some-clause-answer : goal.returns-in-Some-clause-answer
-returns-in-Some-clause-answer c = record {
-  at = ReplyPlace c.in-Some.lacking.place;
-  class = c.in-Some.lacking.class;
-  error_is = c.reply_damage.ensures;
-  opens = λ sh image b is.
-      let content = content_same sh image b _ is c.fields-content.result.now c.fields-content.ensures.value in
-      let counts = c.count_all-seen.ensures.all image is.tells.shows is.shows in
-      let early = (c.is_behind.ensures.none sh image b.content counts (boot_is sh image b _ is c.fields-content.result.now c.fields-content.ensures.value) (ap (λ (x : Content). x.sequence) content) (ap (λ (x : Content). x.op) content) is.slots_are).0 c.if-is_behind.false in
-      let found = c.find_tail-tail.ensures.tail sh image b is.tells (starts sh image b _ is c.fields-content.result.now c.requires.start c.fields-content.ensures.value) in
-      let kept = (c.is_lost.ensures.none image b.content (counts_own sh image b _ is c.fields-content.result.now c.own_of-own.result c.fields-content.ensures.value (c.own_of-own.ensures image is.tells.shows (c.count_all-seen.ensures.own image is.tells.shows is.shows))) is.alone (ap (λ (x : Content). x.head) content)).0 c.if-is_lost.false in
-      let number = c.replies-stored.ensures image b.content found.tail is.shows (boot_is sh image b _ is c.fields-content.result.now c.fields-content.ensures.value) (ap (λ (x : Content). x.replies) content) (sym found.ends.mark) in
-      let lacks = c.in-Some.ensures.lacks image b.content is.shows (boot_is sh image b _ is c.fields-content.result.now c.fields-content.ensures.value) (names_none sh image b _ is) in
-      opens_lacking sh image b _ is c.find_tail-tail.result c.find_tail-tail.new.sessions.sessions early found c.replies-stored.result c.in-Some.lacking.place kept number lacks;
-  class_is = λ t scanned. c.in-Some.ensures.class c.args.layout.now c.args.slots.now.start.cluster t scanned.replies;
-}
-
-pub returns-in-None-clause-answer : goal.returns-in-None-clause-answer
-returns-in-None-clause-answer c = λ sh image b is.
+pub returns-in-Err-clause-answer : goal.returns-in-Err-clause-answer
+returns-in-Err-clause-answer c = at_place _ (PreparePlace c.in-Err.slot) (class_of (entry c.args.slots.now c.in-Err.slot).prepare) c.lost_damage.result c.lost_damage.ensures
+    (λ sh image b is.
     let content = content_same sh image b _ is c.fields-content.result.now c.fields-content.ensures.value in
     let counts = c.count_all-seen.ensures.all image is.tells.shows is.shows in
     let early = (c.is_behind.ensures.none sh image b.content counts (boot_is sh image b _ is c.fields-content.result.now c.fields-content.ensures.value) (ap (λ (x : Content). x.sequence) content) (ap (λ (x : Content). x.op) content) is.slots_are).0 c.if-is_behind.false in
-    let found = c.find_tail-tail.ensures.tail sh image b is.tells (starts sh image b _ is c.fields-content.result.now c.requires.start c.fields-content.ensures.value) in
-    let kept = (c.is_lost.ensures.none image b.content (counts_own sh image b _ is c.fields-content.result.now c.own_of-own.result c.fields-content.ensures.value (c.own_of-own.ensures image is.tells.shows (c.count_all-seen.ensures.own image is.tells.shows is.shows))) is.alone (ap (λ (x : Content). x.head) content)).0 c.if-is_lost.false in
+    opens_known sh image b _ is c.in-Err.slot early (c.in-Err.ensures.blames sh image b is.tells (is_base sh image b _ is c.fields-content.result.now c.fields-content.ensures.value)))
+    (λ t scanned. (class_shown c.args.layout.now t c.args.slots.now c.in-Err.slot scanned.slots c.in-Err.ensures.slot).1)
+
+pub returns-then-is_lost-clause-answer : goal.returns-then-is_lost-clause-answer
+returns-then-is_lost-clause-answer c = at_place _ (PreparePlace c.slot_of.result) (class_of (entry c.args.slots.now c.slot_of.result).prepare) c.lost_damage-then-is_lost.result c.lost_damage-then-is_lost.ensures
+    (λ sh image b is.
+    let content = content_same sh image b _ is c.fields-content.result.now c.fields-content.ensures.value in
+    let counts = c.count_all-seen.ensures.all image is.tells.shows is.shows in
+    let early = (c.is_behind.ensures.none sh image b.content counts (boot_is sh image b _ is c.fields-content.result.now c.fields-content.ensures.value) (ap (λ (x : Content). x.sequence) content) (ap (λ (x : Content). x.op) content) is.slots_are).0 c.if-is_behind.false in
+    let found = c.in-Ok.ensures.reach sh image b is.tells (is_base sh image b _ is c.fields-content.result.now c.fields-content.ensures.value) in
+    let bound = counts_bound sh image b _ is c.fields-content.result.now c.in-Ok.reach.tail.op c.bound_of-bound.result c.fields-content.ensures.value (c.bound_of-bound.ensures image is.tells.shows (c.count_all-seen.ensures.own image is.tells.shows is.shows)) in
+    let lost = (c.is_lost.ensures.bound image b.content bound (ap (λ (x : Content). x.head) content)).0 c.if-is_lost.true in
+    opens_lost sh image b _ is c.in-Ok.reach c.find_known.new.sessions.sessions early found c.slot_of.result c.slot_of.ensures.value lost)
+    (λ t scanned. (class_shown c.args.layout.now t c.args.slots.now c.slot_of.result scanned.slots c.slot_of.ensures.below).1)
+
+pub returns-in-Some-clause-answer : goal.returns-in-Some-clause-answer
+returns-in-Some-clause-answer c = at_place _ (ReplyPlace c.in-Some.lacking.place) c.in-Some.lacking.class c.reply_damage.result c.reply_damage.ensures
+    (λ sh image b is.
+    let content = content_same sh image b _ is c.fields-content.result.now c.fields-content.ensures.value in
+    let counts = c.count_all-seen.ensures.all image is.tells.shows is.shows in
+    let early = (c.is_behind.ensures.none sh image b.content counts (boot_is sh image b _ is c.fields-content.result.now c.fields-content.ensures.value) (ap (λ (x : Content). x.sequence) content) (ap (λ (x : Content). x.op) content) is.slots_are).0 c.if-is_behind.false in
+    let found = c.in-Ok.ensures.reach sh image b is.tells (is_base sh image b _ is c.fields-content.result.now c.fields-content.ensures.value) in
+    let bound = counts_bound sh image b _ is c.fields-content.result.now c.in-Ok.reach.tail.op c.bound_of-bound.result c.fields-content.ensures.value (c.bound_of-bound.ensures image is.tells.shows (c.count_all-seen.ensures.own image is.tells.shows is.shows)) in
+    let kept = (c.is_lost.ensures.unbound image b.content bound (ap (λ (x : Content). x.head) content)).0 c.if-is_lost.false in
     let number = c.replies-stored.ensures image b.content found.tail is.shows (boot_is sh image b _ is c.fields-content.result.now c.fields-content.ensures.value) (ap (λ (x : Content). x.replies) content) (sym found.ends.mark) in
-    let all = c.in-None.ensures.lacks image b.content is.shows (boot_is sh image b _ is c.fields-content.result.now c.fields-content.ensures.value) (names_none sh image b _ is) in
-    finds sh image b _ is c.find_tail-tail.result c.find_tail-tail.new.sessions.sessions early found c.replies-stored.result stored_found kept number all
+    opens_lacking sh image b _ is c.in-Ok.reach c.find_known.new.sessions.sessions early found c.replies-stored.result c.in-Some.lacking.place kept number
+    (subst (λ (x : Content). LacksReply image x (sessions_of c.find_known.new.sessions.sessions) c.replies-stored.result c.in-Some.lacking.place) (sym content) (c.in-Some.ensures.lacks image is.shows)))
+    (λ t scanned. c.in-Some.ensures.class c.args.layout.now c.args.slots.now.start.cluster t scanned.replies)
 
-pub returns-in-None-clause-few : goal.returns-in-None-clause-few
-returns-in-None-clause-few c =
+-- no step before the last refuses
+pub returns-then-content-eq-GREATEST_BOOT-clause-answer : goal.returns-then-content-eq-GREATEST_BOOT-clause-answer
+returns-then-content-eq-GREATEST_BOOT-clause-answer c = λ sh image b is.
+    let content = content_same sh image b _ is c.fields-content.result.now c.fields-content.ensures.value in
+    let counts = c.count_all-seen.ensures.all image is.tells.shows is.shows in
+    let early = (c.is_behind.ensures.none sh image b.content counts (boot_is sh image b _ is c.fields-content.result.now c.fields-content.ensures.value) (ap (λ (x : Content). x.sequence) content) (ap (λ (x : Content). x.op) content) is.slots_are).0 c.if-is_behind.false in
+    let found = c.in-Ok.ensures.reach sh image b is.tells (is_base sh image b _ is c.fields-content.result.now c.fields-content.ensures.value) in
+    let bound = counts_bound sh image b _ is c.fields-content.result.now c.in-Ok.reach.tail.op c.bound_of-bound.result c.fields-content.ensures.value (c.bound_of-bound.ensures image is.tells.shows (c.count_all-seen.ensures.own image is.tells.shows is.shows)) in
+    let kept = (c.is_lost.ensures.unbound image b.content bound (ap (λ (x : Content). x.head) content)).0 c.if-is_lost.false in
+    let number = c.replies-stored.ensures image b.content found.tail is.shows (boot_is sh image b _ is c.fields-content.result.now c.fields-content.ensures.value) (ap (λ (x : Content). x.replies) content) (sym found.ends.mark) in
+    opens_spent sh image b _ is c.in-Ok.reach c.find_known.new.sessions.sessions early found c.replies-stored.result (boot_is sh image b _ is c.fields-content.result.now c.fields-content.ensures.value ∙ c.if-content-eq-GREATEST_BOOT.true) stored_found kept number
+    (subst (λ (x : Content). AllAnswered image x (sessions_of c.find_known.new.sessions.sessions) c.replies-stored.result) (sym content) (c.in-None.ensures.lacks image is.shows))
+
+pub returns-else-content-eq-GREATEST_BOOT-clause-answer : goal.returns-else-content-eq-GREATEST_BOOT-clause-answer
+returns-else-content-eq-GREATEST_BOOT-clause-answer c = λ sh image b is.
+    let content = content_same sh image b _ is c.fields-content.result.now c.fields-content.ensures.value in
+    let counts = c.count_all-seen.ensures.all image is.tells.shows is.shows in
+    let early = (c.is_behind.ensures.none sh image b.content counts (boot_is sh image b _ is c.fields-content.result.now c.fields-content.ensures.value) (ap (λ (x : Content). x.sequence) content) (ap (λ (x : Content). x.op) content) is.slots_are).0 c.if-is_behind.false in
+    let found = c.in-Ok.ensures.reach sh image b is.tells (is_base sh image b _ is c.fields-content.result.now c.fields-content.ensures.value) in
+    let bound = counts_bound sh image b _ is c.fields-content.result.now c.in-Ok.reach.tail.op c.bound_of-bound.result c.fields-content.ensures.value (c.bound_of-bound.ensures image is.tells.shows (c.count_all-seen.ensures.own image is.tells.shows is.shows)) in
+    let kept = (c.is_lost.ensures.unbound image b.content bound (ap (λ (x : Content). x.head) content)).0 c.if-is_lost.false in
+    let number = c.replies-stored.ensures image b.content found.tail is.shows (boot_is sh image b _ is c.fields-content.result.now c.fields-content.ensures.value) (ap (λ (x : Content). x.replies) content) (sym found.ends.mark) in
+    finds sh image b _ is c.in-Ok.reach c.find_known.new.sessions.sessions early found c.replies-stored.result (below_spent sh image b _ is c.fields-content.result.now c.fields-content.ensures.value c.if-content-eq-GREATEST_BOOT.false) stored_found kept number
+    (subst (λ (x : Content). AllAnswered image x (sessions_of c.find_known.new.sessions.sessions) c.replies-stored.result) (sym content) (c.in-None.ensures.lacks image is.shows))
+
+-- ---- the bounds, of an image that shows what the tables say
+
+pub returns-else-content-eq-GREATEST_BOOT-clause-few : goal.returns-else-content-eq-GREATEST_BOOT-clause-few
+returns-else-content-eq-GREATEST_BOOT-clause-few c =
     let slots = c.args.slots.now.slots in
     let f = c.fields-content.result.now in
     let image = image_of slots c.args.replies.now in
-    let b = any_base f c.args.sessions.now.sessions in
-    let shows = shows_replies slots c.args.replies.now in
-    let one = version_one c.args.slots.now.start c.args.found.now.content c.requires.start in
-    let starts = any_starts c.args.layout.now c.args.slots.now.start f c.args.found.now.content c.args.sessions.now.sessions c.requires.start c.fields-content.ensures.value (booted f c.args.found.now.content c.fields-content.ensures.value c.requires.version c.fields-content.ensures.usable.rules) in
-    let found = c.find_tail-tail.ensures.tail (any_shape c.args.layout.now) image b (record { version = one; table = c.requires.table; shows = shows_table slots c.args.replies.now }) starts in
-    let number = c.replies-stored.ensures image b.content found.tail shows refl refl (sym found.ends.mark) in
-    few_wait (any_shape c.args.layout.now) image f c.args.sessions.now.sessions c.find_tail-tail.new.sessions.sessions c.find_tail-tail.result c.replies-stored.result (subst IsSuper (sym c.fields-content.ensures.value) c.fields-content.ensures.usable.rules) found number
+    let found = c.in-Ok.ensures.reach (any_shape c.args.layout.now) image (any_base f c.args.sessions.now.sessions) (record { table = c.requires.table; shows = shows_table slots c.args.replies.now }) (any_is c.args.layout.now f c.args.sessions.now.sessions) in
+    let number = c.replies-stored.ensures image (any_base f c.args.sessions.now.sessions).content found.tail (shows_replies slots c.args.replies.now) refl refl (sym found.ends.mark) in
+    few_wait (any_shape c.args.layout.now) image f c.args.sessions.now.sessions c.find_known.new.sessions.sessions c.in-Ok.reach c.replies-stored.result (subst IsSuper (sym c.fields-content.ensures.value) c.fields-content.ensures.usable.rules) found number
 
-pub returns-in-None-clause-order : goal.returns-in-None-clause-order
-returns-in-None-clause-order c =
+pub returns-else-content-eq-GREATEST_BOOT-clause-order : goal.returns-else-content-eq-GREATEST_BOOT-clause-order
+returns-else-content-eq-GREATEST_BOOT-clause-order c =
     let slots = c.args.slots.now.slots in
     let f = c.fields-content.result.now in
     let image = image_of slots c.args.replies.now in
-    let b = any_base f c.args.sessions.now.sessions in
-    let shows = shows_replies slots c.args.replies.now in
-    let one = version_one c.args.slots.now.start c.args.found.now.content c.requires.start in
-    let starts = any_starts c.args.layout.now c.args.slots.now.start f c.args.found.now.content c.args.sessions.now.sessions c.requires.start c.fields-content.ensures.value (booted f c.args.found.now.content c.fields-content.ensures.value c.requires.version c.fields-content.ensures.usable.rules) in
-    let found = c.find_tail-tail.ensures.tail (any_shape c.args.layout.now) image b (record { version = one; table = c.requires.table; shows = shows_table slots c.args.replies.now }) starts in
-    let number = c.replies-stored.ensures image b.content found.tail shows refl refl (sym found.ends.mark) in
     let table = shows_table slots c.args.replies.now in
-    let own = c.own_of-own.ensures image table (c.count_all-seen.ensures.own image table shows) in
-    let complete : IsComplete c.own_of-own.result f.head c.find_tail-tail.result.op = subst (λ (b : Bool). OnFalse b (IsComplete c.own_of-own.result f.head c.find_tail-tail.result.op)) c.if-is_lost.false c.is_lost.ensures.counters in
-    not_above (any_shape c.args.layout.now) image f c.args.sessions.now.sessions c.find_tail-tail.new.sessions.sessions c.find_tail-tail.result c.replies-stored.result (subst IsSuper (sym c.fields-content.ensures.value) c.fields-content.ensures.usable.rules) found number c.own_of-own.result own complete
+    let shows = shows_replies slots c.args.replies.now in
+    let found = c.in-Ok.ensures.reach (any_shape c.args.layout.now) image (any_base f c.args.sessions.now.sessions) (record { table = c.requires.table; shows = table }) (any_is c.args.layout.now f c.args.sessions.now.sessions) in
+    let number = c.replies-stored.ensures image (any_base f c.args.sessions.now.sessions).content found.tail shows refl refl (sym found.ends.mark) in
+    let bound = c.bound_of-bound.ensures image table (c.count_all-seen.ensures.own image table shows) in
+    let complete : IsComplete c.bound_of-bound.result f.head c.in-Ok.reach.tail.op = subst (λ (b : Bool). OnFalse b (IsComplete c.bound_of-bound.result f.head c.in-Ok.reach.tail.op)) c.if-is_lost.false c.is_lost.ensures.counters in
+    not_above (any_shape c.args.layout.now) image f c.args.sessions.now.sessions c.find_known.new.sessions.sessions c.in-Ok.reach c.replies-stored.result (subst IsSuper (sym c.fields-content.ensures.value) c.fields-content.ensures.usable.rules) found number c.bound_of-bound.result bound.replies complete
 
-pub returns-in-None-clause-asked : goal.returns-in-None-clause-asked
-returns-in-None-clause-asked c =
+pub returns-else-content-eq-GREATEST_BOOT-clause-asked : goal.returns-else-content-eq-GREATEST_BOOT-clause-asked
+returns-else-content-eq-GREATEST_BOOT-clause-asked c =
     let slots = c.args.slots.now.slots in
     let f = c.fields-content.result.now in
     let image = image_of slots c.args.replies.now in
-    let b = any_base f c.args.sessions.now.sessions in
-    let shows = shows_replies slots c.args.replies.now in
-    let one = version_one c.args.slots.now.start c.args.found.now.content c.requires.start in
-    let starts = any_starts c.args.layout.now c.args.slots.now.start f c.args.found.now.content c.args.sessions.now.sessions c.requires.start c.fields-content.ensures.value (booted f c.args.found.now.content c.fields-content.ensures.value c.requires.version c.fields-content.ensures.usable.rules) in
-    let found = c.find_tail-tail.ensures.tail (any_shape c.args.layout.now) image b (record { version = one; table = c.requires.table; shows = shows_table slots c.args.replies.now }) starts in
-    let number = c.replies-stored.ensures image b.content found.tail shows refl refl (sym found.ends.mark) in
-    asked_on (any_shape c.args.layout.now) image f c.args.sessions.now.sessions c.find_tail-tail.new.sessions.sessions c.find_tail-tail.result c.replies-stored.result (subst IsSuper (sym c.fields-content.ensures.value) c.fields-content.ensures.usable.rules) found number
+    let found = c.in-Ok.ensures.reach (any_shape c.args.layout.now) image (any_base f c.args.sessions.now.sessions) (record { table = c.requires.table; shows = shows_table slots c.args.replies.now }) (any_is c.args.layout.now f c.args.sessions.now.sessions) in
+    let number = c.replies-stored.ensures image (any_base f c.args.sessions.now.sessions).content found.tail (shows_replies slots c.args.replies.now) refl refl (sym found.ends.mark) in
+    asked_on (any_shape c.args.layout.now) image f c.args.sessions.now.sessions c.find_known.new.sessions.sessions c.in-Ok.reach c.replies-stored.result (subst IsSuper (sym c.fields-content.ensures.value) c.fields-content.ensures.usable.rules) found number
 
-pub returns-in-None-clause-tracks : goal.returns-in-None-clause-tracks
-returns-in-None-clause-tracks c =
+pub returns-else-content-eq-GREATEST_BOOT-clause-tracks : goal.returns-else-content-eq-GREATEST_BOOT-clause-tracks
+returns-else-content-eq-GREATEST_BOOT-clause-tracks c =
     let slots = c.args.slots.now.slots in
     let f = c.fields-content.result.now in
     let image = image_of slots c.args.replies.now in
-    let b = any_base f c.args.sessions.now.sessions in
-    let shows = shows_replies slots c.args.replies.now in
-    let one = version_one c.args.slots.now.start c.args.found.now.content c.requires.start in
-    let starts = any_starts c.args.layout.now c.args.slots.now.start f c.args.found.now.content c.args.sessions.now.sessions c.requires.start c.fields-content.ensures.value (booted f c.args.found.now.content c.fields-content.ensures.value c.requires.version c.fields-content.ensures.usable.rules) in
-    let found = c.find_tail-tail.ensures.tail (any_shape c.args.layout.now) image b (record { version = one; table = c.requires.table; shows = shows_table slots c.args.replies.now }) starts in
-    let number = c.replies-stored.ensures image b.content found.tail shows refl refl (sym found.ends.mark) in
-    subst (λ (x : SuperFields). Tracks x.replies x.op (sessions_of c.args.sessions.now.sessions) → Tracks c.replies-stored.result c.find_tail-tail.result.op (sessions_of c.find_tail-tail.new.sessions.sessions)) c.fields-content.ensures.value
-    (tracks_on (any_shape c.args.layout.now) image f c.args.sessions.now.sessions c.find_tail-tail.new.sessions.sessions c.find_tail-tail.result c.replies-stored.result (subst IsSuper (sym c.fields-content.ensures.value) c.fields-content.ensures.usable.rules) found number)
+    let found = c.in-Ok.ensures.reach (any_shape c.args.layout.now) image (any_base f c.args.sessions.now.sessions) (record { table = c.requires.table; shows = shows_table slots c.args.replies.now }) (any_is c.args.layout.now f c.args.sessions.now.sessions) in
+    let number = c.replies-stored.ensures image (any_base f c.args.sessions.now.sessions).content found.tail (shows_replies slots c.args.replies.now) refl refl (sym found.ends.mark) in
+    subst (λ (x : SuperFields). Tracks x.replies x.op (sessions_of c.args.sessions.now.sessions) → Tracks c.replies-stored.result c.in-Ok.reach.tail.op (sessions_of c.find_known.new.sessions.sessions)) c.fields-content.ensures.value
+    (tracks_on (any_shape c.args.layout.now) image f c.args.sessions.now.sessions c.find_known.new.sessions.sessions c.in-Ok.reach c.replies-stored.result (subst IsSuper (sym c.fields-content.ensures.value) c.fields-content.ensures.usable.rules) found number)

@@ -12,12 +12,12 @@ loop-slot-preserved c =
     let put = c.plan_slot.ensures in
     record {
       within = omega (arith, c.loop-slot-test.true);
-      size = size_kept c.args.cluster c.args.found.now now.slot now.headers c.plan_slot.new.headers put.header ∙ now.invariant.size;
+      size = size_kept c.args.cluster c.args.found.now c.args.head now.slot now.headers c.plan_slot.new.headers put.header ∙ now.invariant.size;
       count = omega (arith, put.len, now.invariant.count);
       room = put.room ∙ now.invariant.room;
-      planned = planned_more c.args.cluster c.args.found.now now.slot now.headers c.plan_slot.new.headers (omega (arith, c.loop-slot-test.true, now.invariant.size)) now.invariant.planned put.header;
+      planned = planned_more c.args.cluster c.args.found.now c.args.head now.slot now.headers c.plan_slot.new.headers (omega (arith, c.loop-slot-test.true, now.invariant.size)) now.invariant.planned put.header;
       list = λ image tells.
-          let needs = needs_header c.args.layout.now c.args.found.now.start image in
+          let needs = needs_header c.args.layout.now c.args.found.now.start c.args.head image in
           let classes = shown_class c.args.found.now in
           put.list c.args.layout.now image tells ∙ ap (λ (xs : List Mend). xs ++ if_wanted (needs now.slot) (slot_mend classes now.slot)) (now.invariant.list image tells)
           ∙ append_assoc (copy_mends c.args.copies.now c.args.members.now) (slot_mends needs classes now.slot) (if_wanted (needs now.slot) (slot_mend classes now.slot))
@@ -27,15 +27,15 @@ loop-slot-preserved c =
 pub returns-clause-table : goal.returns-clause-table
 returns-clause-table c =
     let all : c.loop-slot.slot ≡ c.args.layout.now.slots = omega (arith, c.loop-slot.invariant.within, c.loop-slot-test.false) in
-    planned_table c.args.layout.now c.args.cluster c.args.found.now c.loop-slot.headers c.requires.named c.ranges.cluster.fits c.requires.slots c.loop-slot.invariant.size
-    (subst (λ (k : ℕ). ArePlanned c.args.cluster c.args.found.now k c.loop-slot.headers) all c.loop-slot.invariant.planned)
+    planned_table c.args.layout.now c.args.cluster c.args.found.now c.args.head c.loop-slot.headers c.requires.named c.ranges.cluster.fits c.requires.slots c.loop-slot.invariant.size
+    (subst (λ (k : ℕ). ArePlanned c.args.cluster c.args.found.now c.args.head k c.loop-slot.headers) all c.loop-slot.invariant.planned)
 
 pub returns-clause-tells : goal.returns-clause-tells
 returns-clause-tells c = λ sh image v is.
     let all : c.loop-slot.slot ≡ c.args.layout.now.slots = omega (arith, c.loop-slot.invariant.within, c.loop-slot-test.false) in
-    plan_tells c.args.layout.now sh image v c.args.found.now is c.args.cluster c.loop-slot.headers c.loop-slot.invariant.size (subst (λ (k : ℕ). ArePlanned c.args.cluster c.args.found.now k c.loop-slot.headers) all c.loop-slot.invariant.planned)
+    plan_tells c.args.layout.now sh image v c.args.found.now c.args.head is c.args.cluster c.loop-slot.headers c.loop-slot.invariant.size (subst (λ (k : ℕ). ArePlanned c.args.cluster c.args.found.now c.args.head k c.loop-slot.headers) all c.loop-slot.invariant.planned)
 
 pub returns-clause-whole : goal.returns-clause-whole
 returns-clause-whole c = λ sh image v is distinct.
     let all : c.loop-slot.slot ≡ c.args.layout.now.slots = omega (arith, c.loop-slot.invariant.within, c.loop-slot-test.false) in
-    plan_whole c.args.layout.now sh image v c.args.found.now is c.args.cluster c.loop-slot.headers (subst (λ (k : ℕ). ArePlanned c.args.cluster c.args.found.now k c.loop-slot.headers) all c.loop-slot.invariant.planned) distinct
+    plan_whole c.args.layout.now sh image v c.args.found.now c.args.head is c.args.cluster c.loop-slot.headers (subst (λ (k : ℕ). ArePlanned c.args.cluster c.args.found.now c.args.head k c.loop-slot.headers) all c.loop-slot.invariant.planned) distinct

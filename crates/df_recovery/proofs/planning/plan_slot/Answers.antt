@@ -10,4 +10,4 @@ returns-clause-list c = λ layout image tells.
     let of = op_in_is layout op c.args.slot (omega (arith, c.requires.slot, tells.table.size)) in
     c.list_slot.ensures.list
     ∙ ap (λ (b : Bool). c.args.mends.now.items ++ if_wanted b (slot_mend (shown_class c.args.found.now) c.args.slot))
-    (c.is_mended.ensures ∙ ap is_mended (c.decision-decision.ensures.model layout image (op_in layout.slots op c.args.slot) tells of))
+    (c.is_mended.ensures ∙ ap is_mended (c.planned-decision.ensures.model layout image (op_in layout.slots op c.args.slot) tells of))

@@ -10,4 +10,4 @@ returns-in-Ok-clause-refused g c = fault_refuses c.args.rooms.layout c.args.copi
 pub returns-in-Err-clause-refused : goal.returns-in-Err-clause-refused
 returns-in-Err-clause-refused g c =
     refuses_base c.args.rooms.layout c.args.copies.now.found.content (g.D.Disk.told c.args.disk.now) c.in-Err.unread.error _ c.in-Err.ensures.unread.tells
-    (record { layout_is = refl; cluster_is = ap (λ (f : SuperFields). f.cluster) c.fields.ensures.value })
+    (record { layout_is = refl; cluster_is = ap (λ (f : SuperFields). f.cluster) c.fields.ensures.value; version_is = ap (λ (f : SuperFields). f.version) c.fields-2.ensures.value })

@@ -8,13 +8,8 @@ use Rattle.notes.proofs.Shows.{shows_more, shows_none}
 use Rattle.notes.proofs.printing.print_notes.Goals as goal
 
 pub loop-before-init : goal.loop-before-init
-loop-before-init g c = record {
-  shown = shows_none c.args.replica.now _ _ _ (ap (λ (s : Summary). s.checkpoint_op) c.summary-summary.ensures);
-  kept = refl;
-  same = refl;
-  disk_faults = refl;
-  sink_faults = refl;
-}
+loop-before-init g c =
+    record { shown = shows_none c.args.replica.now _ _ _ (ap (λ (s : Summary). s.checkpoint_op) c.summary-summary.ensures); kept = refl; same = refl; disk_faults = refl; sink_faults = refl }
 
 pub loop-before-preserved : goal.loop-before-preserved
 loop-before-preserved g c =

@@ -24,6 +24,7 @@ invariant_of-self c =
       state = record {
         cluster = old.cluster;
         parent = c.requires.sum;
+        version = old.version;
         plain = old.plain;
         sequence = old.sequence;
         root = old.root;

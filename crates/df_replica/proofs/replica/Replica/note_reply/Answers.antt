@@ -16,6 +16,7 @@ invariant_of-self c =
       state = record {
         cluster = old.cluster;
         parent = old.parent;
+        version = old.version;
         plain = old.plain;
         sequence = old.sequence;
         root = old.root;

@@ -8,13 +8,13 @@ use Rattle.df_replies.proofs.Stored.{lacking_class, lacking_within, lacks_shown}
 use Rattle.df_replies.proofs.table.ReplyTable.first_lacking.Goals as goal
 
 pub returns-clause-lacks : goal.returns-clause-lacks
-returns-clause-lacks c = λ image content shows own names. lacks_shown c.args.boot image content c.args.self.now c.args.sessions.now.sessions c.args.stored shows own names c.first_lacking.result
-    (subst (λ (l : List (Result Header Class)). LacksHere c.args.boot c.args.sessions.now.sessions c.args.stored l c.first_lacking.result) (c.deref.ensures.value ∙ c.self.view_is) c.first_lacking.ensures)
+returns-clause-lacks c = λ image shows. lacks_shown c.args.fields.now image c.args.self.now c.args.sessions.now.sessions c.args.stored shows c.first_lacking.result
+    (subst (λ (l : List (Result Header Class)). LacksHere c.args.fields.now c.args.sessions.now.sessions c.args.stored l c.first_lacking.result) (c.deref.ensures.value ∙ c.self.view_is) c.first_lacking.ensures)
 
 pub returns-clause-class : goal.returns-clause-class
-returns-clause-class c = lacking_class c.args.boot c.args.sessions.now.sessions c.args.stored c.args.self.now c.first_lacking.result
-    (subst (λ (l : List (Result Header Class)). LacksHere c.args.boot c.args.sessions.now.sessions c.args.stored l c.first_lacking.result) (c.deref.ensures.value ∙ c.self.view_is) c.first_lacking.ensures)
+returns-clause-class c = lacking_class c.args.fields.now c.args.sessions.now.sessions c.args.stored c.args.self.now c.first_lacking.result
+    (subst (λ (l : List (Result Header Class)). LacksHere c.args.fields.now c.args.sessions.now.sessions c.args.stored l c.first_lacking.result) (c.deref.ensures.value ∙ c.self.view_is) c.first_lacking.ensures)
 
 pub returns-clause-within : goal.returns-clause-within
-returns-clause-within c = lacking_within c.args.boot c.args.sessions.now.sessions c.args.stored c.args.self.now c.first_lacking.result
-    (subst (λ (l : List (Result Header Class)). LacksHere c.args.boot c.args.sessions.now.sessions c.args.stored l c.first_lacking.result) (c.deref.ensures.value ∙ c.self.view_is) c.first_lacking.ensures)
+returns-clause-within c = lacking_within c.args.fields.now c.args.sessions.now.sessions c.args.stored c.args.self.now c.first_lacking.result
+    (subst (λ (l : List (Result Header Class)). LacksHere c.args.fields.now c.args.sessions.now.sessions c.args.stored l c.first_lacking.result) (c.deref.ensures.value ∙ c.self.view_is) c.first_lacking.ensures)

@@ -1,0 +1,17 @@
+-- One more slot.
+use Rattle.std.proofs.Common.{◌≡◌, ◌∙◌, ap, sym, length, subst, arith}
+use Rattle.df_journal.specs.Counts.{binding_op, in_boot}
+use Rattle.df_journal.specs.Scan.{Scan}
+use Rattle.df_journal.specs.Shows.{ShowsTable}
+use Rattle.df_journal.proofs.Counted.{IsTopOf, bound_count, bound_turn}
+use Rattle.df_journal.proofs.counts.bound_top.Goals as goal
+
+pub loop-slot-preserved : goal.loop-slot-preserved
+loop-slot-preserved c = bound_turn c.args.boot c.args.top c.deref-slot-items.result.now c.loop-slot.slot-index c.loop-slot.greatest c.raised.result c.raised_bound-greatest.result _ _ c.loop-slot-test.true c.raised.ensures c.raised_bound-greatest.ensures c.loop-slot.invariant
+
+pub returns : goal.returns
+returns c = λ image shows.
+    let items = c.deref-slot-items.result.now in
+    let same : items ≡ c.args.found.now.slots = c.deref-slot-items.ensures.value ∙ ap (λ (scan : Scan). scan.slots) c.found.view_is in
+    let all : c.loop-slot.slot-index ≡ length items = omega (arith, c.loop-slot-test.false, c.loop-slot.auto.slot-index-end) in
+    bound_count c.args.boot c.args.top items c.loop-slot.greatest image (subst (λ n. IsTopOf (in_boot c.args.boot (λ h. h.op)) (binding_op c.args.boot c.args.top) items n c.loop-slot.greatest) all c.loop-slot.invariant) (subst (ShowsTable image) (sym same) shows)

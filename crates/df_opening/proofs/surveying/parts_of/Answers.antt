@@ -1,0 +1,72 @@
+-- The parts make sense by themselves: what was found is in its ranges, and the table is one of the file.
+use Rattle.std.proofs.Common.{◌≡◌, ◌∙◌, ℕ, ap, refl, sym, arith, ◌<◌, ◌^◌, subst}
+use Rattle.std.specs.Prelude.{None, false}
+use Rattle.df_format.specs.SuperRules.{IsUsable}
+use Rattle.df_damage.specs.Below.{ScrubState}
+use Rattle.df_damage.proofs.Laws.{plain_super}
+use Rattle.df_opening.proofs.surveying.parts_of.Goals as goal
+
+pub returns-clause-found : goal.returns-clause-found
+returns-clause-found c =
+    let found = c.requires.found in
+    let f = c.args.surveyed.scanned.copies.found.content in
+    let usable : IsUsable f = c.fields-fields.ensures.usable in
+    let cluster = subst (λ (n : ℕ). n < 2 ^ 128) (sym found.read.named) usable.fits.cluster in
+    record {
+      whole = record {
+        state = record {
+          cluster = cluster;
+          version = sym found.read.version;
+          parent = found.ends.checksum;
+          plain = plain_super f (sym found.read.version ∙ c.requires.version) usable;
+          sequence = usable.rules.sequence;
+          root = c.root_fits.ensures;
+          order = found.ends.from;
+          room = found.ends.within;
+          head_to = found.ends.most;
+          waiting = found.waiting;
+          few = omega (arith, found.waiting, found.ends.few);
+          places = found.read.places;
+          first = λ zero_head. found.ends.empty (omega (arith, found.ends.from, zero_head)) ∙ usable.rules.op_checksum (omega (arith, found.ends.from, zero_head));
+          requests = found.sessions.numbered;
+          asked = found.sessions.asked;
+          tracks = found.sessions.tracks;
+          ring = c.requires.planned.is_table;
+          course = found.read.idle;
+        };
+        rooms_fit = c.args.surveyed.scanned.log_fits;
+        grid_fits = c.args.surveyed.scanned.grid_fits;
+        grid_named = c.args.surveyed.scanned.grid_named;
+        grid_unbooted = c.args.surveyed.scanned.grid_unbooted;
+        trailer_fits = c.args.surveyed.scanned.trailer_fits;
+        scrub_fits = c.cleared-scrub.ensures.layout ∙ c.args.surveyed.scanned.scrub_fits;
+      };
+      dead = refl;
+      idle = refl;
+      fresh = c.cleared-scrub.ensures.cleared;
+    }
+
+pub returns-clause-seen : goal.returns-clause-seen
+returns-clause-seen c =
+    let s = c.args.surveyed.scanned in
+    let traces = c.args.surveyed.traces in
+    ap (λ (x : ScrubState). record {
+      state = record {
+        file = s.file;
+        fields = s.copies.found.content;
+        root = s.root.items;
+        head = traces.tail.op;
+        head_checksum = traces.tail.checksum;
+        replies = traces.replies;
+        table = s.sessions;
+        waiting = c.args.surveyed.waiting.items;
+        headers = s.log.headers;
+        blocks = s.grid.blocks;
+        running = None;
+        tour = x.tour;
+        findings = x.findings;
+        live = false;
+      };
+      chosen = s.copies.found.chosen;
+      mends = s.log.mends.items;
+    }) c.cleared-scrub.ensures.cleared

@@ -1,0 +1,49 @@
+-- What is found of a file that was read is the answer to an open.
+use Rattle.std.proofs.Common.{refl, ◌∙◌, subst, sym}
+use Rattle.df_theory.specs.Sessions.{Tracks}
+use Rattle.df_recovery.specs.Below.{AreAsked}
+use Rattle.df_recovery.specs.declared.scanned.Scanned.{Scanned}
+use Rattle.df_recovery.proofs.Settled.{numbered_by, opened, refused}
+use Rattle.df_recovery.proofs.surveying.settle.Goals as goal
+
+pub with_plan-requires-clause-scanned : goal.with_plan-requires-clause-scanned
+with_plan-requires-clause-scanned c =
+    let scan = c.requires.scanned in
+    record {
+      named = scan.named;
+      version = scan.version;
+      size = scan.size;
+      start = scan.start;
+      slots = scan.slots;
+      places = c.store_replies.ensures.places ∙ c.in-Ok.ensures.places ∙ scan.places;
+      idle = scan.idle;
+    }
+
+pub with_plan-requires-clause-tail : goal.with_plan-requires-clause-tail
+with_plan-requires-clause-tail c =
+    let found = c.in-Ok.ensures in
+    record { checksum = found.checksum; empty = found.start; from = found.ring.0; within = found.ring.1; most = found.most; order = found.order; few = found.few }
+
+pub with_plan-requires-clause-sessions : goal.with_plan-requires-clause-sessions
+with_plan-requires-clause-sessions c =
+    let same = c.store_replies.ensures.stored.requests in
+    record {
+      numbered = numbered_by c.find_state-found.new.sessions.sessions c.store_replies.new.sessions.sessions same (c.in-Ok.ensures.numbered c.requires.sessions.numbered);
+      asked = subst AreAsked (sym same) (c.in-Ok.ensures.asked c.requires.sessions.asked);
+      tracks = subst (Tracks c.in-Ok.traces.replies c.in-Ok.traces.tail.op) (sym same) (c.in-Ok.ensures.tracks c.requires.sessions.tracks);
+    }
+
+pub returns-in-Ok-clause-kept : goal.returns-in-Ok-clause-kept
+returns-in-Ok-clause-kept c = let keeps = c.with_plan.ensures.kept in record { file = keeps.file; copies = keeps.copies; slots = keeps.slots }
+
+pub returns-in-Ok-clause-answer : goal.returns-in-Ok-clause-answer
+returns-in-Ok-clause-answer c = λ t is.
+    let keeps = c.with_plan.ensures.kept in
+    let settled : Scanned = record c.args.scanned { sessions = c.store_replies.new.sessions } in
+    opened t c.args.scanned is c.in-Ok.traces c.find_state-found.new.sessions.sessions settled c.with_plan.result c.in-Ok.ensures.answer (c.in-Ok.ensures.unstored c.requires.sessions.unstored) c.store_replies.ensures.stored
+    (record { file = refl; copies = refl; slots = refl }) refl refl
+    (record { file = keeps.file; copies = keeps.copies; root = keeps.root; blocks = keeps.blocks; slots = keeps.slots; sessions = keeps.sessions })
+    c.with_plan.ensures.traces c.with_plan.ensures.waiting c.with_plan.ensures.planned
+
+pub returns-in-Err-clause-answer : goal.returns-in-Err-clause-answer
+returns-in-Err-clause-answer c = λ t is. refused t c.args.scanned is c.in-Err.refusal c.in-Err.ensures.answer

@@ -1,0 +1,25 @@
+-- The prepares that a superblock names, as an open finds them behind its checkpoint: all of them fit, or one of them is blamed.
+use Rattle.std.specs.Prelude.{◌≡◌, ◌⊎◌, ◌+◌, ◌%◌, ℕ, List, length}
+use Rattle.df_layout.specs.declared.layout.Layout.{Layout}
+use Rattle.df_format.specs.Copies.{content_with}
+use Rattle.df_format.specs.declared.superblock.SuperFields.{SuperFields}
+use Rattle.df_sessions.specs.declared.session.Session.{Session}
+use Rattle.df_sessions.specs.Requests.{sessions_of}
+use Rattle.df_theory.specs.Units.{Message, Units}
+use Rattle.df_theory.specs.Shape.{Shape, clients, slots}
+use Rattle.df_theory.specs.Opens.{IsUnfit, LacksKnown}
+use Rattle.df_theory.specs.View.{Checkpoint}
+use Rattle.df_units.specs.Meaning.{content_of}
+
+-- the checkpoint of a superblock with these fields and sessions, in a file of this layout
+pub record IsBaseOf (sh : Shape) (b : Checkpoint) (layout : Layout) (f : SuperFields) (sessions : List Session) : Type 0 where
+  pub slots_are : slots sh ≡ layout.slots
+  pub clients_are : clients sh ≡ layout.clients
+  pub content_is : b.content ≡ content_of (content_with f)
+  pub sessions_are : b.parts.sessions ≡ sessions_of sessions
+
+-- the greatest named op whose prepare isn't shown has this slot, or, where each is shown, the least one that doesn't fit
+abbrev pub BlamesKnown : Shape → Units → Checkpoint → ℕ → Type 0
+BlamesKnown sh image b slot =
+    ((a : ℕ) × (slot ≡ a % slots sh) × LacksKnown sh image b.content a)
+    ⊎ ((front : List Message) × (slot ≡ (b.content.op + length front + 1) % slots sh) × IsUnfit sh image b front)

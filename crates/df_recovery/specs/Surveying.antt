@@ -1,0 +1,183 @@
+-- What a survey of a file answers where a version is asked for, and what is to be mended.
+use Rattle.std.specs.Prelude.{◌≡◌, ◌≤◌, ◌+◌, ◌^◌, ℕ, Bool, false, not, List, [], ◌++◌, length, map, get_or, Option, Some, None, Result, Ok, Err}
+use Rattle.std.specs.List.{filter, range_with_len}
+use Rattle.df_base.specs.Image.{Image, IsImage}
+use Rattle.df_disk.specs.Told.{Told}
+use Rattle.df_layout.specs.declared.damage.Mend.{Mend}
+use Rattle.df_layout.specs.declared.layout.Layout.{Layout}
+use Rattle.df_layout.specs.declared.places.Zone.TheVariants.{Superblock, WalHeaders}
+use Rattle.df_format.specs.Own.{place_in}
+use Rattle.df_format.specs.Shown.{class_at}
+use Rattle.df_format.specs.declared.header.Header.{Header}
+use Rattle.df_format.specs.declared.superblock.SuperFields.{SuperFields}
+use Rattle.df_format.specs.Spelling.{IsCheck}
+use Rattle.df_quorum.specs.declared.slot.Slot.{Slot}
+use Rattle.df_headers.specs.Ring.{IsTable}
+use Rattle.df_journal.specs.Scan.{Scan}
+use Rattle.df_journal.specs.Scanned as rings
+use Rattle.df_journal.specs.Shows.{IsTable as AreSlots, TellsRings}
+use Rattle.df_journal.specs.Tail.{AreNumbered}
+use Rattle.df_grid.specs.Table.{IsIdle}
+use Rattle.df_model.specs.Work.{first_tour}
+use Rattle.df_model.specs.declared.errors.OpenError.{OpenError}
+use Rattle.df_sessions.specs.Requests.{sessions_of}
+use Rattle.df_sessions.specs.declared.session.Session.{Session}
+use Rattle.df_superblock.specs.Calls.{slot_at}
+use Rattle.df_theory.specs.MendLaws.{IsTable as IsSlotTable}
+use Rattle.df_theory.specs.Sessions.{Tracks}
+use Rattle.df_theory.specs.Shape.{Shape}
+use Rattle.df_theory.specs.Units.{Units}
+use Rattle.df_theory.specs.View.{View}
+use Rattle.df_units.specs.Bytes.{unit_at}
+use Rattle.df_rooms.specs.State.{AreAsked, State}
+use Rattle.df_recovery.specs.Found.{IsChoiceOf, TellsFoundAs}
+use Rattle.df_recovery.specs.Plan.{AreDistinct, IsScanOf, OthersAreShown, class_of_slot, headers_in, mend_list, needs_header, slot_mends}
+use Rattle.df_recovery.specs.Scanning.{AreCopies, IsFileOf}
+use Rattle.df_recovery.specs.Starting.{start_of}
+use Rattle.df_recovery.specs.Surveys.{SurveysAs}
+use Rattle.df_recovery.specs.declared.finding.Traces.{Traces}
+use Rattle.df_recovery.specs.declared.scanned.Scanned.{Scanned}
+use Rattle.df_recovery.specs.declared.surveying.Surveyed.{Surveyed}
+
+-- ---- what was read makes sense by itself, whatever the disk tells
+
+pub record IsLawful (s : Scanned) : Type 0 where
+  -- the file has the superblock's cluster, and its version
+  pub named : s.file.cluster ≡ s.copies.found.content.cluster
+  pub version : s.file.version ≡ s.copies.found.content.version
+  -- it has the superblock's slots
+  pub size : s.copies.found.content.slots ≡ s.file.layout.slots
+  -- the scan started behind the superblock
+  pub start : s.log.slots.start ≡ start_of s.copies.found.content
+  -- each slot has units that may stand there
+  pub slots : AreSlots s.file.layout s.file.cluster s.log.slots.slots
+  -- there are as many places for sessions as the layout has clients
+  pub places : s.sessions.max ≡ s.file.layout.clients
+  -- no checkpoint runs
+  pub idle : IsIdle s.grid.blocks
+
+-- the end of the tail behind a superblock is in its ranges
+pub record EndsBehind (layout : Layout) (f : SuperFields) (traces : Traces) : Type 0 where
+  -- its checksum is one
+  pub checksum : IsCheck traces.tail.checksum
+  -- of an empty tail it is the checkpoint's
+  pub empty : traces.tail.op ≡ f.op → traces.tail.checksum ≡ f.op_checksum
+  -- the tail begins behind the checkpoint
+  pub from : f.op ≤ traces.tail.op
+  -- it has no more prepares than the ring has slots
+  pub within : traces.tail.op ≤ f.op + layout.slots
+  -- its op is at most the greatest one
+  pub most : traces.tail.op ≤ 2 ^ 62
+  -- no reply is stored of a later op
+  pub order : traces.replies ≤ traces.tail.op
+  -- at most eight prepares wait for their replies
+  pub few : traces.tail.op ≤ traces.replies + 8
+
+-- the sessions after the tail make sense by themselves
+pub record AreAfter (traces : Traces) (sessions : List Session) : Type 0 where
+  -- each session's request is within its limit
+  pub numbered : AreNumbered sessions
+  -- it is a client's first or a later one
+  pub asked : AreAsked (sessions_of sessions)
+  -- each op that waits has its session, and no two sessions have one op
+  pub tracks : Tracks traces.replies traces.tail.op (sessions_of sessions)
+
+-- a surveyed file makes sense by itself
+pub record IsWellFound (s : Surveyed) : Type 0 where
+  pub read : IsLawful s.scanned
+  pub ends : EndsBehind s.scanned.file.layout s.scanned.copies.found.content s.traces
+  pub sessions : AreAfter s.traces s.scanned.sessions.sessions
+  pub waiting : s.traces.replies + length s.waiting.items ≡ s.traces.tail.op
+
+-- the same file was read, of which the headers and the list in the rooms may differ
+pub record KeepsRead (before after : Scanned) : Type 0 where
+  pub file : after.file ≡ before.file
+  pub copies : after.copies ≡ before.copies
+  pub root : after.root ≡ before.root
+  pub blocks : after.grid.blocks ≡ before.grid.blocks
+  pub slots : after.log.slots ≡ before.log.slots
+  pub sessions : after.sessions ≡ before.sessions
+
+-- and of which the sessions may differ, too
+pub record KeepsFile (before after : Scanned) : Type 0 where
+  pub file : after.file ≡ before.file
+  pub copies : after.copies ≡ before.copies
+  pub slots : after.log.slots ≡ before.log.slots
+
+-- of a disk, what was read of the copies and of the rings, whatever sessions are kept
+pub record IsReadOf (version : ℕ) (layout : Layout) (told : Option Told) (s : Scanned) : Type 0 where
+  -- the file has the layout, and its superblock's cluster and version
+  pub file : IsFileOf layout s.copies.found.content s.file
+  -- the places of its superblock were read
+  pub copies : AreCopies version told s.copies
+  -- which is the one that the disk shows
+  pub found : TellsFoundAs version told (Ok s.copies.found)
+  -- the scan started behind it
+  pub start : s.log.slots.start ≡ start_of s.copies.found.content
+  -- the table has what the rings show
+  pub rings_are : rings.IsScanned layout told s.log.slots
+
+-- ---- the answer
+
+-- what is kept of a surveyed file: a state on which no call may be made yet
+abbrev pub state_found : Surveyed → State
+state_found s = record {
+  file = s.scanned.file;
+  fields = s.scanned.copies.found.content;
+  root = s.scanned.root.items;
+  head = s.traces.tail.op;
+  head_checksum = s.traces.tail.checksum;
+  replies = s.traces.replies;
+  table = s.scanned.sessions;
+  waiting = s.waiting.items;
+  headers = s.scanned.log.headers;
+  blocks = s.scanned.grid.blocks;
+  running = None;
+  tour = first_tour;
+  findings = [];
+  live = false;
+}
+
+-- the state that was found, or the refusal
+abbrev pub answer_of : {R : Type 0} → Result Surveyed (R × OpenError) → Result State OpenError
+answer_of (Ok s) = Ok (state_found s)
+answer_of (Err refused) = Err refused.1
+
+-- it is that of what the disk shows, where it tells that and its sectors are whole
+abbrev pub TellsSurveyAs : ℕ → Layout → Option Told → Result State OpenError → Type 0
+TellsSurveyAs version layout None result = Unit {0}
+TellsSurveyAs version layout (Some t) result = IsImage t.shown → SurveysAs version layout t.shown result
+
+-- ---- what is to be mended
+
+-- the table and the list are planned from a scan with this head, what the places of the copies show and which of them are members
+pub record ArePlannedFrom (layout : Layout) (cluster : ℕ) (scan : Scan) (top : ℕ) (copies : List Slot) (members : List Bool) (table : List Header) (mends : List Mend) : Type 0 where
+  pub is_table : IsTable layout cluster table
+  pub from : (sh : Shape) (image : Units) (v : View) → IsScanOf layout sh image v scan top → IsSlotTable sh image v (headers_in table)
+  pub others : (sh : Shape) (image : Units) (v : View) → IsScanOf layout sh image v scan top → AreDistinct image → OthersAreShown layout scan.start top image (headers_in table)
+  pub list : (image : Units) → TellsRings layout image scan → mends ≡ mend_list layout scan top image copies members
+
+-- those of a surveyed file are
+abbrev pub IsPlannedFor : Surveyed → Type 0
+IsPlannedFor s =
+    ArePlannedFrom s.scanned.file.layout s.scanned.file.cluster s.scanned.log.slots s.traces.tail.op s.scanned.copies.slots s.scanned.copies.found.chosen.members s.scanned.log.headers s.scanned.log.mends.items
+
+-- a copy with the class of what its place shows: a sound copy of its own place is a stale one
+abbrev pub copy_mend_at : Image → ℕ → Mend
+copy_mend_at image number = record { place = place_in Superblock number; class = class_of_slot (slot_at image number) }
+
+-- what is to be mended of an image in which this head is found: the copies that aren't members, by number, then the header slots whose decision says so, in order, each with the class of what is shown there
+abbrev pub mends_of : Layout → Image → SuperFields → (top : ℕ) → List Bool → List Mend
+mends_of layout image f top members =
+    map (copy_mend_at image) (filter (λ n. not (get_or members n false)) (range_with_len 0 4))
+    ++ slot_mends (needs_header layout (start_of f) top (unit_at layout f.cluster image)) (λ s. class_at layout f.cluster image (place_in WalHeaders s)) layout.slots
+
+-- the choice is the image's, and the list is what is to be mended of it
+pub record IsMendable (layout : Layout) (image : Image) (s : Surveyed) : Type 0 where
+  pub choice : IsChoiceOf image s.scanned.copies.found.chosen
+  pub mends : s.scanned.log.mends.items ≡ mends_of layout image s.scanned.copies.found.content s.traces.tail.op s.scanned.copies.found.chosen.members
+
+-- of what a disk shows, where it tells that and its sectors are whole
+abbrev pub TellsMends : Layout → Option Told → Surveyed → Type 0
+TellsMends layout None s = Unit {0}
+TellsMends layout (Some t) s = IsImage t.shown → IsMendable layout t.shown s

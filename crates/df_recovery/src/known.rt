@@ -1,0 +1,106 @@
+// The prepares that a superblock names: they are looked for by their checksums, and then the tail is walked.
+ghost use Rattle.std.specs.Prelude.{◌≡◌, ◌≤◌, ◌<◌, ◌+◌, ◌^◌, IfOk, IfErr};
+ghost use Rattle.df_format.specs.SuperRules.{IsUsable};
+ghost use Rattle.df_journal.specs.Known.{AllKnown};
+ghost use Rattle.df_journal.specs.Shows.{IsTable, TellsRings};
+ghost use Rattle.df_journal.specs.Tail.{IsReached};
+ghost use Rattle.df_recovery.specs.Below.{AreNumbered, AreUnstored, Checkpoint, IsCheck, Shape, Units, pin_checksum_of, pin_of};
+ghost use Rattle.df_recovery.specs.Known.{BlamesKnown, IsBaseOf};
+ghost use Rattle.df_recovery.specs.Starting.{start_of};
+
+use df_base::Check;
+use df_format::SuperFields;
+use df_journal::{Reach, SlotTable, find_reach, lacking_known, slot_of};
+use df_layout::Layout;
+use df_sessions::SessionTable;
+
+/// The greatest op whose prepare a superblock names: in version 2 its head, in any other its checkpoint's op.
+pub(crate) fn pin_of(fields: &SuperFields) -> u64
+    ensures { result ≡ pin_of fields.now }
+{
+    if fields.version == 2 {
+        fields.head
+    } else {
+        fields.op
+    }
+}
+
+// The checksum of that prepare.
+fn pin_checksum_of(fields: &SuperFields) -> Check
+    ensures { result ≡ pin_checksum_of fields.now }
+{
+    if fields.version == 2 {
+        fields.head_checksum
+    } else {
+        fields.op_checksum
+    }
+}
+
+// How far taken prepares go on behind the checkpoint of a superblock, where each prepare that it names is shown; or the slot of
+// the first one of these that doesn't fit.
+fn find_fitting(
+    layout: &Layout,
+    fields: &SuperFields,
+    slots: &SlotTable,
+    sessions: &mut SessionTable,
+) -> Result<Reach, u32>
+    requires table { IsTable layout.now slots.now.start.cluster slots.now.slots }
+    requires start { slots.now.start ≡ start_of fields.now }
+    requires rules { IsUsable fields.now }
+    requires size { fields.now.slots ≡ layout.now.slots }
+    requires places { sessions.old.max ≡ layout.now.clients }
+    ensures reach { IfOk result (λ reach. (sh : Shape) (image : Units) (b : Checkpoint) → TellsRings layout.now image slots.now → IsBaseOf sh b layout.now fields.now sessions.old.sessions → AllKnown sh image b.content → IsReached sh image b reach sessions.new.sessions) }
+    ensures unfit { IfErr result (λ slot. (sh : Shape) (image : Units) (b : Checkpoint) → TellsRings layout.now image slots.now → IsBaseOf sh b layout.now fields.now sessions.old.sessions → AllKnown sh image b.content → BlamesKnown sh image b slot) }
+    ensures slot { IfErr result (λ slot. slot < layout.now.slots) }
+    ensures from { IfOk result (λ reach. fields.now.op ≤ reach.tail.op) }
+    ensures order { IfOk result (λ reach. reach.tail.op ≤ reach.op) }
+    ensures within { IfOk result (λ reach. reach.op ≤ fields.now.op + layout.now.slots) }
+    ensures most { IfOk result (λ reach. reach.op ≤ 2 ^ 62) }
+    ensures checksum { IfOk result (λ reach. IsCheck reach.tail.checksum) }
+    ensures first { IfOk result (λ reach. reach.tail.op ≡ fields.now.op → reach.tail.checksum ≡ fields.now.op_checksum) }
+    ensures places { sessions.new.max ≡ sessions.old.max }
+    ensures unstored { AreUnstored sessions.old.sessions → AreUnstored sessions.new.sessions }
+    ensures numbered { AreNumbered sessions.old.sessions → AreNumbered sessions.new.sessions }
+{
+    let reach = find_reach(layout, slots, &fields.op_checksum, sessions);
+    let pin = pin_of(fields);
+    if reach.op < pin {
+        Err(slot_of(layout, reach.op + 1))
+    } else {
+        Ok(reach)
+    }
+}
+
+/// How far taken prepares go on behind the checkpoint of a superblock; the sessions, at first the checkpoint's, become those after
+/// the tail. Or the slot of the first prepare that an open refuses: of those that the superblock names the one of the greatest op
+/// that isn't shown, or else that of the least one that doesn't fit.
+pub(crate) fn find_known(
+    layout: &Layout,
+    fields: &SuperFields,
+    slots: &SlotTable,
+    sessions: &mut SessionTable,
+) -> Result<Reach, u32>
+    requires table { IsTable layout.now slots.now.start.cluster slots.now.slots }
+    requires start { slots.now.start ≡ start_of fields.now }
+    requires rules { IsUsable fields.now }
+    requires size { fields.now.slots ≡ layout.now.slots }
+    requires places { sessions.old.max ≡ layout.now.clients }
+    ensures reach { IfOk result (λ reach. (sh : Shape) (image : Units) (b : Checkpoint) → TellsRings layout.now image slots.now → IsBaseOf sh b layout.now fields.now sessions.old.sessions → IsReached sh image b reach sessions.new.sessions) }
+    ensures blames { IfErr result (λ slot. (sh : Shape) (image : Units) (b : Checkpoint) → TellsRings layout.now image slots.now → IsBaseOf sh b layout.now fields.now sessions.old.sessions → BlamesKnown sh image b slot) }
+    ensures slot { IfErr result (λ slot. slot < layout.now.slots) }
+    ensures from { IfOk result (λ reach. fields.now.op ≤ reach.tail.op) }
+    ensures order { IfOk result (λ reach. reach.tail.op ≤ reach.op) }
+    ensures within { IfOk result (λ reach. reach.op ≤ fields.now.op + layout.now.slots) }
+    ensures most { IfOk result (λ reach. reach.op ≤ 2 ^ 62) }
+    ensures checksum { IfOk result (λ reach. IsCheck reach.tail.checksum) }
+    ensures first { IfOk result (λ reach. reach.tail.op ≡ fields.now.op → reach.tail.checksum ≡ fields.now.op_checksum) }
+    ensures places { sessions.new.max ≡ sessions.old.max }
+    ensures unstored { AreUnstored sessions.old.sessions → AreUnstored sessions.new.sessions }
+    ensures numbered { AreNumbered sessions.old.sessions → AreNumbered sessions.new.sessions }
+{
+    let named = pin_checksum_of(fields);
+    match lacking_known(layout, slots, &named) {
+        Some(op) => Err(slot_of(layout, op)),
+        None => find_fitting(layout, fields, slots, sessions),
+    }
+}

@@ -1,0 +1,201 @@
+// The survey of a file of either version: what it shows is read, its state is found, and what is to be mended is listed. Nothing is
+// written.
+ghost use Rattle.std.specs.Prelude.{◌≡◌, ◌≤◌, ◌+◌, length, IfOk, IfErr};
+ghost use Rattle.df_journal.specs.Shows.{IsTable as AreSlots};
+ghost use Rattle.df_recovery.specs.Below.{IsBlamed, Told, is_open_fault};
+ghost use Rattle.df_recovery.specs.Checkpoints.{AreOfCheckpoint};
+ghost use Rattle.df_recovery.specs.Finding.{IsDamage, IsOfFile, read_of};
+ghost use Rattle.df_recovery.specs.Found.{Syncs};
+ghost use Rattle.df_recovery.specs.Scanning.{base_scanned, without_rooms};
+ghost use Rattle.df_recovery.specs.Surveying.{AreAfter, ArePlannedFrom, EndsBehind, IsLawful, IsPlannedFor, IsReadOf, IsWellFound, KeepsFile, KeepsRead, TellsMends, TellsSurveyAs, answer_of};
+ghost use Rattle.df_recovery.specs.Surveys.{SurveysAs};
+ghost use Rattle.df_recovery.specs.Waiting.{waiting_in};
+
+use crate::finding::{Traces, find_state};
+use crate::planning::plan;
+use crate::scanning::{Copies, scan_file};
+use crate::stored::store_replies;
+use crate::waiting::waiting_of;
+use crate::{OpenError, Scanned};
+use arrayvec::ArrayVec;
+use df_base::Check;
+use df_disk::Disk;
+use df_rooms::{DataFile, LogRooms, Rooms, rooms_of};
+
+/// A file that was surveyed: what was read of it, with the sessions and their stored replies behind the tail, and in its rooms the
+/// header that each slot of the header ring is to have and the list of what is to be mended; where the tail ends, how many replies
+/// are stored, and the checksums of the prepares that wait for theirs.
+#[derive(Drop)]
+pub struct Surveyed {
+    pub scanned: Scanned,
+    pub traces: Traces,
+    pub waiting: ArrayVec<Check, 8>,
+}
+
+// Plans the mending in the rooms, with the head that was found: the header that each slot is to have, and the list.
+fn plan_log(file: &DataFile, copies: &Copies, head: u64, rooms: &mut LogRooms)
+    requires layout { rooms.old.layout ≡ file.now.layout }
+    requires cluster { rooms.old.slots.start.cluster ≡ file.now.cluster }
+    requires slots { AreSlots file.now.layout file.now.cluster rooms.old.slots.slots }
+    ensures planned { ArePlannedFrom file.now.layout file.now.cluster rooms.new.slots head copies.now.slots copies.now.found.chosen.members rooms.new.headers rooms.new.mends.items }
+    ensures layout { rooms.new.layout ≡ file.now.layout }
+    ensures slots { rooms.new.slots ≡ rooms.old.slots }
+    ensures replies { rooms.new.replies ≡ rooms.old.replies }
+{
+    let layout = rooms.layout;
+    let members = copies.found.chosen.members;
+    plan(
+        &layout,
+        file.cluster,
+        &rooms.slots,
+        head,
+        &copies.slots,
+        &members,
+        &mut rooms.headers,
+        &mut rooms.mends,
+    );
+}
+
+// The checksums of the prepares that wait, by the tables of the rooms.
+fn waits_in(
+    file: &DataFile,
+    rooms: &LogRooms,
+    base: u64,
+    replies: u64,
+    head: u64,
+) -> ArrayVec<Check, 8>
+    requires layout { rooms.now.layout ≡ file.now.layout }
+    requires base { base ≡ rooms.now.slots.start.op }
+    requires order { replies ≤ head }
+    requires few { head ≤ replies + 8 }
+    ensures { result.items ≡ waiting_in file.now.layout.slots rooms.now.slots rooms.now.headers replies head }
+{
+    waiting_of(
+        &file.layout,
+        &rooms.slots,
+        &rooms.headers,
+        base,
+        replies,
+        head,
+    )
+}
+
+// The survey of a file whose state was found: of what was read, with the sessions after the tail and their stored replies.
+fn with_plan(traces: &Traces, scanned: Scanned) -> Surveyed
+    requires scanned { IsLawful scanned }
+    requires tail { EndsBehind scanned.file.layout scanned.copies.found.content traces.now }
+    requires sessions { AreAfter traces.now scanned.sessions.sessions }
+    ensures found { IsWellFound result }
+    ensures planned { IsPlannedFor result }
+    ensures traces { result.traces ≡ traces.now }
+    ensures kept { KeepsRead scanned result.scanned }
+    ensures waiting { result.waiting.items ≡ waiting_in scanned.file.layout.slots scanned.log.slots result.scanned.log.headers traces.now.replies traces.now.tail.op }
+{
+    let Scanned {
+        file,
+        copies,
+        mut log,
+        grid,
+        trailer,
+        scrub,
+        root,
+        sessions,
+    } = scanned;
+    plan_log(&file, &copies, traces.tail.op, &mut log);
+    let head = traces.tail.op;
+    let waiting = waits_in(
+        &file,
+        &log,
+        copies.found.content.fields().op,
+        traces.replies,
+        head,
+    );
+    let scanned = Scanned {
+        file,
+        copies,
+        log,
+        grid,
+        trailer,
+        scrub,
+        root,
+        sessions,
+    };
+    Surveyed {
+        scanned,
+        traces: *traces,
+        waiting,
+    }
+}
+
+// The survey of a file that was read: its state is found, and the mending planned.
+fn settle(scanned: Scanned) -> Result<Surveyed, (Rooms, OpenError)>
+    requires scanned { IsLawful scanned }
+    requires sessions { AreOfCheckpoint scanned.copies.found.content scanned.sessions.sessions }
+    ensures found { IfOk result IsWellFound }
+    ensures planned { IfOk result IsPlannedFor }
+    ensures answer { (t : Told) → IsOfFile t scanned.file (read_of scanned) (base_scanned scanned) → SurveysAs scanned.file.version scanned.file.layout t.shown (answer_of result) }
+    ensures kept { IfOk result (λ s. KeepsFile scanned s.scanned) }
+    ensures given_back { IfErr result (λ refused. refused.0.layout ≡ scanned.file.layout) }
+    ensures refusal { IfErr result (λ refused. IsDamage refused.1) }
+{
+    let Scanned {
+        file,
+        copies,
+        log,
+        grid,
+        trailer,
+        scrub,
+        root,
+        mut sessions,
+    } = scanned;
+    let found = find_state(
+        &file.layout,
+        &copies.found,
+        &log.slots,
+        &log.replies,
+        &mut sessions,
+    );
+    match found {
+        Ok(traces) => {
+            store_replies(&mut sessions, traces.replies, &log.replies);
+            let settled = Scanned {
+                file,
+                copies,
+                log,
+                grid,
+                trailer,
+                scrub,
+                root,
+                sessions,
+            };
+            Ok(with_plan(&traces, settled))
+        }
+        Err(refusal) => Err((rooms_of(file.layout, log, grid, trailer, scrub), refusal)),
+    }
+}
+
+/// What a file shows where this version is asked for, 1 or 2: its state, and what is to be mended before calls may work on it; or the
+/// first refusal of the order of open, and the rooms. It syncs once, then reads each copy of the superblock once, each block of the
+/// trailer that it names twice, and each sector of the header ring, each slot of the ring of prepares and each reply slot once, and
+/// writes nothing.
+pub fn survey_version<D: Disk>(
+    disk: &mut D,
+    rooms: Rooms,
+    version: u32,
+) -> Result<Surveyed, (Rooms, OpenError)>
+    ensures found { IfOk result IsWellFound }
+    ensures layout { IfOk result (λ s. s.scanned.file.layout ≡ rooms.layout) }
+    ensures version { IfOk result (λ s. s.scanned.file.version ≡ version) }
+    ensures given_back { IfErr result (λ refused. refused.0.layout ≡ rooms.layout) }
+    ensures answer { TellsSurveyAs version rooms.layout (D.told disk.old) (answer_of result) }
+    ensures read { IfOk result (λ s. IsReadOf version rooms.layout (D.told disk.old) s.scanned) }
+    ensures mends { IfOk result (TellsMends rooms.layout (D.told disk.old)) }
+    ensures planned { IfOk result IsPlannedFor }
+    ensures barrier { Syncs (D.told disk.old) (D.told disk.new) (without_rooms result) }
+    ensures cause { IsBlamed is_open_fault (D.faults disk.old) (D.faults disk.new) (without_rooms result) }
+{
+    match scan_file(disk, rooms, version) {
+        Ok(scanned) => settle(scanned),
+        Err(refused) => Err(refused),
+    }
+}
