@@ -11,7 +11,7 @@ use Rattle.df_journal.specs.Shows.{TellsRings}
 use Rattle.df_journal.specs.declared.table.Start.{Start}
 use Rattle.df_journal.proofs.Laws.{rings_shown}
 use Rattle.df_damage.proofs.Laws.{head_found}
-use Rattle.df_damage.specs.Below.{DataFile, State}
+use Rattle.df_damage.specs.Below.{State}
 use Rattle.df_damage.specs.Found.{IsFound}
 use Rattle.df_damage.specs.Surveying as recovered
 use Rattle.df_damage.specs.Surveying.{IsPlannedFor, IsReadOf, TellsSurveyAs, state_found}

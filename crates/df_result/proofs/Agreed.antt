@@ -1,5 +1,5 @@
 -- No command tells two things apart that a device may show and that agree: it answers the same and leaves the same, and what it leaves shown agrees.
-use Rattle.std.proofs.Common.{◌≡◌, ℕ, zero, suc, ◌+◌, ◌%◌, ◌<◌, ◌≤◌, ◌==◌, Bool, true, false, not, if◌then◌else◌, cond, List, [], ◌∷◌, length, Option, Some, None, Result, refl, ◌∙◌, ap, arith, mod-lt}
+use Rattle.std.proofs.Common.{◌≡◌, ℕ, zero, suc, ◌+◌, ◌%◌, ◌<◌, ◌≤◌, ◌==◌, Bool, true, false, if◌then◌else◌, cond, List, [], ◌∷◌, length, Option, Some, None, Result, refl, ◌∙◌, ap, arith, mod-lt}
 use Rattle.std.specs.Prelude.{nat_lt}
 use Rattle.std.specs.List.{filter, range_with_len}
 use Rattle.std.proofs.lemmas.Bool.{and_from, le-leb, lt-ltb, not-false}

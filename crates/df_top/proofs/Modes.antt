@@ -10,7 +10,7 @@ use Rattle.df_lines.proofs.Laws.{one_number}
 use Rattle.df_pace.specs.declared.pace.Pace.{Pace}
 use Rattle.df_top.specs.declared.mode.Mode.{Mode}
 use Rattle.df_top.specs.declared.mode.Mode.TheVariants.{Format, Run, Recover, Inspect, Scrub, Workload, Paced}
-use Rattle.df_top.specs.Mode.{HasNumbers, numbers_of, NamesLayout, Means, OneMeaning, SpellsFormat, SpellsPaced, SpellsWorkload}
+use Rattle.df_top.specs.Mode.{HasNumbers, numbers_of, NamesLayout, Means, OneMeaning, SpellsFormat, SpellsWorkload}
 use Rattle.df_top.proofs.Commas.{fit, from_message_size, from_clients, from_block_size, from_blocks, Five, one_five}
 
 -- what begins with digits begins with one

@@ -1,5 +1,5 @@
 -- What a piece of the loop's work comes to, by its answer.
-use Rattle.std.proofs.Common.{◌≡◌, ◌<◌, ℕ, Bool, true, false, if◌then◌else◌, List, Option, Some, None, Result, Ok, Err, inl, inr, refl, sym, ◌∙◌, ap, subst}
+use Rattle.std.proofs.Common.{◌≡◌, ◌<◌, ℕ, Bool, true, false, if◌then◌else◌, List, Option, Some, None, Ok, Err, inl, inr, refl, sym, ◌∙◌, ap, subst}
 use Rattle.std.proofs.lemmas.Option.{none-some}
 use Rattle.df_base.specs.Causes.{IsBlamed}
 use Rattle.df_disk.specs.Told.{Told}
@@ -12,7 +12,7 @@ use Rattle.df_model.specs.declared.errors.StepError.TheVariants as step
 use Rattle.df_model.specs.Faults.{is_append_fault, is_block_fault, is_lookup_fault, is_prepare_fault, is_read_fault, is_reply_fault}
 use Rattle.df_units.specs.Meaning.{number_of}
 use Rattle.df_session.specs.Calls.{machine_answer}
-use Rattle.df_pace.specs.Beats.{behind_piece, command_of, is_begun, next_piece, pieces_left}
+use Rattle.df_pace.specs.Beats.{command_of, is_begun, next_piece, pieces_left}
 use Rattle.df_pace.specs.declared.beat.Beat.{Beat}
 use Rattle.df_pace.specs.declared.beat.Piece.{Piece}
 use Rattle.df_pace.specs.declared.pace.Pace.{Pace}
@@ -24,7 +24,7 @@ use Rattle.df_session.specs.Links.{Makes}
 use Rattle.df_session.specs.declared.hearing.Fault.{Fault}
 use Rattle.df_session.specs.declared.hearing.Fault.TheVariants.{Disk, Damaged}
 use Rattle.df_top.specs.Lines.{ByLoop}
-use Rattle.df_top.specs.Outside.{Blames, PrintsLine}
+use Rattle.df_top.specs.Outside.{PrintsLine}
 use Rattle.df_top.specs.Pacing.{IsNext, runs}
 use Rattle.df_top.specs.Refusing.{PrintsFault}
 use Rattle.df_top.specs.Session.{IsDamagedLine, State}

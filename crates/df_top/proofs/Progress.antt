@@ -15,7 +15,6 @@ use Rattle.df_pace.specs.declared.beat.Piece.{Piece}
 use Rattle.df_pace.specs.declared.pace.Pace.{Pace}
 use Rattle.df_session.specs.Below.{State as Replica}
 use Rattle.df_session.specs.Session.{Act}
-use Rattle.df_script_model.specs.Script.{answer_text}
 use Rattle.df_top.specs.Lines.{Asker, ByLine, ByLoop, Turned, all_said, all_text, command_of, said_by, told_by}
 use Rattle.df_session.specs.Links.{Calls, Makes}
 use Rattle.df_top.specs.Pacing.{AreTurns, EndTurns, IsIdle, IsNext, behind, runs}

@@ -1,5 +1,5 @@
 -- A session's answers are the result, its text is the machine's, and its calls are those of the script and of the loop.
-use Rattle.std.proofs.Common.{◌≡◌, ◌<◌, ℕ, ◌+◌, ◌-◌, Bool, if◌then◌else◌, List, [], ◌∷◌, ◌++◌, map, Option, Some, None, refl, sym, ◌∙◌, ap, subst, arith}
+use Rattle.std.proofs.Common.{◌≡◌, ℕ, ◌+◌, ◌-◌, Bool, if◌then◌else◌, List, [], ◌∷◌, ◌++◌, map, Option, Some, None, refl, sym, ◌∙◌, ap, subst, arith}
 use Rattle.std.proofs.lemmas.List.{append-nil}
 use Rattle.df_base.specs.Image.{IsImage}
 use Rattle.df_disk.specs.Told.{Told}
@@ -27,7 +27,7 @@ use Rattle.df_session.specs.Links.{command_in}
 use Rattle.df_session.specs.Resulting.{AnswersResult}
 use Rattle.df_session.proofs.Laws.{one_more_is_result, opened_agrees, opened_answers}
 use Rattle.df_session.specs.Session.{Act}
-use Rattle.df_top.specs.Lines.{Asker, ByLine, ByLoop, Failing, Turned, act_of, all_acts, all_answers, all_said, all_text, command_of}
+use Rattle.df_top.specs.Lines.{Asker, ByLine, ByLoop, Failing, Turned, all_acts, all_answers, all_said, all_text, command_of}
 use Rattle.df_top.specs.Outside.{IsThrough}
 use Rattle.df_top.specs.Pacing.{AreTurns, EndTurns, IsIdle, IsNext, all_calls, behind, runs}
 use Rattle.df_top.specs.Resulting.{IsResultOf, joined}

@@ -1,5 +1,5 @@
 -- Over a file that may be opened each other end of a word needs a call that failed, or a refusal that no such file has.
-use Rattle.std.proofs.Common.{◌≡◌, ◌⊎◌, inl, inr, ℕ, zero, suc, Bool, true, List, [], ◌∷◌, ◌++◌, length, map, Option, None, Some, refl, subst}
+use Rattle.std.proofs.Common.{◌≡◌, ◌⊎◌, inl, inr, ℕ, zero, suc, Bool, true, List, [], ◌∷◌, ◌++◌, length, Option, None, Some, refl, subst}
 use Rattle.df_base.specs.Image.{IsImage}
 use Rattle.df_disk.specs.Told.{Told}
 use Rattle.df_layout.specs.declared.damage.Mend.{Mend}

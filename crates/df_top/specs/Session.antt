@@ -4,7 +4,6 @@ use Rattle.df_base.specs.Streams.{Appends, AppendsPart}
 use Rattle.df_disk.specs.Told.{Told}
 use Rattle.df_layout.specs.declared.damage.Class.{Class}
 use Rattle.df_layout.specs.declared.places.Place.{Place}
-use Rattle.df_lines.specs.Grammar.{Said}
 use Rattle.df_lines.specs.Room.{IsAtEnd}
 use Rattle.df_lines.specs.Script.{Begins, IsRefused}
 use Rattle.df_lines.specs.Text.{line_of, unread}

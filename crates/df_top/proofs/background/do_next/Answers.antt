@@ -1,5 +1,5 @@
 -- What becomes of the session by the piece that is next.
-use Rattle.std.proofs.Common.{ap, List, ℕ, Option}
+use Rattle.std.proofs.Common.{ap}
 use Rattle.df_lines.specs.Room.{Room}
 use Rattle.df_lines.specs.Text.{unread}
 use Rattle.df_pace.specs.Beats.{command_of}

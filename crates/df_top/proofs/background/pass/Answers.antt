@@ -1,5 +1,5 @@
 -- A piece goes on, or ends the session by why it has no answer.
-use Rattle.std.proofs.Common.{◌≡◌, ℕ, Bool, refl, sym, ◌∙◌, ap}
+use Rattle.std.proofs.Common.{refl, ◌∙◌}
 use Rattle.df_pace.specs.Beats.{behind_piece, command_of}
 use Rattle.df_top.specs.declared.turns.Turn.TheVariants.{Ends}
 use Rattle.df_top.proofs.Passed.{fault_passes, passes_unread}

@@ -1,5 +1,4 @@
 -- Where a number is missing, or is too great, the words have no meaning.
-use Rattle.std.proofs.Common.{arith}
 use Rattle.df_top.proofs.Modes.{only_paced}
 use Rattle.df_top.proofs.mode.paced_mode.Goals as goal
 

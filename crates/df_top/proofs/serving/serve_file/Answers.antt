@@ -1,15 +1,12 @@
 -- The file is opened and served, or it isn't.
-use Rattle.std.proofs.Common.{◌≡◌, ℕ, None, refl, sym, ap, ◌∙◌, subst}
+use Rattle.std.proofs.Common.{ℕ, refl, ap, ◌∙◌, subst}
 use Rattle.std.specs.Prelude.{Option, Ok}
 use Rattle.df_disk.specs.Told.{Told}
 use Rattle.df_session.specs.Below.{State}
 use Rattle.df_session.specs.Surveying.{TellsSurvey}
 use Rattle.df_top.specs.Outside.{Blames, Outside}
 use Rattle.df_model.specs.declared.answers.Summary.{Summary}
-use Rattle.df_pace.specs.Beats.{next_piece, started}
-use Rattle.df_pace.specs.declared.beat.Beat.{Beat}
-use Rattle.df_pace.proofs.Laws.{starts_idle}
-use Rattle.df_top.specs.Pacing.{runs}
+use Rattle.df_pace.specs.Beats.{started}
 use Rattle.df_top.specs.declared.session.Session.{Session}
 use Rattle.df_top.specs.declared.status.Status.TheVariants.{DiskFault}
 use Rattle.df_top.specs.Session.{state}

@@ -1,5 +1,5 @@
 -- Each turn goes on with one line more and the work behind it, or ends the session.
-use Rattle.std.proofs.Common.{[], ◌∷◌, ◌++◌, refl, ◌∙◌, subst, ℕ}
+use Rattle.std.proofs.Common.{[], ◌++◌, refl, ◌∙◌, subst, ℕ}
 use Rattle.df_pace.specs.declared.pace.Pace.{Pace}
 use Rattle.df_top.specs.Outside.{Outside}
 use Rattle.df_top.specs.Session.{State, state}
