@@ -1,4 +1,0 @@
-pub mod State
-pub mod Courses
-pub mod Parts
-pub mod Below

@@ -1,9 +1,0 @@
-pub mod Rows
-pub mod Commands
-pub mod Tables
-pub mod Sorted
-pub mod Limits
-pub mod Blocks
-pub mod Grammar
-pub mod Answers
-pub mod Laws
