@@ -6,6 +6,7 @@ mod commands;
 mod errors;
 mod faults;
 mod machine;
+mod raising;
 mod reading;
 
 pub use answers::{Progress, Receipt, Scrubbed, Summary, Verdict};
@@ -21,4 +22,5 @@ pub use machine::{
     commands_lead_on, memory_answers, memory_changes_so, opened_is_kept, opened_makes_sense,
     reply_may_be_stored, runs_lead_on, what_is_kept_is_read,
 };
+pub use raising::{boot_may_be_raised, boot_update_leads_on, raised_file_is_kept};
 pub use reading::{LookupError, PrepareError, ReadError};
