@@ -90,7 +90,7 @@ module _ (sh : Shape) (spell : Parts → List ℕ) (log : UnitLog) (w : Work) (s
 other_copy : (put image : Units) (n : ℕ) (c : Content) → PutsOne put (CopyPlace n) (CopyUnit c) → SameBlocks image (overlay put image)
 other_copy put image n c one a = put_else put image (CopyPlace n) (BlockPlace a) (CopyUnit c) one (λ same. cc (same))
 
-pub four_copies : (image : Units) (c : Content) (puts : PutsCopies c) → SameBlocks image (overlay puts.put3 (overlay puts.put2 (overlay puts.put1 (overlay puts.put0 image))))
+four_copies : (image : Units) (c : Content) (puts : PutsCopies c) → SameBlocks image (overlay puts.put3 (overlay puts.put2 (overlay puts.put1 (overlay puts.put0 image))))
 four_copies image c puts a =
     let image0 = overlay puts.put0 image in
     let image1 = overlay puts.put1 image0 in

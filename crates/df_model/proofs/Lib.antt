@@ -16,6 +16,7 @@ pub mod Does
 pub mod Runs
 pub mod Exact
 pub mod Disks
+pub mod NoBlocks
 pub mod Boots
 pub mod Raised
 pub mod Kept

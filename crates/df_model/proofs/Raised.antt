@@ -21,34 +21,9 @@ use Rattle.df_model.specs.Making.{boot_content}
 use Rattle.df_model.specs.Sense.{IsBacked, IsVersionTwo, IsWork}
 use Rattle.df_model.specs.Laws.{IsKeptBy}
 use Rattle.df_model.specs.Boots.{RaisedKeptLaw, Raises}
-use Rattle.df_model.proofs.Boots.{raised_law, spares_copy, spares_update, stands_last}
+use Rattle.df_model.proofs.Boots.{raised_law, stands_last}
+use Rattle.df_model.proofs.NoBlocks.{mend_no_blocks, no_blocks_both, spare_all, update_no_blocks}
 use Rattle.df_model.proofs.Runs.{found_law}
-
--- ---- a mending writes no block
-
-spare_both : (v : View) (ss ts : List Step) → AllSpare v ss → AllSpare v ts → AllSpare v (ss ++ ts)
-spare_both v [] ts one two = two
-spare_both v ((Puts put) ∷ ss) ts one two = (one.0, spare_both v ss ts one.1 two)
-spare_both v (Syncs ∷ ss) ts one two = spare_both v ss ts one two
-
-spares_sector : (v : View) (table : ℕ → Header) (put : Units) → PutsTable table put → Spares v put
-spares_sector v table put all a c is = go (put (BlockPlace a)) refl
-  where
-    go : (o : Option AnyUnit) → put (BlockPlace a) ≡ o → put (BlockPlace a) ≡ None
-    go None none = none
-    go (Some y) some = absurd (let at = (all (BlockPlace a) y some).1 in cc)
-
-spare_puts : (v : View) (table : ℕ → Header) (puts : List Units) → AllPutTable table puts → AllSpare v (all_puts puts)
-spare_puts v table [] all = tt
-spare_puts v table (put ∷ puts) all = (spares_sector v table put all.0, spare_puts v table puts all.1)
-
-spare_headers : (v : View) (table : ℕ → Header) (puts : List Units) → AllPutTable table puts → AllSpare v (header_steps puts)
-spare_headers v table [] all = tt
-spare_headers v table (put ∷ puts) all = spare_both v (all_puts (put ∷ puts)) (Syncs ∷ []) (spare_puts v table (put ∷ puts) all) tt
-
-spare_copies : (v : View) (c : Content) (m n : ℕ) (copies : List (ℕ × Units)) → AllPutCopy c m n copies → AllSpare v (copy_steps copies)
-spare_copies v c m n [] all = tt
-spare_copies v c m n (k ∷ ks) all = (spares_copy v k.1 k.0 c all.0, spare_copies v c m n ks all.3)
 
 -- ---- what is begun behind it
 
@@ -98,7 +73,8 @@ module _ (sh : Shape) (spell : Parts → List ℕ) (image : Units) (v : View) (t
   pub begun_backed : Stands image v → IsBacked (begun (now end)) u
   begun_backed stands =
       let first : IsStanding (begun image) v = record { shown = stands; firm = λ a c is. refl } in
-      let spare = spare_both v (mend_steps headers copies) _ (spare_both v (header_steps headers) (copy_steps copies) (spare_headers v table headers may.puts_headers) (spare_copies v v.checkpoint.content may.agreed.first may.agreed.second copies may.puts_copies)) (spares_update v d puts) in
+      let none = no_blocks_both (mend_steps headers copies) (update_steps puts) (mend_no_blocks table headers v.checkpoint.content may.agreed.first may.agreed.second copies may.puts_headers may.puts_copies) (update_no_blocks d puts) in
+      let spare = spare_all v (raise_steps headers copies puts) none in
       let last = stands_last v (raise_steps headers copies puts) (begun image) (stands_law (begun image) v (raise_steps headers copies puts) first spare) in
       record {
         standing = record { shown = last.shown; firm = λ a c is. refl };

@@ -12,6 +12,7 @@ use Rattle.df_theory.specs.Found.{AreOfPlaces, IsFound}
 use Rattle.df_theory.specs.Runs.{Step, after_steps}
 use Rattle.df_theory.specs.CopyPuts.{PutsCopies, update_steps}
 use Rattle.df_theory.specs.GroupLaws.{IsMended}
+use Rattle.df_theory.specs.MendLaws.{MayMend}
 use Rattle.df_theory.specs.Upgrades.{IsCleanBeyond, MayRaise, as_version, begun, raise_steps}
 use Rattle.df_theory.specs.Device.{AreSteps, Format, IsFormat, units_log}
 use Rattle.df_model.specs.Work.{Work, kept, opened, raised}
@@ -61,16 +62,37 @@ BootCommandLaw =
     (sh : Shape) (spell : Parts → List ℕ) (log : UnitLog) (w : Work) (sum : ℕ) (steps : List Step) → IsMendedFor sh spell log w → boot_of (kept w) < 2 ^ 62 → DoesBoot (boot_content (memory_of sh spell w) sum) steps
     → LeadsOn sh spell log w (raised w (boot_content (memory_of sh spell w) sum)) steps × (IsBacked log w → BacksOn sh log w (raised w (boot_content (memory_of sh spell w) sum)) steps)
 
+-- ---- an open
+
+-- an open mends, with these writes, and raises the boot behind that
+pub record DoesOpen (d : Content) (headers : List Units) (copies : List (ℕ × Units)) (steps : List Step) : Type 0 where
+  pub puts : PutsCopies d
+  pub are : steps ≡ raise_steps headers copies puts
+
+-- a file behind the barrier of an open, of which nothing is loose: it may be mended, with a state
+pub record MayOpenFor (sh : Shape) (spell : Parts → List ℕ) (log : UnitLog) (w : Work) (table : ℕ → Header) (headers : List Units) (copies : List (ℕ × Units)) : Type 0 where
+  pub sense : IsWork sh spell w
+  pub may : MayMend sh log (kept w) table headers copies
+  pub dry : IsDry log
+  pub written : ShowsWritten (now log) w
+
+-- in one log: it leads from there to a file that is kept by the state behind the boot update, whatever survived of a group
+abbrev pub OpenCommandLaw : Type 0
+OpenCommandLaw =
+    (sh : Shape) (spell : Parts → List ℕ) (log : UnitLog) (w : Work) (table : ℕ → Header) (headers : List Units) (copies : List (ℕ × Units)) (sum : ℕ) (steps : List Step)
+    → MayOpenFor sh spell log w table headers copies → boot_of (kept w) < 2 ^ 62 → DoesOpen (boot_content (memory_of sh spell w) sum) headers copies steps
+    → LeadsOn sh spell log w (raised w (boot_content (memory_of sh spell w) sum)) steps × (IsBacked log w → BacksOn sh log w (raised w (boot_content (memory_of sh spell w) sum)) steps)
+
 -- these device calls, in order, are its steps
-pub record DoesBootOnDisk (f : Format) (d : Content) (events : List Event) : Type 0 where
+pub record DoesOpenOnDisk (f : Format) (d : Content) (headers : List Units) (copies : List (ℕ × Units)) (events : List Event) : Type 0 where
   pub steps : List Step
   pub are : AreSteps f events steps
-  pub does : DoesBoot d steps
+  pub does : DoesOpen d headers copies steps
 
-abbrev pub DiskBootLaw : Type 0
-DiskBootLaw =
-    (f : Format) (sh : Shape) (spell : Parts → List ℕ) (log : Log) (w : Work) (sum : ℕ) (events : List Event)
-    → IsFormat f → IsLog log → IsMendedFor sh spell (units_log f log) w → boot_of (kept w) < 2 ^ 62 → DoesBootOnDisk f (boot_content (memory_of sh spell w) sum) events
+abbrev pub DiskOpenLaw : Type 0
+DiskOpenLaw =
+    (f : Format) (sh : Shape) (spell : Parts → List ℕ) (log : Log) (w : Work) (table : ℕ → Header) (headers : List Units) (copies : List (ℕ × Units)) (sum : ℕ) (events : List Event)
+    → IsFormat f → IsLog log → MayOpenFor sh spell (units_log f log) w table headers copies → boot_of (kept w) < 2 ^ 62 → DoesOpenOnDisk f (boot_content (memory_of sh spell w) sum) headers copies events
     → LeadsOnDisk f sh spell log w (raised w (boot_content (memory_of sh spell w) sum)) events × (IsBacked (units_log f log) w → BacksOnDisk f sh log w (raised w (boot_content (memory_of sh spell w) sum)) events)
 
 -- whatever the copies of an image showed in which a view is found: behind a mending and the boot update, a log that is begun anew there is kept by the state behind it

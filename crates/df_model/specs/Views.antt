@@ -1,17 +1,10 @@
 -- When one view is another: the one relation in which what a stop leaves, what an open finds and what a life has come to are compared. A boot update comes between two of them.
-use Rattle.std.specs.Prelude.{◌≡◌}
 use Rattle.df_theory.specs.View.{View}
-use Rattle.df_theory.specs.Next.{IsSameBare, SameCheckpoint}
+use Rattle.df_theory.specs.Next.{IsSameBare}
 
 -- u is the view v, as far as a promise tells views apart: the state is the same, but for the boot and what the superblock records of the state
 abbrev pub KeepsView : (v u : View) → Type 0
 KeepsView v u = IsSameBare v u
-
--- and so far it has the checkpoint of v
-pub record KeepsCheckpoint (v u : View) : Type 0 where
-  pub content : SameCheckpoint v.checkpoint.content u.checkpoint.content
-  pub chain : u.checkpoint.chain ≡ v.checkpoint.chain
-  pub parts : u.checkpoint.parts ≡ v.checkpoint.parts
 
 -- a view that keeps v has this property
 abbrev pub SomeKeeps : View → (View → Type 0) → Type 0
