@@ -13,7 +13,7 @@ use Rattle.df_units.specs.Meaning.{content_of, layout_of}
 use Rattle.df_units.specs.Superblocks.{AreFieldsOf}
 use Rattle.df_units.proofs.Laws.{none_are, usable_passes}
 use Rattle.df_trailer.specs.Text.{parse_of}
-use Rattle.df_rooms.specs.State.{IsPlain, shape}
+use Rattle.df_rooms.specs.State.{IsSecond, shape}
 use Rattle.df_rooms.specs.declared.file.DataFile.{DataFile}
 use Rattle.df_recovery.specs.Opening.{fault_as, fault_asked}
 
@@ -36,16 +36,13 @@ asked_none f first is = as_none 1 f first is
 pub first_rules : (f : SuperFields) → f.version ≡ 1 → IsSuper f → IsFirstSuper f
 first_rules f first is = elim is.version [ inl one ↦ one | inr two ↦ absurd (omega (arith, first, two.version)) ]
 
-pub plain_super : (f : SuperFields) → f.version ≡ 1 → IsUsable f → IsPlain f
-plain_super f first is =
-    let rules = first_rules f first is.rules in
-    record {
-      version = first;
-      boot = rules.boot;
-      head_checksum = rules.named.head;
-      reply_checksums = none_are f.reply_checksums is.fits.reply_checksums.size rules.named.replies;
-      first_nonzero = is.rules.zero;
-    }
+-- or of version 2
+pub second_super : (f : SuperFields) → f.version ≡ 2 → IsUsable f → IsSecond f
+second_super f second is = record {
+  rules = elim is.rules.version [ inl one ↦ absurd (omega (arith, second, one.version)) | inr two ↦ two ];
+  names = is.fits.reply_checksums;
+  first_nonzero = is.rules.zero;
+}
 
 -- ---- in the theory
 

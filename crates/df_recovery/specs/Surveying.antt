@@ -135,6 +135,7 @@ state_found s = record {
   running = None;
   tour = first_tour;
   findings = [];
+  boot = 0;
   live = false;
 }
 

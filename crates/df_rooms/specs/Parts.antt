@@ -22,16 +22,16 @@ state_in p = record {
   running = running_of p.running;
   tour = p.scrub.scrubber.tour;
   findings = p.scrub.scrubber.findings;
+  boot = p.grid.boot;
   live = p.live;
 }
 
--- it makes sense, the grid is of the file's cluster and no boot is set, and all rooms are of the file's layout
+-- it makes sense, the grid is of the file's cluster, and all rooms are of the file's layout
 pub record AreWhole (p : Parts) : Type 0 where
   pub state : IsState (state_in p)
   pub rooms_fit : p.rooms.layout ≡ p.file.layout
   pub grid_fits : p.grid.layout ≡ p.file.layout
   pub grid_named : p.grid.cluster ≡ p.file.cluster
-  pub grid_unbooted : p.grid.boot ≡ 0
   pub trailer_fits : p.trailer.layout ≡ p.file.layout
   pub scrub_fits : p.scrub.layout ≡ p.file.layout
 
@@ -39,6 +39,7 @@ pub record AreWhole (p : Parts) : Type 0 where
 pub record AreFound (p : Parts) : Type 0 where
   pub whole : AreWhole p
   pub dead : p.live ≡ false
+  pub unbooted : p.grid.boot ≡ 0
   pub idle : p.running ≡ None
   pub fresh : p.scrub.scrubber ≡ new_scrub
 
