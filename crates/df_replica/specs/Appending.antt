@@ -66,6 +66,10 @@ header_given s client request = record (blank_header AsPrepare s.file.cluster) {
   mark = s.replies;
   checkpoint = s.fields.sequence;
   slot = (s.head + 1) % s.file.layout.slots;
+  version = 2;
+  boot = s.fields.boot;
+  group = s.head + 1;
+  group_last = s.head + 1;
 }
 
 -- the next prepare

@@ -46,6 +46,8 @@ reply_given s = record (blank_header AsReply s.file.cluster) {
   mark = s.head;
   checkpoint = s.fields.sequence;
   slot = place_waiting s;
+  version = 2;
+  boot = s.fields.boot;
 }
 
 -- the next reply

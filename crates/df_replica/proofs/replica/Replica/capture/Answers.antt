@@ -30,11 +30,10 @@ invariant_of-self c =
     let six = subst (λ (f : SuperFields). IsRunning s.file s.fields s.head (begun s root).blocks (record (captured s root) { root = c.root_of.result.items; sessions = c.sessions_in.result.items; sequence = f.sequence + 1; size = plan.size; blocks = plan.blocks })) (sym c.fields.ensures.value) five in
     let course = subst (λ (b : Blocks). IsRunning s.file s.fields s.head b (record (captured s root) { root = c.root_of.result.items; sessions = c.sessions_in.result.items; sequence = c.fields.result.now.sequence + 1; size = plan.size; blocks = plan.blocks })) blocks six in
     record {
-      state = with_course s c.capture.new.self.blocks (Some (record (captured s root) { root = c.root_of.result.items; sessions = c.sessions_in.result.items; sequence = c.fields.result.now.sequence + 1; size = plan.size; blocks = plan.blocks })) old course;
+      state = with_course s c.capture.new.self.blocks (Some (record (captured s root) { root = c.root_of.result.items; sessions = c.sessions_in.result.items; sequence = c.fields.result.now.sequence + 1; size = plan.size; blocks = plan.blocks })) old course (λ same. refl);
       rooms_fit = c.self.invariant.rooms_fit;
       grid_fits = ap (λ (g : GridState). g.layout) c.capture.ensures ∙ c.self.invariant.grid_fits;
       grid_named = ap (λ (g : GridState). g.cluster) c.capture.ensures ∙ c.self.invariant.grid_named;
-      grid_unbooted = ap (λ (g : GridState). g.boot) c.capture.ensures ∙ c.self.invariant.grid_unbooted;
       trailer_fits = c.self.invariant.trailer_fits;
       scrub_fits = c.self.invariant.scrub_fits;
     }

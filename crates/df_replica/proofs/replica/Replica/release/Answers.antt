@@ -22,7 +22,6 @@ invariant_of-self c =
       rooms_fit = old.rooms_fit;
       grid_fits = old.grid_fits;
       grid_named = old.grid_named;
-      grid_unbooted = old.grid_unbooted;
       trailer_fits = old.trailer_fits;
       scrub_fits = old.scrub_fits;
     })
@@ -37,7 +36,6 @@ invariant_of-self-2 c =
       rooms_fit = old.rooms_fit;
       grid_fits = old.grid_fits;
       grid_named = old.grid_named;
-      grid_unbooted = old.grid_unbooted;
       trailer_fits = old.trailer_fits;
       scrub_fits = old.scrub_fits;
     })
