@@ -13,6 +13,7 @@ pub mod MendSteps
 pub mod MendShows
 pub mod Mendable
 pub mod Planned
+pub mod RaiseSteps
 pub mod SurveyPlans
 pub mod Hurts
 pub mod Barriers

@@ -24,7 +24,7 @@ use Rattle.df_theory.specs.Found.{IsFound}
 use Rattle.df_theory.specs.MendLaws.{AllPutCopy, AllPutTable, IsNumber, PutsTable, Reaches}
 use Rattle.df_theory.specs.UnitLog.{now}
 use Rattle.df_theory.specs.View.{View}
-use Rattle.df_theory.proofs.Laws.{found_law, now_units, one_chosen_law, put_one_law}
+use Rattle.df_theory.proofs.Laws.{dry_quiet, found_law, now_units, one_chosen_law, put_one_law}
 use Rattle.df_units.specs.Bytes.{copy_unit, unit_at}
 use Rattle.df_units.specs.Meaning.{content_of, header_of}
 use Rattle.df_units.specs.Puts.{header_unit}
@@ -209,7 +209,7 @@ planned_may_mend g file v table mends f members t four plan on =
     let agreed = (chosen g file v table mends f members t four plan on).agreed in
     record {
       rests = on.rests;
-      quiet = on.quiet;
+      quiet = dry_quiet (units_log (format file) t.log) on.dry;
       tells = plan.planned.from (shape file) (now (units_log (format file) t.log)) v (is_scan g file v table mends f members t four plan on);
       puts_headers = all_puts_table table (sectors_of file.layout mends);
       agreed = record {

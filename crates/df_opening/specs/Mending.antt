@@ -16,7 +16,7 @@ use Rattle.df_quorum.specs.declared.slot.Slot.{Slot}
 use Rattle.df_quorum.specs.Quorum.{AreMembers}
 use Rattle.df_theory.specs.Units.{Units}
 use Rattle.df_theory.specs.Found.{IsFound}
-use Rattle.df_theory.specs.Rests.{IsQuiet, RestsOn}
+use Rattle.df_theory.specs.Rests.{IsDry, RestsOn}
 use Rattle.df_theory.specs.View.{View, head}
 use Rattle.df_theory.specs.Next.{booted}
 use Rattle.df_theory.specs.Upgrades.{raise_steps}
@@ -126,13 +126,13 @@ pub record IsPlanned (file : DataFile) (table : List Header) (mends : List Mend)
   pub top_is : IsImage t.shown → (v : View) → IsFound (shape file) (unit_at file.layout file.cluster t.shown) v → head v ≡ top
   pub planned : ArePlannedFrom file.layout file.cluster scan top copies members table mends
 
--- an honest disk with a file of version 2, whose log rests on a view and is quiet, where no unit came about by chance: what holds of it behind the barrier of an open
+-- an honest disk with a file of version 2, whose log rests on a view and has nothing loose, where no unit came about by chance: what holds of it behind the barrier of an open
 pub record RestsOnDisk (g : Grade) (file : DataFile) (view : View) (t : Told) : Type 0 where
   pub version : file.version ≡ 2
   pub is_log : IsLog t.log
   pub honest : IsHonest t
   pub rests : RestsOn (shape file) (units_log (format file) t.log) view
-  pub quiet : IsQuiet (units_log (format file) t.log)
+  pub dry : IsDry (units_log (format file) t.log)
   pub no_chance : NoChanceOf (format file) t.log (now t.log)
   pub standing : StandingFor g (units_log (format file) t.log) view
 

@@ -1,0 +1,173 @@
+-- What an open does behind its survey leads, in one log, to a file that is kept by the state behind the boot update.
+use Rattle.std.proofs.Common.{◌≡◌, ℕ, ◌+◌, ◌<◌, ◌≤◌, ◌^◌, Bool, List, [], length, map, Some, refl, sym, ◌∙◌, ap, subst, arith}
+use Rattle.std.proofs.lemmas.List.{length-map}
+use Rattle.df_base.specs.Image.{Image, IsImage}
+use Rattle.df_base.specs.Log as Log
+use Rattle.df_base.specs.Log.{Event}
+use Rattle.df_base.specs.Moments.{EachMoment, adds}
+use Rattle.df_base.proofs.Laws.{now_is_image}
+use Rattle.df_disk.specs.Told.{Told}
+use Rattle.df_layout.specs.declared.layout.Layout.{Layout}
+use Rattle.df_format.specs.Copies.{content_with}
+use Rattle.df_format.specs.declared.superblock.SuperFields.{SuperFields}
+use Rattle.df_theory.specs.Units
+use Rattle.df_theory.specs.Units.{Content}
+use Rattle.df_theory.specs.CopyPuts.{PutsCopies, update_steps}
+use Rattle.df_theory.specs.Device.{AreSteps, IsGoodDisk, IsGoodWholeDisk, units_log}
+use Rattle.df_theory.specs.Found.{AreOfPlaces, IsFound}
+use Rattle.df_theory.specs.Next.{booted}
+use Rattle.df_theory.specs.Runs.{Step}
+use Rattle.df_theory.specs.Upgrades.{raise_steps}
+use Rattle.df_theory.specs.UnitLog.{UnitLog, now}
+use Rattle.df_theory.specs.View.{View, boot_of}
+use Rattle.df_theory.specs.WholeLaws.{IsStanding}
+use Rattle.df_theory.proofs.Laws.{found_law, now_units, steps_join_law}
+use Rattle.df_units.specs.Bytes.{unit_at}
+use Rattle.df_units.specs.Meaning.{content_of, layout_of, number_of}
+use Rattle.df_units.specs.Puts.{put_copies}
+use Rattle.df_units.proofs.Laws.{all_added, by_second, is_format, of_places}
+use Rattle.df_trailer.specs.Text.{parse_of}
+use Rattle.df_superblock.specs.Events.{update_events}
+use Rattle.df_superblock.specs.Steps.{AreStepsOfCopies, repaired}
+use Rattle.df_model.specs.Boots.{DoesOpenOnDisk, MayOpenFor, Raises}
+use Rattle.df_model.specs.Making.{boot_content}
+use Rattle.df_model.specs.Memory.{Memory, memory_of}
+use Rattle.df_model.specs.OnDisk.{BacksOnDisk, LeadsOnDisk}
+use Rattle.df_model.specs.Sense.{IsBacked, IsVersionTwo, IsWork}
+use Rattle.df_model.specs.Work.{Work, kept, raised}
+use Rattle.df_model.proofs.Laws.{disk_open_law, found_law as sense_found, raised_law}
+use Rattle.df_rooms.specs.Recorded.{boot_fields}
+use Rattle.df_rooms.specs.State.{IsSecond}
+use Rattle.df_damage.specs.Anew.{told_after}
+use Rattle.df_damage.specs.Below.{DataFile, IsState, Represents, State, memory, shape, spelling}
+use Rattle.df_damage.specs.Plan.{headers_in}
+use Rattle.df_damage.proofs.Laws.{added_is_told}
+use Rattle.df_opening.specs.Keeping.{Firm, Grade, IsGoodFor, KeptFor, StandingFor, Whole, format}
+use Rattle.df_opening.specs.Mending.{RestsOnDisk, mending_events, mending_steps, raised_state, sector_puts, sectors_of}
+use Rattle.df_opening.specs.Opened.{begun_state, first_state}
+use Rattle.df_opening.specs.Raising.{IsPlannedOf, opening_events, opening_steps, raised_content}
+use Rattle.df_opening.specs.Survey.{Survey}
+use Rattle.df_opening.proofs.Mendable.{content_is, image_is, planned_may_mend, whole}
+use Rattle.df_opening.proofs.Opens.{codec_of}
+use Rattle.df_rooms.proofs.Laws.{recorded_content}
+
+-- ---- the calls are steps
+
+pub opening_is_steps : (s : Survey) → AreSteps (format s.state.file) (mending_events s.state.file.layout s.state.headers s.mends s.state.fields s.chosen.members) (mending_steps s.state.file.layout s.state.headers s.mends s.state.fields s.chosen.members)
+    → AreStepsOfCopies (update_events (boot_fields s.state)) (update_steps (put_copies (boot_fields s.state))) → AreSteps (format s.state.file) (opening_events s) (opening_steps s)
+opening_is_steps s mending update =
+    steps_join_law (format s.state.file) (mending_events s.state.file.layout s.state.headers s.mends s.state.fields s.chosen.members) (update_events (boot_fields s.state)) (mending_steps s.state.file.layout s.state.headers s.mends s.state.fields s.chosen.members) (update_steps (put_copies (boot_fields s.state))) mending (update s.state.file.layout s.state.file.cluster)
+
+-- ---- the superblock
+
+-- a file of version 2, whose superblock these fields are
+pub second_file : (file : DataFile) (f : SuperFields) (view : View) → file.version ≡ 2 → IsSecond f → view.checkpoint.content ≡ content_of (content_with f) → IsVersionTwo (shape file) view
+second_file file f view version second same = record {
+  version = version;
+  places = omega (arith, file.layout.clients_within.1);
+  names = ap (λ (c : Content). length c.reply_checksums) same ∙ ap length (by_second f (map number_of f.reply_checksums) [] second.rules.version) ∙ length-map f.reply_checksums number_of ∙ second.names.size;
+}
+
+abbrev sum_of : State → ℕ
+sum_of s = number_of (content_with (boot_fields s)).checksum
+
+-- what is written is what the machine records
+pub raised_is : (s : State) → IsState s → raised_content s ≡ boot_content (memory s) (sum_of s)
+raised_is s is = recorded_content s (record s.fields { boot = s.fields.boot + 1 }) is.second.rules.version
+
+-- ---- in one log
+
+module _ (g : Grade) (view : View) (s : Survey) (base : Told) (four : length s.chosen.members ≡ 4) (is : IsState s.state) (unspent : s.state.fields.boot < 2 ^ 62)
+    (plan : IsPlannedOf s base) (on : RestsOnDisk g s.state.file view base) (stands : Represents s.state (first_state s.state.file base view)) (steps : AreSteps (format s.state.file) (opening_events s) (opening_steps s)) where
+  abbrev file : DataFile
+  file = s.state.file
+
+  abbrev w : Work
+  w = first_state file base view
+
+  abbrev log : UnitLog
+  log = units_log (format file) base.log
+
+  abbrev headers : List Units.Units
+  headers = sector_puts s.state.headers (sectors_of file.layout s.mends)
+
+  abbrev copies : List (ℕ × Units.Units)
+  copies = repaired s.state.fields 0 s.chosen.members
+
+  abbrev end : Told
+  end = told_after (opening_events s) base
+
+  -- the superblock that the machine writes
+  abbrev d : Content
+  d = boot_content (memory_of (shape file) (spelling file) w) (sum_of s.state)
+
+  content_is_d : raised_content s.state ≡ d
+  content_is_d = raised_is s.state is ∙ ap (λ (m : Memory). boot_content m (sum_of s.state)) stands
+
+  own_content : view.checkpoint.content ≡ content_of (content_with s.state.fields)
+  own_content = content_is g file view s.state.headers s.mends s.state.fields s.chosen.members base four plan on
+
+  image : unit_at file.layout file.cluster base.shown ≡ now log
+  image = image_is g file view s.state.headers s.mends s.state.fields s.chosen.members base four plan on
+
+  found : IsFound (shape file) (unit_at file.layout file.cluster base.shown) view
+  found = subst (λ (u : Units.Units). IsFound (shape file) u view) (sym image) ((found_law (shape file) (now log) view).0 on.rests.holds)
+
+  sense : IsWork (shape file) (spelling file) w
+  sense =
+      sense_found (shape file) (spelling file) (unit_at file.layout file.cluster base.shown) view (codec_of file) (second_file file s.state.fields view on.version is.second own_content)
+      (of_places file.layout file.cluster file.named (parse_of (layout_of file.layout)) base.shown (whole g file view s.state.headers s.mends s.state.fields s.chosen.members base four plan on)) found
+
+  left : boot_of view < 2 ^ 62
+  left = omega (arith, ap (λ (c : Content). c.boot) own_content, unspent)
+
+  raises : Raises (shape file) (spelling file) w d
+  raises = raised_law (shape file) (spelling file) w (sum_of s.state) sense left
+
+  opens : MayOpenFor (shape file) (spelling file) log w (headers_in s.state.headers) headers copies
+  opens = record {
+    sense = sense;
+    may = planned_may_mend g file view s.state.headers s.mends s.state.fields s.chosen.members base four plan on;
+    dry = on.dry;
+    written = λ r at. absurd (cc);
+  }
+
+  does : DoesOpenOnDisk (format file) d headers copies (opening_events s)
+  does =
+      let there = subst (λ (c : Content). (puts : PutsCopies c) × (opening_steps s ≡ raise_steps headers copies puts)) content_is_d (put_copies (boot_fields s.state), refl) in
+      record { steps = opening_steps s; are = steps; does = record { puts = there.0; are = there.1 } }
+
+  law : LeadsOnDisk (format file) (shape file) (spelling file) base.log w (raised w d) (opening_events s) × (IsBacked log w → BacksOnDisk (format file) (shape file) base.log w (raised w d) (opening_events s))
+  law = disk_open_law (format file) (shape file) (spelling file) base.log w (headers_in s.state.headers) headers copies (sum_of s.state) (opening_events s) (is_format file.layout file.cluster) on.is_log opens left does
+
+  added : end.log ≡ adds (opening_events s) base.log
+  added = all_added (opening_events s) base end (sym (added_is_told (opening_events s) base))
+
+  backed : IsStanding log view → IsBacked log w
+  backed standing = record { standing = standing; live = standing.shown; captured = λ r at. absurd (cc) }
+
+  moments_of : (h : Grade) → StandingFor h log view → EachMoment base.log end.log (IsGoodFor h (format file) (shape file) view (booted view (raised_content s.state)))
+  moments_of Firm standing =
+      subst (λ (c : Content). EachMoment base.log end.log (IsGoodDisk (format file) (shape file) view (booted view c))) (sym content_is_d)
+      (subst (λ (l : Log.Log). EachMoment base.log l (IsGoodDisk (format file) (shape file) view (booted view d))) (sym added) law.0.moments)
+  moments_of Whole standing =
+      subst (λ (c : Content). EachMoment base.log end.log (IsGoodWholeDisk (format file) (shape file) view (booted view c))) (sym content_is_d)
+      (subst (λ (l : Log.Log). EachMoment base.log l (IsGoodWholeDisk (format file) (shape file) view (booted view d))) (sym added) (law.1 (backed standing)).moments)
+
+  pub opening_moments : EachMoment base.log end.log (IsGoodFor g (format file) (shape file) view (booted view (raised_content s.state)))
+  opening_moments = moments_of g on.standing
+
+  kept_of : (h : Grade) → StandingFor h log view → KeptFor h (shape file) (spelling file) (units_log (format file) (adds (opening_events s) base.log)) (raised w d)
+  kept_of Firm standing = law.0.keeps
+  kept_of Whole standing = (law.0.keeps, (law.1 (backed standing)).backed)
+
+  pub opening_keeps : KeptFor g (shape file) (spelling file) (units_log (format file) end.log) (begun_state file base view (boot_fields s.state))
+  opening_keeps =
+      subst (λ (c : Content). KeptFor g (shape file) (spelling file) (units_log (format file) end.log) (raised w c)) (sym content_is_d)
+      (subst (λ (l : Log.Log). KeptFor g (shape file) (spelling file) (units_log (format file) l) (raised w d)) (sym added) (kept_of g on.standing))
+
+  -- the state behind it stands for the machine's
+  pub opening_stands : Represents (raised_state s.state) (begun_state file base view (boot_fields s.state))
+  opening_stands =
+      subst (λ (c : Content). record (memory s.state) { content = c } ≡ memory_of (shape file) (spelling file) (raised w c)) (sym content_is_d)
+      (ap (λ (m : Memory). record m { content = d }) stands ∙ sym raises.memory)
