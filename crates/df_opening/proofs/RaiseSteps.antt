@@ -43,8 +43,7 @@ use Rattle.df_damage.specs.Below.{DataFile, IsState, Represents, State, memory, 
 use Rattle.df_damage.specs.Plan.{headers_in}
 use Rattle.df_damage.proofs.Laws.{added_is_told}
 use Rattle.df_opening.specs.Keeping.{Firm, Grade, IsGoodFor, KeptFor, StandingFor, Whole, format}
-use Rattle.df_opening.specs.Mending.{RestsOnDisk, mending_events, mending_steps, raised_state, sector_puts, sectors_of}
-use Rattle.df_opening.specs.Opened.{begun_state, first_state}
+use Rattle.df_opening.specs.Mending.{RestsOnDisk, begun_state, first_state, mending_events, mending_steps, raised_state, sector_puts, sectors_of}
 use Rattle.df_opening.specs.Raising.{IsPlannedOf, opening_events, opening_steps, raised_content}
 use Rattle.df_opening.specs.Survey.{Survey}
 use Rattle.df_opening.proofs.Mendable.{content_is, image_is, planned_may_mend, whole}

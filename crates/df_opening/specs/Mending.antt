@@ -31,6 +31,7 @@ use Rattle.df_headers.specs.Ring.{in_sector, sector_writes}
 use Rattle.df_journal.specs.Scan.{Scan}
 use Rattle.df_journal.specs.Shows.{TellsRings}
 use Rattle.df_journal.specs.Append.{ShowsRing}
+use Rattle.df_model.specs.Work.{Work, opened, raised}
 use Rattle.df_model.specs.declared.errors.MendError.{MendError}
 use Rattle.df_model.specs.declared.errors.MendError.TheVariants.{Damaged, DiskFault}
 use Rattle.df_superblock.specs.Calls.{IsJudged}
@@ -156,6 +157,14 @@ raising_steps layout table mends f members d = raise_steps (sector_puts table (s
 -- the state behind it: the superblock records the state as it was found, units are made in the next boot, and calls may go on
 abbrev pub raised_state : State → State
 raised_state s = record s { fields = boot_fields s; boot = s.fields.boot + 1; live = true }
+
+-- the state that the machine begins with over what was shown, where this view is found
+abbrev pub first_state : DataFile → Told → View → Work
+first_state file t view = opened (shape file) (unit_at file.layout file.cluster t.shown) view
+
+-- the state that calls begin with: the one behind the boot update that writes this superblock
+abbrev pub begun_state : DataFile → Told → View → SuperFields → Work
+begun_state file t view d = raised (first_state file t view) (content_of (content_with d))
 
 -- a mending adds all its events and those of the update, or a part of them, from the first on, where the disk failed
 abbrev pub AddsRaising : {T : Type 0} → List Event → Option Told → Option Told → Result T MendError → Type 0

@@ -10,13 +10,14 @@ use Rattle.df_quorum.specs.declared.choice.Chosen.{Chosen}
 use Rattle.df_format.specs.Copies.{content_with}
 use Rattle.df_format.specs.declared.superblock.SuperFields.{SuperFields}
 use Rattle.df_damage.specs.Anew.{begun, told_after}
+use Rattle.df_damage.specs.Answers.{TellsHurt}
 use Rattle.df_theory.specs.Found.{IsFound}
 use Rattle.df_theory.specs.Next.{IsSameBare}
 use Rattle.df_theory.specs.View.{View}
 use Rattle.df_units.specs.Bytes.{unit_at}
 use Rattle.df_units.specs.Within.{AreWithin}
 use Rattle.df_units.specs.Meaning.{content_of}
-use Rattle.df_model.specs.Work.{Work, kept, opened as first_work, raised}
+use Rattle.df_model.specs.Work.{kept}
 use Rattle.df_model.specs.declared.errors.MendError.{MendError}
 use Rattle.df_model.specs.declared.errors.MendError.TheVariants as mend
 use Rattle.df_model.specs.declared.errors.OpenError.{OpenError}
@@ -24,24 +25,18 @@ use Rattle.df_model.specs.declared.errors.OpenError.TheVariants as open
 use Rattle.df_rooms.specs.Recorded.{boot_fields}
 use Rattle.df_damage.specs.Below.{DataFile, State, shape}
 use Rattle.df_damage.specs.Found.{IsChoiceOf}
+use Rattle.df_damage.specs.Plan.{AreDistinct}
 use Rattle.df_damage.specs.Surveys.{IsOpenedAs}
 use Rattle.df_opening.specs.Following.{MayOpen}
 use Rattle.df_opening.specs.Sparing.{AreSettled, SparesReads, image_after}
 use Rattle.df_opening.specs.Mending.{IsMended, StaysFound, raised_state, raising_events}
+pub use Rattle.df_opening.specs.Mending.{begun_state, first_state}
 use Rattle.df_opening.specs.Keeping.{Firm, Grade, IsGoodFor, IsKept, StandsFor, format}
 use Rattle.df_opening.specs.Surveying.{TellsSurvey, mends_of}
 
 -- what the disk tells changed by events alone
 abbrev pub ToldBy : (old new : Option Told) → Type 0
 ToldBy old new = (events : List Event) × (new ≡ after_all events old)
-
--- the state that the machine begins with over what was shown, where this view is found
-abbrev pub first_state : DataFile → Told → View → Work
-first_state file t view = first_work (shape file) (unit_at file.layout file.cluster t.shown) view
-
--- the state that calls begin with: the one behind the boot update that writes this superblock
-abbrev pub begun_state : DataFile → Told → View → SuperFields → Work
-begun_state file t view d = raised (first_state file t view) (content_of (content_with d))
 
 -- What an open leaves of a base, behind the barrier, the mending and the boot update: each moment since has the view that was found or the raised one, and at the end the
 -- file is tidy with that and kept for the state that calls begin with, and no block of its checkpoint is loose.
@@ -88,7 +83,7 @@ pub record MendsAll (t : Told) (s : State) (later : Option Told) : Type 0 where
   pub own : IsImage t.shown → AreRaising t found mending.events
   pub over : (g : Grade) (view : View) (base : Told) → base.shown ≡ t.shown → MayOpen found.file view base → StandsFor g (unit_at found.file.layout found.file.cluster t.shown) view
       → OpensOver g view s base (told_after mending.events (did Sync base))
-  pub anew : (view : View) → IsImage t.shown → IsFound (shape found.file) (unit_at found.file.layout found.file.cluster t.shown) view → OpensAnew view s t (told_after mending.events (begun t))
+  pub anew : (view : View) → IsImage t.shown → IsFound (shape found.file) (unit_at found.file.layout found.file.cluster t.shown) view → AreDistinct (unit_at found.file.layout found.file.cluster t.shown) → OpensAnew view s t (told_after mending.events (begun t))
 
 -- the file was found, and the disk failed within its mending or its boot update: at each moment whatever a stop leaves has the view that was found or the raised one, by each of these logs
 pub record MendsPartly (layout : Layout) (t : Told) (later : Option Told) : Type 0 where
@@ -98,7 +93,7 @@ pub record MendsPartly (layout : Layout) (t : Told) (later : Option Told) : Type
   pub own : IsImage t.shown → BeginsRaising t found later
   pub moments : (g : Grade) (view : View) (base : Told) → base.shown ≡ t.shown → MayOpen found.file view base → StandsFor g (unit_at found.file.layout found.file.cluster t.shown) view
       → EachMoment (did Sync base).log (told_after mending.events (did Sync base)).log (IsGoodFor g (format found.file) (shape found.file) view (kept (begun_state found.file base view (boot_fields found))))
-  pub anew : (view : View) → IsImage t.shown → IsFound (shape found.file) (unit_at found.file.layout found.file.cluster t.shown) view
+  pub anew : (view : View) → IsImage t.shown → IsFound (shape found.file) (unit_at found.file.layout found.file.cluster t.shown) view → AreDistinct (unit_at found.file.layout found.file.cluster t.shown)
       → EachMoment (begun t).log (told_after mending.events (begun t)).log (StaysFound found.file view (boot_fields found))
 
 -- it failed in the barrier, which added a sync or nothing, or in a read behind it; or within the mending
@@ -114,3 +109,8 @@ refusal_of mend.DiskFault = open.DiskFault
 abbrev pub TellsOpened : Layout → Option Told → Result State OpenError → Type 0
 TellsOpened layout told (Ok s) = (found : State) × TellsSurvey layout told (Ok found) × (s ≡ raised_state found)
 TellsOpened layout told (Err e) = TellsSurvey layout told (Err e)
+
+-- and of a disk that may be hurt, so: the state behind the boot update of one that the file had, or a refusal because of what is hurt
+abbrev pub TellsHurtOpened : Layout → Option Told → Result State OpenError → Type 0
+TellsHurtOpened layout told (Ok s) = (found : State) × (s ≡ raised_state found) × TellsHurt layout told (Ok found)
+TellsHurtOpened layout told (Err e) = TellsHurt layout told (Err e)

@@ -10,10 +10,10 @@ use Rattle.df_theory.specs.Units.{Content}
 use Rattle.df_theory.specs.View.{View}
 use Rattle.df_units.specs.Meaning.{content_of}
 use Rattle.df_rooms.specs.Recorded.{boot_fields}
-use Rattle.df_damage.specs.Anew.{told_after}
+use Rattle.df_damage.specs.Anew.{begun, told_after}
 use Rattle.df_damage.specs.Below.{State, shape}
-use Rattle.df_opening.specs.Keeping.{Grade, IsGoodFor, format}
-use Rattle.df_opening.specs.Mending.{IsMended, IsPlanned, StaysFound, raising_events, raising_steps}
+use Rattle.df_opening.specs.Keeping.{Firm, Grade, IsGoodFor, IsKept, format}
+use Rattle.df_opening.specs.Mending.{IsMended, IsPlanned, StaysFound, begun_state, raised_state, raising_events, raising_steps}
 use Rattle.df_opening.specs.Survey.{Survey}
 
 -- the superblock that an open writes of a state that was found
@@ -36,8 +36,10 @@ IsPlannedOf s t = IsPlanned s.state.file s.state.headers s.mends s.state.fields 
 pub record RaisesOver (g : Grade) (view : View) (s : Survey) (base : Told) : Type 0 where
   pub moments : EachMoment base.log (told_after (opening_events s) base).log (IsGoodFor g (format s.state.file) (shape s.state.file) view (booted view (raised_content s.state)))
   pub raised : IsMended g s.state.file (booted view (raised_content s.state)) s.state.headers (told_after (opening_events s) base)
+  pub kept_for : IsKept g (raised_state s.state) (begun_state s.state.file base view (boot_fields s.state)) (told_after (opening_events s) base).log
 
--- In a log that is begun anew at what was shown, whatever the copies showed: at each moment each image that is left has the bare view.
+-- In a log that is begun anew at what was shown, whatever the copies showed: at each moment each image that is left has the bare view, and one that is begun anew behind it is kept.
 pub record RaisesAnew (view : View) (s : Survey) (base : Told) : Type 0 where
   pub moments : EachMoment base.log (told_after (opening_events s) base).log (StaysFound s.state.file view (boot_fields s.state))
   pub bare : IsSameBare view (booted view (raised_content s.state))
+  pub kept_for : IsKept Firm (raised_state s.state) (begun_state s.state.file base view (boot_fields s.state)) (begun (told_after (opening_events s) base)).log

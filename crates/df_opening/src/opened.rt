@@ -1,7 +1,7 @@
 // An open: a survey, the mending of what it lists, and the boot update.
 ghost use Rattle.std.specs.Prelude.{◌≡◌, IfOk, IfErr, Some, true};
-ghost use Rattle.df_opening.specs.Below.{IsBlamed, IsImage, Sync, Told, after, is_open_fault, TellsHurt, without_rooms};
-ghost use Rattle.df_opening.specs.Opened.{MendsAll, StopsOpening, TellsOpened, ToldBy, refusal_of};
+ghost use Rattle.df_opening.specs.Below.{IsBlamed, IsImage, Sync, Told, after, is_open_fault, without_rooms};
+ghost use Rattle.df_opening.specs.Opened.{MendsAll, StopsOpening, TellsHurtOpened, TellsOpened, ToldBy, refusal_of};
 ghost use Rattle.df_opening.specs.Survey.{opened_of};
 ghost use Rattle.df_damage.specs.Below.{AreWhole};
 
@@ -28,7 +28,7 @@ pub fn open_file<D: Disk>(disk: &mut D, rooms: Rooms) -> Result<Parts, (Rooms, O
     ensures live { IfOk (opened_of result) (λ state. state.live ≡ true) }
     ensures given_back { IfErr result (λ refused. refused.0.layout ≡ rooms.layout) }
     ensures answer { TellsOpened rooms.layout (D.told disk.old) (without_rooms (opened_of result)) }
-    ensures hurt { TellsHurt rooms.layout (D.told disk.old) (without_rooms (opened_of result)) }
+    ensures hurt { TellsHurtOpened rooms.layout (D.told disk.old) (without_rooms (opened_of result)) }
     ensures opened { (t : Told) → D.told disk.old ≡ Some t → IfOk (opened_of result) (λ state. MendsAll t state (D.told disk.new)) }
     ensures told { IfOk result (λ _. ToldBy (after Sync (D.told disk.old)) (D.told disk.new)) }
     ensures refused { IfErr result (λ refused. (refused.1 ≡ OpenError.DiskFault → ⊥) → D.told disk.new ≡ after Sync (D.told disk.old)) }
