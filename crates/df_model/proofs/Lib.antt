@@ -18,6 +18,7 @@ pub mod Exact
 pub mod Disks
 pub mod NoBlocks
 pub mod Boots
+pub mod OpenLeads
 pub mod Raised
 pub mod Kept
 pub mod Rising

@@ -1,6 +1,6 @@
 -- Steps that write no block: of copies and of headers. They leave each block as it was.
 use Rattle.std.proofs.Common.{◌≡◌, ℕ, List, [], ◌∷◌, ◌++◌, Option, Some, None, refl, ◌∙◌, ap}
-use Rattle.df_theory.specs.Units.{AnyUnit, BlockPlace, Content, CopyPlace, CopyUnit, Header, Place, Units, or_else}
+use Rattle.df_theory.specs.Units.{AnyUnit, BlockPlace, Content, CopyPlace, CopyUnit, Header, Units, or_else}
 use Rattle.df_theory.specs.View.{View}
 use Rattle.df_theory.specs.UnitLog.{PutsOne, Synced, UnitLog, add, now, wrote}
 use Rattle.df_theory.specs.Runs.{Puts, Step, Syncs, after_steps}

@@ -1,17 +1,16 @@
 -- A log that is begun anew behind an open is kept by the state behind its boot update.
-use Rattle.std.proofs.Common.{◌≡◌, inl, inr, ℕ, List, [], ◌∷◌, ◌++◌, false, true, Option, Some, None, refl, ap, subst, arith}
-use Rattle.df_theory.specs.Units.{AnyUnit, BlockPlace, Content, Header, Parts, Units}
+use Rattle.std.proofs.Common.{◌≡◌, inl, inr, ℕ, List, false, true, refl, ap, subst, arith}
+use Rattle.df_theory.specs.Units.{Content, Header, Parts, Units}
 use Rattle.df_theory.specs.Shape.{Shape}
 use Rattle.df_theory.specs.View.{View}
 use Rattle.df_theory.specs.Holds.{Stands}
 use Rattle.df_theory.specs.Next.{booted}
 use Rattle.df_theory.specs.UnitLog.{UnitLog, now, settled}
 use Rattle.df_theory.specs.Grown.{IsClear}
-use Rattle.df_theory.specs.Runs.{Puts, Step, Syncs, after_steps}
-use Rattle.df_theory.specs.MakingLaws.{all_puts}
-use Rattle.df_theory.specs.MendLaws.{AllPutCopy, AllPutTable, PutsTable, copy_steps, header_steps, mend_steps}
-use Rattle.df_theory.specs.CopyPuts.{PutsCopies}
-use Rattle.df_theory.specs.WholeLaws.{AllSpare, IsStanding, Spares}
+use Rattle.df_theory.specs.Runs.{after_steps}
+use Rattle.df_theory.specs.MendLaws.{mend_steps}
+use Rattle.df_theory.specs.CopyPuts.{PutsCopies, update_steps}
+use Rattle.df_theory.specs.WholeLaws.{IsStanding}
 use Rattle.df_theory.specs.Upgrades.{BeginsRaised, EndsRaised, IsCleanBeyond, MayRaise, begun, of_version, raise_steps}
 use Rattle.df_theory.proofs.Laws.{raise_ends_law, stands_law}
 use Rattle.df_model.specs.Work.{Work, opened, raised}

@@ -1,5 +1,5 @@
 -- What an open does behind its survey leads, in one log, to a file that is kept by the state behind the boot update.
-use Rattle.std.proofs.Common.{◌≡◌, ℕ, ◌+◌, ◌<◌, ◌≤◌, ◌^◌, Bool, List, [], length, map, Some, refl, sym, ◌∙◌, ap, subst, arith}
+use Rattle.std.proofs.Common.{◌≡◌, ◌⊎◌, inl, ℕ, ◌+◌, ◌<◌, ◌≤◌, ◌^◌, Bool, List, [], length, map, Option, Some, refl, sym, ◌∙◌, ap, subst, arith}
 use Rattle.std.proofs.lemmas.List.{length-map}
 use Rattle.df_base.specs.Image.{Image, IsImage}
 use Rattle.df_base.specs.Log as Log
@@ -7,25 +7,33 @@ use Rattle.df_base.specs.Log.{Event}
 use Rattle.df_base.specs.Moments.{EachMoment, adds}
 use Rattle.df_base.proofs.Laws.{now_is_image}
 use Rattle.df_disk.specs.Told.{Told}
-use Rattle.df_layout.specs.declared.layout.Layout.{Layout}
+use Rattle.std.proofs.lemmas.Option.{slice_get_within}
+use Rattle.df_format.specs.declared.header.Header.{Header}
+use Rattle.df_headers.specs.Ring.{IsTable}
+use Rattle.df_journal.specs.Append.{ShowsRing}
 use Rattle.df_format.specs.Copies.{content_with}
 use Rattle.df_format.specs.declared.superblock.SuperFields.{SuperFields}
 use Rattle.df_theory.specs.Units
-use Rattle.df_theory.specs.Units.{Content}
+use Rattle.df_theory.specs.Units.{Content, HeaderPlace, HeaderUnit}
 use Rattle.df_theory.specs.CopyPuts.{PutsCopies, update_steps}
 use Rattle.df_theory.specs.Device.{AreSteps, IsGoodDisk, IsGoodWholeDisk, units_log}
 use Rattle.df_theory.specs.Found.{AreOfPlaces, IsFound}
 use Rattle.df_theory.specs.Next.{booted}
-use Rattle.df_theory.specs.Runs.{Step}
-use Rattle.df_theory.specs.Upgrades.{raise_steps}
+use Rattle.df_theory.specs.Chance.{EachLeft}
+use Rattle.df_theory.specs.MendLaws.{mend_steps}
+use Rattle.df_theory.specs.Runs.{AtEach, after_steps}
+use Rattle.df_theory.specs.Shape.{Shape}
+use Rattle.df_theory.specs.Upgrades as UnitsUpgrades
+use Rattle.df_theory.specs.Upgrades.{MayRaise, raise_steps}
 use Rattle.df_theory.specs.UnitLog.{UnitLog, now}
 use Rattle.df_theory.specs.View.{View, boot_of}
 use Rattle.df_theory.specs.WholeLaws.{IsStanding}
-use Rattle.df_theory.proofs.Laws.{found_law, now_units, steps_join_law}
+use Rattle.df_theory.proofs.Laws.{after_append, now_units, steps_join_law}
+use Rattle.df_theory.proofs.Upgrades.{open_law}
 use Rattle.df_units.specs.Bytes.{unit_at}
 use Rattle.df_units.specs.Meaning.{content_of, layout_of, number_of}
 use Rattle.df_units.specs.Puts.{put_copies}
-use Rattle.df_units.proofs.Laws.{all_added, by_second, is_format, of_places}
+use Rattle.df_units.proofs.Laws.{all_added, by_second, call_ends, is_format, of_places}
 use Rattle.df_trailer.specs.Text.{parse_of}
 use Rattle.df_superblock.specs.Events.{update_events}
 use Rattle.df_superblock.specs.Steps.{AreStepsOfCopies, repaired}
@@ -38,15 +46,17 @@ use Rattle.df_model.specs.Work.{Work, kept, raised}
 use Rattle.df_model.proofs.Laws.{disk_open_law, found_law as sense_found, raised_law}
 use Rattle.df_rooms.specs.Recorded.{boot_fields}
 use Rattle.df_rooms.specs.State.{IsSecond}
-use Rattle.df_damage.specs.Anew.{told_after}
+use Rattle.df_damage.specs.Anew.{begun, told_after}
 use Rattle.df_damage.specs.Below.{DataFile, IsState, Represents, State, memory, shape, spelling}
-use Rattle.df_damage.specs.Plan.{headers_in}
+use Rattle.df_damage.specs.Plan.{AreDistinct, header_or_none, headers_in}
 use Rattle.df_damage.proofs.Laws.{added_is_told}
 use Rattle.df_opening.specs.Keeping.{Firm, Grade, IsGoodFor, KeptFor, StandingFor, Whole, format}
 use Rattle.df_opening.specs.Mending.{RestsOnDisk, begun_state, first_state, mending_events, mending_steps, raised_state, sector_puts, sectors_of}
-use Rattle.df_opening.specs.Raising.{IsPlannedOf, opening_events, opening_steps, raised_content}
+use Rattle.df_opening.specs.Raising.{IsPlannedOf, RaisesOver, opening_events, opening_steps, raised_content}
 use Rattle.df_opening.specs.Survey.{Survey}
-use Rattle.df_opening.proofs.Mendable.{content_is, image_is, planned_may_mend, whole}
+use Rattle.df_opening.proofs.Mendable.{IsPlannedIn, content_is, planned_in, planned_may_mend, rest_distinct, rest_found, rest_whole}
+use Rattle.df_opening.proofs.MendSteps.{kept as kept_there, slot_ends}
+use Rattle.df_opening.proofs.KeptFiles.{firm_of}
 use Rattle.df_opening.proofs.Opens.{codec_of}
 use Rattle.df_rooms.proofs.Laws.{recorded_content}
 
@@ -104,18 +114,12 @@ module _ (g : Grade) (view : View) (s : Survey) (base : Told) (four : length s.c
   content_is_d = raised_is s.state is ∙ ap (λ (m : Memory). boot_content m (sum_of s.state)) stands
 
   own_content : view.checkpoint.content ≡ content_of (content_with s.state.fields)
-  own_content = content_is g file view s.state.headers s.mends s.state.fields s.chosen.members base four plan on
-
-  image : unit_at file.layout file.cluster base.shown ≡ now log
-  image = image_is g file view s.state.headers s.mends s.state.fields s.chosen.members base four plan on
-
-  found : IsFound (shape file) (unit_at file.layout file.cluster base.shown) view
-  found = subst (λ (u : Units.Units). IsFound (shape file) u view) (sym image) ((found_law (shape file) (now log) view).0 on.rests.holds)
+  own_content = content_is file view s.state.headers s.mends s.state.fields s.chosen.members base four plan (rest_whole g file view base on) (rest_found g file view base on) (rest_distinct g file view base on)
 
   sense : IsWork (shape file) (spelling file) w
   sense =
       sense_found (shape file) (spelling file) (unit_at file.layout file.cluster base.shown) view (codec_of file) (second_file file s.state.fields view on.version is.second own_content)
-      (of_places file.layout file.cluster file.named (parse_of (layout_of file.layout)) base.shown (whole g file view s.state.headers s.mends s.state.fields s.chosen.members base four plan on)) found
+      (of_places file.layout file.cluster file.named (parse_of (layout_of file.layout)) base.shown (rest_whole g file view base on)) (rest_found g file view base on)
 
   left : boot_of view < 2 ^ 62
   left = omega (arith, ap (λ (c : Content). c.boot) own_content, unspent)
@@ -170,3 +174,98 @@ module _ (g : Grade) (view : View) (s : Survey) (base : Told) (four : length s.c
   opening_stands =
       subst (λ (c : Content). record (memory s.state) { content = c } ≡ memory_of (shape file) (spelling file) (raised w c)) (sym content_is_d)
       (ap (λ (m : Memory). record m { content = d }) stands ∙ sym raises.memory)
+
+  -- the header ring is as the table has it
+  ends : units_log (format file) end.log ≡ after_steps (update_steps (put_copies (boot_fields s.state))) (after_steps (mend_steps headers copies) log)
+  ends = call_ends (format file) (opening_events s) (opening_steps s) base end on.is_log steps (sym (added_is_told (opening_events s) base)) ∙ after_append (mend_steps headers copies) (update_steps (put_copies (boot_fields s.state))) log
+
+  opening_ring : IsTable file.layout file.cluster s.state.headers → ShowsRing file.layout file.cluster (Log.now end.log) s.state.headers
+  opening_ring table k h at =
+      let below : k < file.layout.slots = omega (arith, slice_get_within s.state.headers k h at, table.count) in
+      let shown = slot_ends (headers_in s.state.headers) headers s.state.fields s.chosen.members log k opens.may.puts_headers (opens.may.each_slot k below) in
+      let behind = kept_there (HeaderPlace k) (HeaderUnit (headers_in s.state.headers k)) (update_steps (put_copies (boot_fields s.state))) (after_steps (mend_steps headers copies) log) (inl refl, (inl refl, (inl refl, (inl refl, tt)))) shown in
+      ap (λ (u : Units.Units). u (HeaderPlace k)) (sym (now_units (format file) end.log.start end.log.events)) ∙ ap (λ (l : UnitLog). now l (HeaderPlace k)) ends ∙ behind ∙ ap (λ (o : Option Header). Some (HeaderUnit (header_or_none o))) at
+
+  standing_of : (h : Grade) → KeptFor h (shape file) (spelling file) (units_log (format file) end.log) (begun_state file base view (boot_fields s.state)) → StandingFor h (units_log (format file) end.log) (booted view (raised_content s.state))
+  standing_of Firm keeps = tt
+  standing_of Whole keeps = keeps.1.standing
+
+  pub raises_over : RaisesOver g view s base
+  raises_over =
+      let by = firm_of g (shape file) (spelling file) (units_log (format file) end.log) (begun_state file base view (boot_fields s.state)) opening_keeps in
+      let ring = opening_ring is.ring in
+      record {
+        moments = opening_moments;
+        raised = record { tidy = by.tidy; standing = standing_of g opening_keeps; ring = ring };
+        kept_for = record { log_is = subst Log.IsLog (sym added) (calls_is_log (format file) (opening_events s) (opening_steps s) base.log (is_format file.layout file.cluster) on.is_log steps); stands = opening_stands; kept_by = opening_keeps; ring = ring };
+      }
+
+-- ---- in a log that is begun anew, whatever the copies showed
+
+module _ (view : View) (s : Survey) (base : Told) (four : length s.chosen.members ≡ 4) (version : s.state.file.version ≡ 2) (is : IsState s.state) (unspent : s.state.fields.boot < 2 ^ 62)
+    (plan : IsPlannedOf s (begun base)) (whole : IsImage base.shown) (found : IsFound (shape s.state.file) (unit_at s.state.file.layout s.state.file.cluster base.shown) view)
+    (distinct : AreDistinct (unit_at s.state.file.layout s.state.file.cluster base.shown)) (stands : Represents s.state (first_state s.state.file base view)) (steps : AreSteps (format s.state.file) (opening_events s) (opening_steps s)) where
+  abbrev file : DataFile
+  file = s.state.file
+
+  abbrev sh : Shape
+  sh = shape file
+
+  abbrev w : Work
+  w = first_state file base view
+
+  abbrev image : Units.Units
+  image = unit_at file.layout file.cluster base.shown
+
+  abbrev headers : List Units.Units
+  headers = sector_puts s.state.headers (sectors_of file.layout s.mends)
+
+  abbrev copies : List (ℕ × Units.Units)
+  copies = repaired s.state.fields 0 s.chosen.members
+
+  abbrev d : Content
+  d = boot_content (memory_of sh (spelling file) w) (sum_of s.state)
+
+  content_is_d : raised_content s.state ≡ d
+  content_is_d = raised_is s.state is ∙ ap (λ (m : Memory). boot_content m (sum_of s.state)) stands
+
+  own_content : view.checkpoint.content ≡ content_of (content_with s.state.fields)
+  own_content = content_is file view s.state.headers s.mends s.state.fields s.chosen.members (begun base) four plan whole found distinct
+
+  places : AreOfPlaces sh image
+  places = of_places file.layout file.cluster file.named (parse_of (layout_of file.layout)) base.shown whole
+
+  two : IsVersionTwo sh view
+  two = second_file file s.state.fields view version is.second own_content
+
+  sense : IsWork sh (spelling file) w
+  sense = sense_found sh (spelling file) image view (codec_of file) two places found
+
+  raises : Raises sh (spelling file) w d
+  raises = raised_law sh (spelling file) w (sum_of s.state) sense (omega (arith, ap (λ (c : Content). c.boot) own_content, unspent))
+
+  planned : IsPlannedIn sh image view (headers_in s.state.headers) headers copies
+  planned = planned_in file view s.state.headers s.mends s.state.fields s.chosen.members (begun base) four plan whole found distinct
+
+  may : MayRaise sh view.checkpoint.content.version image view (headers_in s.state.headers) headers copies d
+  may = record {
+    places = places;
+    found = found;
+    tells = planned.tells;
+    puts_headers = planned.puts_headers;
+    agreed = planned.agreed;
+    puts_copies = planned.puts_copies;
+    each_slot = planned.each_slot;
+    each_copy = planned.each_copy;
+    boot = raises.may;
+  }
+
+  puts : PutsCopies d
+  puts = subst PutsCopies content_is_d (put_copies (boot_fields s.state))
+
+  -- at each moment of the log of units
+  each : AtEach (λ log. EachLeft log (λ left. IsFound sh left view ⊎ IsFound sh left (booted view d))) (UnitsUpgrades.begun image) (raise_steps headers copies puts)
+  each = (open_law sh image view (headers_in s.state.headers) headers copies d puts may).0
+
+-- What is left: `each` over sectors (each moment of the calls is one of the steps, `moments` of df_theory's Laws, and an image that a stop leaves is left of the units by IsLeft and NoChanceOf), the bare view by raises.bare, and `kept_for` by raised_kept_law
+-- with `beyond` (no sector is of a copy from number 4 on).
