@@ -14,6 +14,7 @@ pub mod MendShows
 pub mod Mendable
 pub mod Planned
 pub mod RaiseSteps
+pub mod RaiseAnew
 pub mod SurveyPlans
 pub mod Hurts
 pub mod Barriers

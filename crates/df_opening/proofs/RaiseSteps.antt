@@ -1,11 +1,8 @@
 -- What an open does behind its survey leads, in one log, to a file that is kept by the state behind the boot update.
-use Rattle.std.proofs.Common.{◌≡◌, ◌⊎◌, inl, ℕ, ◌+◌, ◌<◌, ◌≤◌, ◌^◌, Bool, List, [], length, map, Option, Some, refl, sym, ◌∙◌, ap, subst, arith}
+use Rattle.std.proofs.Common.{◌≡◌, inl, ℕ, ◌+◌, ◌<◌, ◌^◌, List, [], length, map, Option, Some, refl, sym, ◌∙◌, ap, subst, arith}
 use Rattle.std.proofs.lemmas.List.{length-map}
-use Rattle.df_base.specs.Image.{Image, IsImage}
 use Rattle.df_base.specs.Log as Log
-use Rattle.df_base.specs.Log.{Event}
 use Rattle.df_base.specs.Moments.{EachMoment, adds}
-use Rattle.df_base.proofs.Laws.{now_is_image}
 use Rattle.df_disk.specs.Told.{Told}
 use Rattle.std.proofs.lemmas.Option.{slice_get_within}
 use Rattle.df_format.specs.declared.header.Header.{Header}
@@ -17,19 +14,14 @@ use Rattle.df_theory.specs.Units
 use Rattle.df_theory.specs.Units.{Content, HeaderPlace, HeaderUnit}
 use Rattle.df_theory.specs.CopyPuts.{PutsCopies, update_steps}
 use Rattle.df_theory.specs.Device.{AreSteps, IsGoodDisk, IsGoodWholeDisk, units_log}
-use Rattle.df_theory.specs.Found.{AreOfPlaces, IsFound}
 use Rattle.df_theory.specs.Next.{booted}
-use Rattle.df_theory.specs.Chance.{EachLeft}
 use Rattle.df_theory.specs.MendLaws.{mend_steps}
-use Rattle.df_theory.specs.Runs.{AtEach, after_steps}
-use Rattle.df_theory.specs.Shape.{Shape}
-use Rattle.df_theory.specs.Upgrades as UnitsUpgrades
-use Rattle.df_theory.specs.Upgrades.{MayRaise, raise_steps}
+use Rattle.df_theory.specs.Runs.{after_steps}
+use Rattle.df_theory.specs.Upgrades.{raise_steps}
 use Rattle.df_theory.specs.UnitLog.{UnitLog, now}
 use Rattle.df_theory.specs.View.{View, boot_of}
 use Rattle.df_theory.specs.WholeLaws.{IsStanding}
 use Rattle.df_theory.proofs.Laws.{after_append, now_units, steps_join_law}
-use Rattle.df_theory.proofs.Upgrades.{open_law}
 use Rattle.df_units.specs.Bytes.{unit_at}
 use Rattle.df_units.specs.Meaning.{content_of, layout_of, number_of}
 use Rattle.df_units.specs.Puts.{put_copies}
@@ -42,19 +34,19 @@ use Rattle.df_model.specs.Making.{boot_content}
 use Rattle.df_model.specs.Memory.{Memory, memory_of}
 use Rattle.df_model.specs.OnDisk.{BacksOnDisk, LeadsOnDisk}
 use Rattle.df_model.specs.Sense.{IsBacked, IsVersionTwo, IsWork}
-use Rattle.df_model.specs.Work.{Work, kept, raised}
+use Rattle.df_model.specs.Work.{Work, raised}
 use Rattle.df_model.proofs.Laws.{disk_open_law, found_law as sense_found, raised_law}
 use Rattle.df_rooms.specs.Recorded.{boot_fields}
 use Rattle.df_rooms.specs.State.{IsSecond}
-use Rattle.df_damage.specs.Anew.{begun, told_after}
+use Rattle.df_damage.specs.Anew.{told_after}
 use Rattle.df_damage.specs.Below.{DataFile, IsState, Represents, State, memory, shape, spelling}
-use Rattle.df_damage.specs.Plan.{AreDistinct, header_or_none, headers_in}
+use Rattle.df_damage.specs.Plan.{header_or_none, headers_in}
 use Rattle.df_damage.proofs.Laws.{added_is_told}
 use Rattle.df_opening.specs.Keeping.{Firm, Grade, IsGoodFor, KeptFor, StandingFor, Whole, format}
 use Rattle.df_opening.specs.Mending.{RestsOnDisk, begun_state, first_state, mending_events, mending_steps, raised_state, sector_puts, sectors_of}
 use Rattle.df_opening.specs.Raising.{IsPlannedOf, RaisesOver, opening_events, opening_steps, raised_content}
 use Rattle.df_opening.specs.Survey.{Survey}
-use Rattle.df_opening.proofs.Mendable.{IsPlannedIn, content_is, planned_in, planned_may_mend, rest_distinct, rest_found, rest_whole}
+use Rattle.df_opening.proofs.Mendable.{content_is, planned_may_mend, rest_distinct, rest_found, rest_whole}
 use Rattle.df_opening.proofs.MendSteps.{kept as kept_there, slot_ends}
 use Rattle.df_opening.proofs.KeptFiles.{firm_of}
 use Rattle.df_opening.proofs.Opens.{codec_of}
@@ -77,7 +69,7 @@ second_file file f view version second same = record {
   names = ap (λ (c : Content). length c.reply_checksums) same ∙ ap length (by_second f (map number_of f.reply_checksums) [] second.rules.version) ∙ length-map f.reply_checksums number_of ∙ second.names.size;
 }
 
-abbrev sum_of : State → ℕ
+abbrev pub sum_of : State → ℕ
 sum_of s = number_of (content_with (boot_fields s)).checksum
 
 -- what is written is what the machine records
@@ -199,73 +191,3 @@ module _ (g : Grade) (view : View) (s : Survey) (base : Told) (four : length s.c
         raised = record { tidy = by.tidy; standing = standing_of g opening_keeps; ring = ring };
         kept_for = record { log_is = subst Log.IsLog (sym added) (calls_is_log (format file) (opening_events s) (opening_steps s) base.log (is_format file.layout file.cluster) on.is_log steps); stands = opening_stands; kept_by = opening_keeps; ring = ring };
       }
-
--- ---- in a log that is begun anew, whatever the copies showed
-
-module _ (view : View) (s : Survey) (base : Told) (four : length s.chosen.members ≡ 4) (version : s.state.file.version ≡ 2) (is : IsState s.state) (unspent : s.state.fields.boot < 2 ^ 62)
-    (plan : IsPlannedOf s (begun base)) (whole : IsImage base.shown) (found : IsFound (shape s.state.file) (unit_at s.state.file.layout s.state.file.cluster base.shown) view)
-    (distinct : AreDistinct (unit_at s.state.file.layout s.state.file.cluster base.shown)) (stands : Represents s.state (first_state s.state.file base view)) (steps : AreSteps (format s.state.file) (opening_events s) (opening_steps s)) where
-  abbrev file : DataFile
-  file = s.state.file
-
-  abbrev sh : Shape
-  sh = shape file
-
-  abbrev w : Work
-  w = first_state file base view
-
-  abbrev image : Units.Units
-  image = unit_at file.layout file.cluster base.shown
-
-  abbrev headers : List Units.Units
-  headers = sector_puts s.state.headers (sectors_of file.layout s.mends)
-
-  abbrev copies : List (ℕ × Units.Units)
-  copies = repaired s.state.fields 0 s.chosen.members
-
-  abbrev d : Content
-  d = boot_content (memory_of sh (spelling file) w) (sum_of s.state)
-
-  content_is_d : raised_content s.state ≡ d
-  content_is_d = raised_is s.state is ∙ ap (λ (m : Memory). boot_content m (sum_of s.state)) stands
-
-  own_content : view.checkpoint.content ≡ content_of (content_with s.state.fields)
-  own_content = content_is file view s.state.headers s.mends s.state.fields s.chosen.members (begun base) four plan whole found distinct
-
-  places : AreOfPlaces sh image
-  places = of_places file.layout file.cluster file.named (parse_of (layout_of file.layout)) base.shown whole
-
-  two : IsVersionTwo sh view
-  two = second_file file s.state.fields view version is.second own_content
-
-  sense : IsWork sh (spelling file) w
-  sense = sense_found sh (spelling file) image view (codec_of file) two places found
-
-  raises : Raises sh (spelling file) w d
-  raises = raised_law sh (spelling file) w (sum_of s.state) sense (omega (arith, ap (λ (c : Content). c.boot) own_content, unspent))
-
-  planned : IsPlannedIn sh image view (headers_in s.state.headers) headers copies
-  planned = planned_in file view s.state.headers s.mends s.state.fields s.chosen.members (begun base) four plan whole found distinct
-
-  may : MayRaise sh view.checkpoint.content.version image view (headers_in s.state.headers) headers copies d
-  may = record {
-    places = places;
-    found = found;
-    tells = planned.tells;
-    puts_headers = planned.puts_headers;
-    agreed = planned.agreed;
-    puts_copies = planned.puts_copies;
-    each_slot = planned.each_slot;
-    each_copy = planned.each_copy;
-    boot = raises.may;
-  }
-
-  puts : PutsCopies d
-  puts = subst PutsCopies content_is_d (put_copies (boot_fields s.state))
-
-  -- at each moment of the log of units
-  each : AtEach (λ log. EachLeft log (λ left. IsFound sh left view ⊎ IsFound sh left (booted view d))) (UnitsUpgrades.begun image) (raise_steps headers copies puts)
-  each = (open_law sh image view (headers_in s.state.headers) headers copies d puts may).0
-
--- What is left: `each` over sectors (each moment of the calls is one of the steps, `moments` of df_theory's Laws, and an image that a stop leaves is left of the units by IsLeft and NoChanceOf), the bare view by raises.bare, and `kept_for` by raised_kept_law
--- with `beyond` (no sector is of a copy from number 4 on).
