@@ -2,7 +2,7 @@
 pub use Rattle.df_opening.proofs.StepShows.{StartSynced, same_class, same_sector, shown_after, shown_by, stays_firm, stays_whole, synced_first, unit_after, unwritten}
 pub use Rattle.df_opening.proofs.Fronts.{FrontSteps, all_front, front_of}
 pub use Rattle.df_opening.proofs.KeptFiles.{firm_of, firmly, good_safe}
-pub use Rattle.df_opening.proofs.Opens.{codec_of, found_keeps, layout_shown, names_none, super_shown}
+pub use Rattle.df_opening.proofs.Opens.{codec_of, found_keeps, layout_shown, second_found, super_shown}
 pub use Rattle.df_opening.proofs.NotRefused.{safe_is_not_refused}
 pub use Rattle.df_opening.proofs.Followed.{begun_may_open, stopped_may_open}
 pub use Rattle.df_opening.proofs.FirstSuper.{first_is_super}

@@ -12,11 +12,11 @@ pub mod MendEvents
 pub mod MendSteps
 pub mod MendShows
 pub mod Mendable
-pub mod Planned
 pub mod RaiseSteps
 pub mod RaiseAnew
 pub mod SurveyPlans
 pub mod Hurts
 pub mod Barriers
+pub mod Refused
 pub mod Opens
 pub mod Laws

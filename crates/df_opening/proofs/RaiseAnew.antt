@@ -37,8 +37,8 @@ use Rattle.df_opening.specs.Mending.{first_state, sector_puts, sectors_of}
 use Rattle.df_opening.specs.Raising.{IsPlannedOf, opening_events, opening_steps, raised_content}
 use Rattle.df_opening.specs.Survey.{Survey}
 use Rattle.df_opening.proofs.Mendable.{IsPlannedIn, content_is, planned_in}
-use Rattle.df_opening.proofs.Opens.{codec_of}
-use Rattle.df_opening.proofs.RaiseSteps.{raised_is, second_file, sum_of}
+use Rattle.df_opening.proofs.Opens.{codec_of, second_found}
+use Rattle.df_opening.proofs.RaiseSteps.{raised_is, sum_of}
 
 module _ (view : View) (s : Survey) (base : Told) (four : length s.chosen.members ≡ 4) (version : s.state.file.version ≡ 2) (is : IsState s.state) (unspent : s.state.fields.boot < 2 ^ 62)
     (plan : IsPlannedOf s (begun base)) (whole : IsImage base.shown) (found : IsFound (shape s.state.file) (unit_at s.state.file.layout s.state.file.cluster base.shown) view)
@@ -74,7 +74,7 @@ module _ (view : View) (s : Survey) (base : Told) (four : length s.chosen.member
   places = of_places file.layout file.cluster file.named (parse_of (layout_of file.layout)) base.shown whole
 
   two : IsVersionTwo sh view
-  two = second_file file s.state.fields view version is.second own_content
+  two = second_found file base.shown view whole version found
 
   sense : IsWork sh (spelling file) w
   sense = sense_found sh (spelling file) image view (codec_of file) two places found

@@ -49,7 +49,7 @@ use Rattle.df_opening.specs.Survey.{Survey}
 use Rattle.df_opening.proofs.Mendable.{content_is, planned_may_mend, rest_distinct, rest_found, rest_whole}
 use Rattle.df_opening.proofs.MendSteps.{kept as kept_there, slot_ends}
 use Rattle.df_opening.proofs.KeptFiles.{firm_of}
-use Rattle.df_opening.proofs.Opens.{codec_of}
+use Rattle.df_opening.proofs.Opens.{codec_of, second_found}
 use Rattle.df_rooms.proofs.Laws.{recorded_content}
 
 -- ---- the calls are steps
@@ -60,14 +60,6 @@ opening_is_steps s mending update =
     steps_join_law (format s.state.file) (mending_events s.state.file.layout s.state.headers s.mends s.state.fields s.chosen.members) (update_events (boot_fields s.state)) (mending_steps s.state.file.layout s.state.headers s.mends s.state.fields s.chosen.members) (update_steps (put_copies (boot_fields s.state))) mending (update s.state.file.layout s.state.file.cluster)
 
 -- ---- the superblock
-
--- a file of version 2, whose superblock these fields are
-pub second_file : (file : DataFile) (f : SuperFields) (view : View) → file.version ≡ 2 → IsSecond f → view.checkpoint.content ≡ content_of (content_with f) → IsVersionTwo (shape file) view
-second_file file f view version second same = record {
-  version = version;
-  places = omega (arith, file.layout.clients_within.1);
-  names = ap (λ (c : Content). length c.reply_checksums) same ∙ ap length (by_second f (map number_of f.reply_checksums) [] second.rules.version) ∙ length-map f.reply_checksums number_of ∙ second.names.size;
-}
 
 abbrev pub sum_of : State → ℕ
 sum_of s = number_of (content_with (boot_fields s)).checksum
@@ -110,7 +102,7 @@ module _ (g : Grade) (view : View) (s : Survey) (base : Told) (four : length s.c
 
   sense : IsWork (shape file) (spelling file) w
   sense =
-      sense_found (shape file) (spelling file) (unit_at file.layout file.cluster base.shown) view (codec_of file) (second_file file s.state.fields view on.version is.second own_content)
+      sense_found (shape file) (spelling file) (unit_at file.layout file.cluster base.shown) view (codec_of file) (second_found file base.shown view (rest_whole g file view base on) on.version (rest_found g file view base on))
       (of_places file.layout file.cluster file.named (parse_of (layout_of file.layout)) base.shown (rest_whole g file view base on)) (rest_found g file view base on)
 
   left : boot_of view < 2 ^ 62
