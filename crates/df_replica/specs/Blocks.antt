@@ -1,5 +1,5 @@
 -- The calls that write a block and let one go: what a write makes, what it asks of the disk, and the states that they lead to. No state of the machine is in sight.
-use Rattle.std.specs.Prelude.{◌≡◌, ◌<◌, ◌≤◌, ◌+◌, ℕ, false, List, Option, Some, None, Result, Ok, Err}
+use Rattle.std.specs.Prelude.{◌≡◌, ◌<◌, ◌≤◌, ◌+◌, ℕ, false, List, Option, Some, None, Result, Ok, Err, true}
 use Rattle.df_base.specs.Log.{Event}
 use Rattle.df_disk.specs.Told.{Told}
 use Rattle.df_disk.specs.Adds.{AddsPart, after_all}
@@ -50,6 +50,7 @@ reference_of h = record { address = h.op; checksum = h.checksum }
 
 -- a block that isn't refused, as far as the code needs it
 pub record MayWriteNext (s : State) (kind size : ℕ) : Type 0 where
+  pub live : s.live ≡ true
   pub named : 0 < kind
   pub fits : 256 + size ≤ s.file.layout.block_size
   pub free : IsUnheld (grid_with s.file s.boot s.blocks) (next_address (memory s))
