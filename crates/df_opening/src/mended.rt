@@ -121,7 +121,6 @@ fn raise_parts<D: Disk>(disk: &mut D, parts: &mut Parts) -> Result<(), MendError
 /// rooms come back with an error.
 pub fn mend_file<D: Disk>(disk: &mut D, surveyed: SurveyedFile) -> Result<Parts, (Rooms, MendError)>
     requires found { AreFound surveyed.parts }
-    requires unspent { surveyed.parts.content.boot < 2 ^ 62 }
     ensures whole { IfOk result (λ parts. AreWhole parts) }
     ensures state { IfOk (opened_of result) (λ state. state ≡ raised_state (state_in surveyed.parts)) }
     ensures rooms { IfErr result (λ refused. refused.0.layout ≡ surveyed.parts.file.layout) }

@@ -72,6 +72,8 @@ pub record EndsBehind (layout : Layout) (f : SuperFields) (traces : Traces) : Ty
   pub order : traces.replies ≤ traces.tail.op
   -- at most eight prepares wait for their replies
   pub few : traces.tail.op ≤ traces.replies + 8
+  -- the superblock's boot can be raised
+  pub unspent : f.boot < 2 ^ 62
 
 -- the sessions after the tail make sense by themselves
 pub record AreAfter (traces : Traces) (sessions : List Session) : Type 0 where

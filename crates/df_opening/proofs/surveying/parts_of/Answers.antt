@@ -45,6 +45,7 @@ returns-clause-found c =
         scrub_fits = c.cleared-scrub.ensures.layout ∙ c.args.surveyed.scanned.scrub_fits;
       };
       dead = refl;
+      unspent = found.ends.unspent;
       unbooted = c.args.surveyed.scanned.grid_unbooted;
       idle = refl;
       fresh = c.cleared-scrub.ensures.cleared;
