@@ -11,7 +11,7 @@ pub use Rattle.df_damage.proofs.Firsts.{answer_is_of_hurt, found_is_not_refused,
 -- ---- what was written
 pub use Rattle.df_damage.proofs.Written.{had_is_written, opened_is_written}
 -- ---- logs begun anew
-pub use Rattle.df_damage.proofs.Begun.{added_is_told, honest_stays, same_goes_on, stops_alike}
+pub use Rattle.df_damage.proofs.Begun.{added_is_told, begun_is_honest, honest_stays, same_goes_on, stops_alike}
 pub use Rattle.df_damage.proofs.Started.{hurt_may_begin}
 -- ---- what an open finds
 pub use Rattle.df_recovery.proofs.Laws.{asked_noted, boot_made, boot_may_record, course_on, filter_more, head_found, level_beyond, numbered_by, one_super, recorded_content, recorded_is_super, second_super, same_file, slot_mends_more, super_is_written, super_is_written_as, written_as, written_is}

@@ -2,7 +2,8 @@
 use Rattle.std.proofs.Common.{◌≡◌, inl, ℕ, ◌+◌, ◌<◌, ◌^◌, List, [], length, map, Option, Some, refl, sym, ◌∙◌, ap, subst, arith}
 use Rattle.std.proofs.lemmas.List.{length-map}
 use Rattle.df_base.specs.Log as Log
-use Rattle.df_base.specs.Moments.{EachMoment, adds}
+use Rattle.df_base.specs.Moments.{EachMoment, Extends, adds}
+use Rattle.df_base.proofs.Laws.{adds_extends, extends_self}
 use Rattle.df_disk.specs.Told.{Told}
 use Rattle.std.proofs.lemmas.Option.{slice_get_within}
 use Rattle.df_format.specs.declared.header.Header.{Header}
@@ -48,7 +49,7 @@ use Rattle.df_opening.specs.Raising.{IsPlannedOf, RaisesOver, opening_events, op
 use Rattle.df_opening.specs.Survey.{Survey}
 use Rattle.df_opening.proofs.Mendable.{content_is, planned_may_mend, rest_distinct, rest_found, rest_whole}
 use Rattle.df_opening.proofs.MendSteps.{kept as kept_there, slot_ends}
-use Rattle.df_opening.proofs.KeptFiles.{firm_of}
+use Rattle.df_opening.proofs.KeptFiles.{firm_of, good_safe}
 use Rattle.df_opening.proofs.Opens.{codec_of, second_found}
 use Rattle.df_rooms.proofs.Laws.{recorded_content}
 
@@ -174,6 +175,11 @@ module _ (g : Grade) (view : View) (s : Survey) (base : Told) (four : length s.c
   standing_of Firm keeps = tt
   standing_of Whole keeps = keeps.1.standing
 
+  -- the last moment is the log at the end
+  end_is_log : Log.IsLog end.log
+  end_is_log =
+      (good_safe file g view (booted view (raised_content s.state)) end.log (opening_moments end.log (record { since = subst (λ (l : Log.Log). Extends l base.log) (sym added) (adds_extends (opening_events s) base.log); until = extends_self end.log }))).is_log
+
   pub raises_over : RaisesOver g view s base
   raises_over =
       let by = firm_of g (shape file) (spelling file) (units_log (format file) end.log) (begun_state file base view (boot_fields s.state)) opening_keeps in
@@ -181,5 +187,5 @@ module _ (g : Grade) (view : View) (s : Survey) (base : Told) (four : length s.c
       record {
         moments = opening_moments;
         raised = record { tidy = by.tidy; standing = standing_of g opening_keeps; ring = ring };
-        kept_for = record { log_is = subst Log.IsLog (sym added) (calls_is_log (format file) (opening_events s) (opening_steps s) base.log (is_format file.layout file.cluster) on.is_log steps); stands = opening_stands; kept_by = opening_keeps; ring = ring };
+        kept_for = record { log_is = end_is_log; stands = opening_stands; kept_by = opening_keeps; ring = ring };
       }
