@@ -14,6 +14,7 @@ pub mod MendShows
 pub mod Mendable
 pub mod RaiseSteps
 pub mod RaiseAnew
+pub mod RaisedState
 pub mod SurveyPlans
 pub mod Hurts
 pub mod Barriers

@@ -14,8 +14,7 @@ use Rattle.df_theory.specs.MendLaws.{copy_steps, header_steps}
 use Rattle.df_theory.specs.Runs.{Puts, Step, Syncs}
 use Rattle.df_theory.specs.Units.{AnyUnit, BlockPlace, Place, PreparePlace, ReplyPlace, or_else}
 use Rattle.df_units.specs.Puts.{put_copies, put_copy}
-use Rattle.df_rooms.specs.Recorded.{boot_fields}
-use Rattle.df_damage.specs.Below.{DataFile}
+use Rattle.df_damage.specs.Below.{DataFile, boot_fields}
 use Rattle.df_opening.specs.Sparing.{SparesReads, image_after}
 use Rattle.df_opening.specs.Mending.{mending_steps, sector_put, sector_puts, sectors_of}
 use Rattle.df_opening.specs.Raising.{opening_events, opening_steps}

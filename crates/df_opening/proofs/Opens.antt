@@ -36,12 +36,12 @@ use Rattle.df_opening.proofs.Fronts.{Front, front_of}
 use Rattle.df_opening.proofs.StepShows.{stays_firm, unit_after, unwritten}
 use Rattle.df_opening.specs.Sparing.{AreSettled}
 use Rattle.df_superblock.specs.Steps.{repaired}
-use Rattle.df_damage.specs.Below.{DataFile, Represents, State, shape, spelling}
+use Rattle.df_damage.specs.Below.{DataFile, Represents, State, boot_fields, shape, spelling}
 use Rattle.df_layout.specs.declared.layout.Layout.{Layout}
 use Rattle.df_opening.specs.Survey.{Survey}
 use Rattle.df_opening.specs.Surveying.{IsMendable, TellsMends, TellsSurvey, mends_of}
 use Rattle.df_opening.specs.Following.{MayOpen}
-use Rattle.df_opening.specs.Mending.{IsPlanned, mending_steps, sector_puts, sectors_of}
+use Rattle.df_opening.specs.Mending.{IsPlanned, first_state, mending_steps, sector_puts, sectors_of}
 use Rattle.df_opening.specs.Keeping.{Firm, Keeps, format}
 use Rattle.df_damage.specs.Opening.{HasSuperAs}
 use Rattle.std.proofs.Common.{length}
@@ -50,7 +50,6 @@ use Rattle.df_theory.specs.CopyPuts.{update_steps}
 use Rattle.df_units.specs.Puts.{put_copies}
 use Rattle.df_units.proofs.Laws.{by_second, shown_checks}
 use Rattle.df_model.specs.Sense.{IsVersionTwo}
-use Rattle.df_rooms.specs.Recorded.{boot_fields}
 use Rattle.df_damage.specs.Found.{IsLayoutShownAs}
 use Rattle.df_damage.specs.Surveys.{IsOpenedAs}
 use Rattle.df_opening.specs.Mending.{raising_events}
@@ -155,6 +154,18 @@ found_keeps s image view whole is found =
           (of_places s.file.layout s.file.cluster s.file.named (parse_of (layout_of s.file.layout)) image whole) found,
       subst (λ (v : View). Represents s (opened sh units v)) one is.stands,
     )
+
+-- so by a log that shows what was shown, and by which the file may be opened
+pub stands_over : (layout : Layout) (t base : Told) (s : State) → base.shown ≡ t.shown → (view : View) → MayOpen s.file view base → s.file.layout ≡ layout → TellsSurvey layout (Some t) (Ok s) → Represents s (first_state s.file base view)
+stands_over layout t base s same view may of answer =
+    let units = unit_at s.file.layout s.file.cluster in
+    let shown : base.shown ≡ Log.now base.log = λ i sector. may.honest.shows sector i in
+    let whole : IsImage base.shown = subst IsImage (sym shown) (now_is_image base.log.start base.log.events may.safe.is_log.start may.safe.is_log.events) in
+    (found_keeps s base.shown view whole (survey_opened layout t base s same view may of answer) (subst (λ (m : Image). IsFound (shape s.file) (units m) view) (sym shown) may.found)).1
+
+-- and in what was shown itself
+pub stands_anew : (layout : Layout) (t : Told) (s : State) (view : View) → s.file.layout ≡ layout → TellsSurvey layout (Some t) (Ok s) → IsImage t.shown → IsFound (shape s.file) (unit_at s.file.layout s.file.cluster t.shown) view → Represents s (first_state s.file t view)
+stands_anew layout t s view of answer whole found = (found_keeps s t.shown view whole (subst (λ (l : Layout). IsOpenedAs 2 l t.shown s) (sym of) (answer whole)) found).1
 
 -- its superblock is one of version 2, and names its layout
 pub super_shown : (layout : Layout) (image : Image) (s : State) → IsOpenedAs 2 layout image s → HasSuperAs 2 image s.fields

@@ -39,9 +39,8 @@ use Rattle.df_model.specs.Sense.{IsVersionTwo, IsWork}
 use Rattle.df_model.specs.Laws.{IsKeptBy}
 use Rattle.df_model.specs.Work.{Work, raised}
 use Rattle.df_model.proofs.Laws.{found_law as sense_found, raised_kept_law, raised_law}
-use Rattle.df_rooms.specs.Recorded.{boot_fields}
 use Rattle.df_damage.specs.Anew.{begun, told_after}
-use Rattle.df_damage.specs.Below.{DataFile, IsState, Represents, memory, shape, spelling}
+use Rattle.df_damage.specs.Below.{DataFile, IsState, Represents, boot_fields, memory, shape, spelling}
 use Rattle.df_damage.specs.Plan.{AreDistinct, header_or_none, headers_in}
 use Rattle.df_damage.proofs.Laws.{added_is_told, begun_is_honest, honest_stays}
 use Rattle.df_opening.specs.Keeping.{format}

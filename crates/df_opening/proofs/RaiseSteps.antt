@@ -37,12 +37,10 @@ use Rattle.df_model.specs.OnDisk.{BacksOnDisk, LeadsOnDisk}
 use Rattle.df_model.specs.Sense.{IsBacked, IsVersionTwo, IsWork}
 use Rattle.df_model.specs.Work.{Work, raised}
 use Rattle.df_model.proofs.Laws.{disk_open_law, found_law as sense_found, raised_law}
-use Rattle.df_rooms.specs.Recorded.{boot_fields}
-use Rattle.df_rooms.specs.State.{IsSecond}
 use Rattle.df_damage.specs.Anew.{told_after}
-use Rattle.df_damage.specs.Below.{DataFile, IsState, Represents, State, memory, shape, spelling}
+use Rattle.df_damage.specs.Below.{DataFile, IsState, Represents, State, boot_fields, memory, shape, spelling}
 use Rattle.df_damage.specs.Plan.{header_or_none, headers_in}
-use Rattle.df_damage.proofs.Laws.{added_is_told}
+use Rattle.df_damage.proofs.Laws.{added_is_told, recorded_content}
 use Rattle.df_opening.specs.Keeping.{Firm, Grade, IsGoodFor, KeptFor, StandingFor, Whole, format}
 use Rattle.df_opening.specs.Mending.{RestsOnDisk, begun_state, first_state, mending_events, mending_steps, raised_state, sector_puts, sectors_of}
 use Rattle.df_opening.specs.Raising.{IsPlannedOf, RaisesOver, opening_events, opening_steps, raised_content}
@@ -51,7 +49,6 @@ use Rattle.df_opening.proofs.Mendable.{content_is, planned_may_mend, rest_distin
 use Rattle.df_opening.proofs.MendSteps.{kept as kept_there, slot_ends}
 use Rattle.df_opening.proofs.KeptFiles.{firm_of, good_safe}
 use Rattle.df_opening.proofs.Opens.{codec_of, second_found}
-use Rattle.df_rooms.proofs.Laws.{recorded_content}
 
 -- ---- the calls are steps
 

@@ -38,8 +38,7 @@ use Rattle.df_superblock.specs.Calls.{IsJudged}
 use Rattle.df_superblock.specs.Events.{repair_events, update_events}
 use Rattle.df_superblock.specs.declared.updates.UpdateError.TheVariants as superblock
 use Rattle.df_superblock.specs.Steps.{repaired}
-use Rattle.df_rooms.specs.Recorded.{boot_fields}
-use Rattle.df_damage.specs.Below.{DataFile, State, shape}
+use Rattle.df_damage.specs.Below.{DataFile, State, boot_fields, shape}
 use Rattle.df_damage.specs.Opening.{HasSuperAs}
 use Rattle.df_damage.specs.Plan.{headers_in, if_wanted}
 use Rattle.df_damage.specs.Starting.{start_of}

@@ -22,8 +22,7 @@ use Rattle.df_model.specs.declared.errors.MendError.{MendError}
 use Rattle.df_model.specs.declared.errors.MendError.TheVariants as mend
 use Rattle.df_model.specs.declared.errors.OpenError.{OpenError}
 use Rattle.df_model.specs.declared.errors.OpenError.TheVariants as open
-use Rattle.df_rooms.specs.Recorded.{boot_fields}
-use Rattle.df_damage.specs.Below.{DataFile, State, shape}
+use Rattle.df_damage.specs.Below.{DataFile, State, boot_fields, shape}
 use Rattle.df_damage.specs.Found.{IsChoiceOf}
 use Rattle.df_damage.specs.Plan.{AreDistinct}
 use Rattle.df_damage.specs.Surveys.{IsOpenedAs}

@@ -9,9 +9,8 @@ use Rattle.df_theory.specs.Runs.{Step}
 use Rattle.df_theory.specs.Units.{Content}
 use Rattle.df_theory.specs.View.{View}
 use Rattle.df_units.specs.Meaning.{content_of}
-use Rattle.df_rooms.specs.Recorded.{boot_fields}
 use Rattle.df_damage.specs.Anew.{begun, told_after}
-use Rattle.df_damage.specs.Below.{State, shape}
+use Rattle.df_damage.specs.Below.{State, boot_fields, shape}
 use Rattle.df_opening.specs.Keeping.{Firm, Grade, IsGoodFor, IsKept, format}
 use Rattle.df_opening.specs.Mending.{IsMended, IsPlanned, StaysFound, begun_state, raised_state, raising_events, raising_steps}
 use Rattle.df_opening.specs.Survey.{Survey}

@@ -1,19 +1,16 @@
 // What the rooms of a surveyed file list is mended, and its boot is raised; then calls may go on.
-ghost use Rattle.std.specs.Prelude.{◌≡◌, ◌<◌, ◌^◌, length, IfErr, IfOk, OnErr, OnOk};
-ghost use Rattle.df_superblock.specs.Steps.{AreStepsOfCopies};
-ghost use Rattle.df_theory.specs.CopyPuts.{update_steps};
+ghost use Rattle.std.specs.Prelude.{◌≡◌, ◌<◌, ◌^◌, length, IfErr, IfOk, None, OnErr, OnOk};
+ghost use Rattle.df_format.specs.SuperRules.{fault_of};
 ghost use Rattle.df_theory.specs.Found.{IsFound};
 ghost use Rattle.df_units.specs.Bytes.{unit_at};
-ghost use Rattle.df_units.specs.Puts.{put_copies};
-ghost use Rattle.df_rooms.specs.Recorded.{boot_fields};
 ghost use Rattle.df_damage.specs.Plan.{AreDistinct};
-ghost use Rattle.df_opening.specs.Below.{HasCause, IsBlamed, Told, Adds, AreSteps, Represents, View, begun, is_mend_fault, shape, update_events, without_rooms};
+ghost use Rattle.df_opening.specs.Below.{HasCause, IsBlamed, IsImage, Told, Adds, AreSteps, Represents, View, begun, is_mend_fault, shape, update_events, without_rooms};
 ghost use Rattle.df_opening.specs.Held.{AreAsBefore, AreRoomsOf};
 ghost use Rattle.df_opening.specs.Keeping.{Grade, format};
 ghost use Rattle.df_opening.specs.Mending.{AddsRaising, IsReadBack, IsUnharmed, RestsOnDisk, first_state, mending_events, mending_steps, raised_state};
 ghost use Rattle.df_opening.specs.Raising.{IsPlannedOf, RaisesAnew, RaisesOver, opening_events, opening_steps};
 ghost use Rattle.df_opening.specs.Survey.{opened_of, survey_in};
-ghost use Rattle.df_damage.specs.Below.{AreFound, AreWhole, state_in};
+ghost use Rattle.df_damage.specs.Below.{AreFound, AreWhole, boot_fields, state_in};
 
 use crate::mending::{are_four, write_mends};
 use crate::{DataFile, LogRooms, MendError, Parts, Rooms, SurveyedFile};
@@ -69,37 +66,47 @@ fn mend_parts<D: Disk>(disk: &mut D, parts: &mut Parts, members: [bool; 4]) -> R
     mend_rooms(disk, &parts.file, &parts.content, members, &mut parts.rooms)
 }
 
-// The superblock with the next boot, which records the state of these parts as it is.
+// What the superblock says that an open writes: the state of these parts as it is, with the next boot. It obeys the rules.
+fn next_fields(parts: &Parts) -> SuperFields
+    requires whole { AreWhole parts.now }
+    requires unspent { parts.now.content.boot < 2 ^ 62 }
+    ensures fields { result ≡ boot_fields (state_in parts.now) }
+    ensures rules { fault_of result ≡ None }
+{
+    // The sessions are a table of the file.
+    let _count = parts.sessions.len();
+    let fields = parts.content.fields();
+    parts.recorded(SuperFields {
+        boot: fields.boot + 1,
+        ..*fields
+    })
+}
+
+// That superblock.
 fn next_superblock(parts: &Parts) -> Super
     requires whole { AreWhole parts.now }
     requires unspent { parts.now.content.boot < 2 ^ 62 }
     ensures { result ≡ boot_fields (state_in parts.now) }
 {
-    let fields = parts.content.fields();
-    let next = parts.recorded(SuperFields {
-        boot: fields.boot + 1,
-        ..*fields
-    });
-    match test_fields(&next) {
+    match test_fields(&next_fields(parts)) {
         Ok(content) => content,
         Err(_) => unreachable!(),
     }
 }
 
-// Raises the boot of the file of these parts; then units are made in it, and calls may go on.
-fn raise_parts<D: Disk>(disk: &mut D, parts: &mut Parts) -> Result<(), MendError>
+// Raises the boot of the file of these parts by this superblock; then units are made in it, and calls may go on.
+fn raise_parts<D: Disk>(disk: &mut D, parts: &mut Parts, content: Super) -> Result<(), MendError>
     requires whole { AreWhole parts.old }
     requires unspent { parts.old.content.boot < 2 ^ 62 }
+    requires content { content ≡ boot_fields (state_in parts.old) }
     ensures state { OnOk result (state_in parts.new ≡ raised_state (state_in parts.old)) }
     ensures kept { OnErr result (state_in parts.new ≡ state_in parts.old) }
     ensures whole { AreWhole parts.new }
-    ensures events { AddsRaising (update_events (boot_fields (state_in parts.old))) (D.told disk.old) (D.told disk.new) result }
-    ensures steps { AreStepsOfCopies (update_events (boot_fields (state_in parts.old))) (update_steps (put_copies (boot_fields (state_in parts.old)))) }
-    ensures read_back { IsReadBack (boot_fields (state_in parts.old)) (D.told disk.new) result }
+    ensures events { AddsRaising (update_events content) (D.told disk.old) (D.told disk.new) result }
+    ensures read_back { IsReadBack content (D.told disk.new) result }
     ensures unharmed { IsUnharmed (D.told disk.new) result }
     ensures cause { IsBlamed is_mend_fault (D.faults disk.old) (D.faults disk.new) result }
 {
-    let content = next_superblock(parts);
     match update(disk, &mut parts.rooms.superblock, &content) {
         Ok(()) => {}
         Err(UpdateError::Damaged { place, class }) => {
@@ -107,7 +114,8 @@ fn raise_parts<D: Disk>(disk: &mut D, parts: &mut Parts) -> Result<(), MendError
         }
         Err(UpdateError::DiskFault) => return Err(MendError::DiskFault),
     }
-    parts.grid.set_boot(content.fields().boot);
+    let boot = content.fields().boot;
+    parts.grid.set_boot(boot);
     parts.content = content;
     parts.live = true;
     Ok(())
@@ -130,16 +138,19 @@ pub fn mend_file<D: Disk>(disk: &mut D, surveyed: SurveyedFile) -> Result<Parts,
     ensures unharmed { IsUnharmed (D.told disk.new) (without_rooms result) }
     ensures over { (base : Told) (g : Grade) (view : View) → IsPlannedOf (survey_in surveyed) base → RestsOnDisk g surveyed.parts.file view base
         → Represents (state_in surveyed.parts) (first_state surveyed.parts.file base view) → RaisesOver g view (survey_in surveyed) base }
-    ensures anew { (base : Told) (view : View) → IsPlannedOf (survey_in surveyed) (begun base) → IsFound (shape surveyed.parts.file) (unit_at surveyed.parts.file.layout surveyed.parts.file.cluster base.shown) view → AreDistinct (unit_at surveyed.parts.file.layout surveyed.parts.file.cluster base.shown)
+    ensures anew { (base : Told) (view : View) → IsPlannedOf (survey_in surveyed) (begun base) → IsImage base.shown → IsFound (shape surveyed.parts.file) (unit_at surveyed.parts.file.layout surveyed.parts.file.cluster base.shown) view → AreDistinct (unit_at surveyed.parts.file.layout surveyed.parts.file.cluster base.shown)
         → Represents (state_in surveyed.parts) (first_state surveyed.parts.file base view) → RaisesAnew view (survey_in surveyed) (begun base) }
     ensures cause { IsBlamed is_mend_fault (D.faults disk.old) (D.faults disk.new) (without_rooms result) }
 {
     let SurveyedFile { mut parts, chosen } = surveyed;
+    let content = next_superblock(&parts);
+    // Its fields obey their rules.
+    let _fields = content.fields();
     match mend_parts(disk, &mut parts, chosen.members) {
         Ok(()) => {}
         Err(_) => return Err((parts.into_rooms(), MendError::DiskFault)),
     }
-    match raise_parts(disk, &mut parts) {
+    match raise_parts(disk, &mut parts, content) {
         Ok(()) => Ok(parts),
         Err(error) => Err((parts.into_rooms(), error)),
     }

@@ -37,9 +37,10 @@ pub first_rules : (f : SuperFields) → f.version ≡ 1 → IsSuper f → IsFirs
 first_rules f first is = elim is.version [ inl one ↦ one | inr two ↦ absurd (omega (arith, first, two.version)) ]
 
 -- or of version 2
-pub second_super : (f : SuperFields) → f.version ≡ 2 → IsUsable f → IsSecond f
-second_super f second is = record {
+pub second_super : (file : DataFile) (f : SuperFields) → f.version ≡ 2 → IsUsable f → AreFieldsOf file.layout file.cluster f → IsSecond file f
+second_super file f second is of = record {
   rules = elim is.rules.version [ inl one ↦ absurd (omega (arith, second, one.version)) | inr two ↦ two ];
+  of = of;
   names = is.fits.reply_checksums;
   first_nonzero = is.rules.zero;
 }

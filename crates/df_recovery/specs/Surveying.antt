@@ -1,5 +1,5 @@
 -- What a survey of a file answers where a version is asked for, and what is to be mended.
-use Rattle.std.specs.Prelude.{◌≡◌, ◌≤◌, ◌+◌, ◌^◌, ℕ, Bool, false, not, List, [], ◌++◌, length, map, get_or, Option, Some, None, Result, Ok, Err}
+use Rattle.std.specs.Prelude.{◌≡◌, ◌<◌, ◌≤◌, ◌+◌, ◌^◌, ℕ, Bool, false, not, List, [], ◌++◌, length, map, get_or, Option, Some, None, Result, Ok, Err}
 use Rattle.std.specs.List.{filter, range_with_len}
 use Rattle.df_base.specs.Image.{Image, IsImage}
 use Rattle.df_disk.specs.Told.{Told}
@@ -29,6 +29,7 @@ use Rattle.df_theory.specs.Shape.{Shape}
 use Rattle.df_theory.specs.Units.{Units}
 use Rattle.df_theory.specs.View.{View}
 use Rattle.df_units.specs.Bytes.{unit_at}
+use Rattle.df_units.specs.Superblocks.{AreFieldsOf}
 use Rattle.df_rooms.specs.State.{AreAsked, State}
 use Rattle.df_recovery.specs.Found.{IsChoiceOf, TellsFoundAs}
 use Rattle.df_recovery.specs.Plan.{AreDistinct, IsScanOf, OthersAreShown, class_of_slot, headers_in, mend_list, needs_header, slot_mends}
@@ -47,6 +48,8 @@ pub record IsLawful (s : Scanned) : Type 0 where
   pub version : s.file.version ≡ s.copies.found.content.version
   -- it has the superblock's slots
   pub size : s.copies.found.content.slots ≡ s.file.layout.slots
+  -- and all else that the superblock says of its layout
+  pub fields : AreFieldsOf s.file.layout s.file.cluster s.copies.found.content
   -- the scan started behind the superblock
   pub start : s.log.slots.start ≡ start_of s.copies.found.content
   -- each slot has units that may stand there

@@ -22,8 +22,7 @@ use Rattle.df_model.specs.declared.answers.Progress.{Progress}
 use Rattle.df_model.specs.declared.answers.Progress.TheVariants.{Working, Done}
 use Rattle.df_model.specs.declared.errors.StepError.{StepError}
 use Rattle.df_model.specs.declared.errors.StepError.TheVariants as step
-use Rattle.df_opening.specs.Below.{RunningState, State, captured_text, grid_with}
-use Rattle.df_rooms.specs.Recorded.{recorded}
+use Rattle.df_opening.specs.Below.{RunningState, State, captured_text, grid_with, recorded}
 use Rattle.df_replica.specs.Stopping.{stopped}
 
 -- a fact of the running checkpoint

@@ -19,7 +19,6 @@ use Rattle.df_model.specs.Making as making
 use Rattle.df_model.specs.Making.{named_places, named_sums, sum_or_zero}
 use Rattle.df_checkpoint.specs.Below.{content_of, number_of}
 use Rattle.df_units.specs.Meaning.{offset_list, reply_checksums_of, rest_of}
-use Rattle.df_units.specs.Superblocks.{AreFieldsOf}
 use Rattle.df_units.proofs.Laws.{by_second, no_number}
 use Rattle.df_rooms.specs.State.{IsState, State, memory, reply_sum, stored_sum}
 use Rattle.df_rooms.specs.Recorded.{MayRecord, check_or_zeros, recorded, stored_check, stored_checks}
@@ -103,16 +102,16 @@ recorded_is_super s f is table may = record {
 }
 
 -- the superblock of a state may be recorded anew, in the next boot
-pub boot_may_record : (s : State) → IsState s → IsSuper s.fields → AreFieldsOf s.file.layout s.file.cluster s.fields → s.fields.boot < 2 ^ 62 → MayRecord s (record s.fields { boot = s.fields.boot + 1 })
-boot_may_record s is super of unspent = record {
+pub boot_may_record : (s : State) → IsState s → IsSuper s.fields → s.fields.boot < 2 ^ 62 → MayRecord s (record s.fields { boot = s.fields.boot + 1 })
+boot_may_record s is super unspent = record {
   version = is.second.rules.version;
   boot = omega (arith, unspent);
   layout = super.layout;
-  places = of.clients;
+  places = is.second.of.clients;
   cluster = super.cluster;
   sequence = super.sequence;
   op = is.order;
-  room = omega (arith, is.room, of.slots);
+  room = omega (arith, is.room, is.second.of.slots);
   op_checksum = super.op_checksum;
   level = is.level;
   trailer = super.trailer;

@@ -18,6 +18,7 @@ use Rattle.df_theory.specs.Trailer.{IsCount, greatest_trailer}
 use Rattle.df_theory.specs.Units
 use Rattle.df_theory.specs.Units.{Parts}
 use Rattle.df_theory.specs.Shape.{Shape}
+use Rattle.df_units.specs.Superblocks.{AreFieldsOf}
 use Rattle.df_model.specs.Blocks.{Blocks, sum_at}
 use Rattle.df_model.specs.Memory.{Course, Memory, memory_of}
 use Rattle.df_model.specs.Work.{Tour, Work}
@@ -155,9 +156,10 @@ abbrev pub IsCourse : DataFile → SuperFields → (head : ℕ) → Blocks → O
 IsCourse file f head b None = IsIdle b
 IsCourse file f head b (Some r) = IsRunning file f head b r
 
--- a superblock of version 2: it has a boot, and names the prepare of its head and replies of sessions alone
-pub record IsSecond (f : SuperFields) : Type 0 where
+-- a superblock of a file of version 2: it has a boot, and names the prepare of its head and replies of sessions alone
+pub record IsSecond (file : DataFile) (f : SuperFields) : Type 0 where
   pub rules : IsSecondSuper f
+  pub of : AreFieldsOf file.layout file.cluster f
   pub names : AreChecks f.reply_checksums
   pub first_nonzero : f.first_nonzero ≡ None
 
@@ -176,7 +178,7 @@ pub record IsState (s : State) : Type 0 where
   pub cluster : s.file.cluster < 2 ^ 128
   pub parent : IsCheck s.head_checksum
   pub version : s.fields.version ≡ s.file.version
-  pub second : IsSecond s.fields
+  pub second : IsSecond s.file s.fields
   pub booted : s.live ≡ true → IsBooted s
   pub sequence : (0 < s.fields.sequence) × (s.fields.sequence ≤ 2 ^ 62)
   pub root : length s.root ≤ 1024

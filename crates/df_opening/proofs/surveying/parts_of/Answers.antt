@@ -19,7 +19,7 @@ returns-clause-found c =
           cluster = cluster;
           version = sym found.read.version;
           parent = found.ends.checksum;
-          second = second_super f (sym found.read.version ∙ c.requires.version) usable;
+          second = second_super c.args.surveyed.scanned.file f (sym found.read.version ∙ c.requires.version) usable found.read.fields;
           booted = λ live. absurd (let none : false ≡ true = live in cc);
           sequence = usable.rules.sequence;
           root = c.root_fits.ensures;

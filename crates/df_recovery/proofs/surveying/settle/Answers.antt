@@ -13,6 +13,7 @@ with_plan-requires-clause-scanned c =
       named = scan.named;
       version = scan.version;
       size = scan.size;
+      fields = scan.fields;
       start = scan.start;
       slots = scan.slots;
       places = c.store_replies.ensures.places ∙ c.in-Ok.ensures.places ∙ scan.places;
