@@ -138,6 +138,8 @@ impl Replica {
         let Some(last) = self.parts.grid.trailer() else {
             unreachable!()
         };
+        // The sessions are a table of the file.
+        let _count = self.parts.sessions.len();
         let fields = captured_fields(self.parts.content.fields(), running, last);
         self.parts.recorded(fields)
     }
@@ -175,6 +177,8 @@ impl Replica {
         };
         let RunningCheckpoint { capture, .. } = running;
         let Capture { root, .. } = capture;
+        // Its fields obey their rules.
+        let _fields = content.fields();
         self.parts.root = root;
         self.parts.content = content;
         self.parts.grid.finish();
