@@ -1,6 +1,6 @@
 -- What an append does to the disk is the machine's append, and behind it the header ring shows the table.
-use Rattle.std.specs.Prelude.{Ok, slice_get}
-use Rattle.std.proofs.Common.{◌≡◌, inl, inr, ℕ, ◌+◌, ◌/◌, ◌%◌, ◌==◌, List, [], ◌∷◌, Option, Some, None, refl, sym, ◌∙◌, ap, subst}
+use Rattle.std.specs.Prelude.{Ok, if◌then◌else◌, slice_get}
+use Rattle.std.proofs.Common.{◌≡◌, inl, inr, ℕ, ◌+◌, ◌/◌, ◌%◌, ◌==◌, Bool, true, false, List, [], ◌∷◌, Option, Some, None, refl, sym, ◌∙◌, ap, subst}
 use Rattle.std.proofs.lemmas.Bool.{cond-true, eq-eqb}
 use Rattle.std.proofs.lemmas.Option.{same_Some}
 use Rattle.df_base.specs.Image.{Image}
@@ -29,7 +29,7 @@ use Rattle.df_theory.specs.WriterLaws.{IsHeaderSector}
 use Rattle.df_theory.proofs.Laws.{put_one_law}
 use Rattle.df_trailer.specs.Text.{parse_of}
 use Rattle.df_units.specs.Bytes.{unit_at}
-use Rattle.df_units.specs.Meaning.{header_of, layout_of, message_of, number_of}
+use Rattle.df_units.specs.Meaning.{header_of, layout_of, message_of, number_of, number_or}
 use Rattle.df_units.specs.Puts.{IsNextSector, header_unit, put_headers}
 use Rattle.df_units.proofs.Laws.{sector_puts}
 use Rattle.df_model.specs.Commands.{Append, Command, ForAppend, Given, supplied_sum}
