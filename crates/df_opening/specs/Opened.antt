@@ -78,11 +78,11 @@ pub record BeginsRaising (t : Told) (found : State) (later : Option Told) : Type
 pub record MendsAll (t : Told) (s : State) (later : Option Told) : Type 0 where
   pub found : State
   pub raised : s ≡ raised_state found
-  pub mending : Mends found.file (Some (did Sync t)) later
+  pub mending : Mends s.file (Some (did Sync t)) later
   pub own : IsImage t.shown → AreRaising t found mending.events
-  pub over : (g : Grade) (view : View) (base : Told) → base.shown ≡ t.shown → MayOpen found.file view base → StandsFor g (unit_at found.file.layout found.file.cluster t.shown) view
+  pub over : (g : Grade) (view : View) (base : Told) → base.shown ≡ t.shown → MayOpen s.file view base → StandsFor g (unit_at s.file.layout s.file.cluster t.shown) view
       → OpensOver g view s base (told_after mending.events (did Sync base))
-  pub anew : (view : View) → IsImage t.shown → IsFound (shape found.file) (unit_at found.file.layout found.file.cluster t.shown) view → AreDistinct (unit_at found.file.layout found.file.cluster t.shown) → OpensAnew view s t (told_after mending.events (begun t))
+  pub anew : (view : View) → IsImage t.shown → IsFound (shape s.file) (unit_at s.file.layout s.file.cluster t.shown) view → AreDistinct (unit_at s.file.layout s.file.cluster t.shown) → OpensAnew view s t (told_after mending.events (begun t))
 
 -- the file was found, and the disk failed within its mending or its boot update: at each moment whatever a stop leaves has the view that was found or the raised one, by each of these logs
 pub record MendsPartly (layout : Layout) (t : Told) (later : Option Told) : Type 0 where
