@@ -6,6 +6,7 @@ pub mod Formatted
 pub mod StepShows
 pub mod Fronts
 pub mod KeptFiles
+pub mod Views
 pub mod Followed
 pub mod NotRefused
 pub mod MendEvents

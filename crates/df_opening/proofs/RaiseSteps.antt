@@ -15,7 +15,7 @@ use Rattle.df_theory.specs.Units
 use Rattle.df_theory.specs.Units.{Content, HeaderPlace, HeaderUnit}
 use Rattle.df_theory.specs.CopyPuts.{PutsCopies, update_steps}
 use Rattle.df_theory.specs.Device.{AreSteps, IsGoodDisk, IsGoodWholeDisk, units_log}
-use Rattle.df_theory.specs.Next.{booted}
+use Rattle.df_theory.specs.Next.{IsSameBare, booted}
 use Rattle.df_theory.specs.MendLaws.{mend_steps}
 use Rattle.df_theory.specs.Runs.{after_steps}
 use Rattle.df_theory.specs.Upgrades.{raise_steps}
@@ -183,6 +183,7 @@ module _ (g : Grade) (view : View) (s : Survey) (base : Told) (four : length s.c
       let ring = opening_ring is.ring in
       record {
         moments = opening_moments;
+        bare = subst (λ (c : Content). IsSameBare view (booted view c)) (sym content_is_d) raises.bare;
         raised = record { tidy = by.tidy; standing = standing_of g opening_keeps; ring = ring };
         kept_for = record { log_is = end_is_log; stands = opening_stands; kept_by = opening_keeps; ring = ring };
       }

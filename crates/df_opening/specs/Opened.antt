@@ -37,10 +37,11 @@ use Rattle.df_opening.specs.Surveying.{TellsSurvey, mends_of}
 abbrev pub ToldBy : (old new : Option Told) → Type 0
 ToldBy old new = (events : List Event) × (new ≡ after_all events old)
 
--- What an open leaves of a base, behind the barrier, the mending and the boot update: each moment since has the view that was found or the raised one, and at the end the
+-- What an open leaves of a base, behind the barrier, the mending and the boot update: each moment since has the view that was found or the raised one, whose bare view is the same, and at the end the
 -- file is tidy with that and kept for the state that calls begin with, and no block of its checkpoint is loose.
 pub record OpensOver (g : Grade) (view : View) (s : State) (base n : Told) : Type 0 where
   pub moments : EachMoment (did Sync base).log n.log (IsGoodFor g (format s.file) (shape s.file) view (kept (begun_state s.file base view s.fields)))
+  pub bare : IsSameBare view (kept (begun_state s.file base view s.fields))
   pub mended : IsMended g s.file (kept (begun_state s.file base view s.fields)) s.headers n
   pub kept_for : IsKept g s (begun_state s.file base view s.fields) n.log
   pub settled : AreSettled s.file n.log (begun_state s.file base view s.fields)
@@ -92,6 +93,7 @@ pub record MendsPartly (layout : Layout) (t : Told) (later : Option Told) : Type
   pub own : IsImage t.shown → BeginsRaising t found later
   pub moments : (g : Grade) (view : View) (base : Told) → base.shown ≡ t.shown → MayOpen found.file view base → StandsFor g (unit_at found.file.layout found.file.cluster t.shown) view
       → EachMoment (did Sync base).log (told_after mending.events (did Sync base)).log (IsGoodFor g (format found.file) (shape found.file) view (kept (begun_state found.file base view (boot_fields found))))
+      × IsSameBare view (kept (begun_state found.file base view (boot_fields found)))
   pub anew : (view : View) → IsImage t.shown → IsFound (shape found.file) (unit_at found.file.layout found.file.cluster t.shown) view → AreDistinct (unit_at found.file.layout found.file.cluster t.shown)
       → EachMoment (begun t).log (told_after mending.events (begun t)).log (StaysFound found.file view (boot_fields found))
 

@@ -31,9 +31,10 @@ opening_steps s = raising_steps s.state.file.layout s.state.headers s.mends s.st
 abbrev pub IsPlannedOf : Survey → Told → Type 0
 IsPlannedOf s t = IsPlanned s.state.file s.state.headers s.mends s.state.fields s.chosen.members t
 
--- In one log on which the view rests: each moment has the view that was found or the raised one, and at the end the file is tidy with that.
+-- In one log on which the view rests: each moment has the view that was found or the raised one, whose bare view is the same, and at the end the file is tidy with that.
 pub record RaisesOver (g : Grade) (view : View) (s : Survey) (base : Told) : Type 0 where
   pub moments : EachMoment base.log (told_after (opening_events s) base).log (IsGoodFor g (format s.state.file) (shape s.state.file) view (booted view (raised_content s.state)))
+  pub bare : IsSameBare view (booted view (raised_content s.state))
   pub raised : IsMended g s.state.file (booted view (raised_content s.state)) s.state.headers (told_after (opening_events s) base)
   pub kept_for : IsKept g (raised_state s.state) (begun_state s.state.file base view (boot_fields s.state)) (told_after (opening_events s) base).log
 

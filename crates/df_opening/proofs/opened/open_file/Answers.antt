@@ -65,7 +65,7 @@ returns-in-Ok-mend_file-clause-opened g c = λ t is.
           let planned = planned_same s.state.file s.state.headers s.mends s.state.fields s.chosen.members (did Sync t) (did Sync base) same plan in
           let on = barrier_rests grade s.state.file view base may (subst (λ (m : Image). StandsFor grade (unit_at s.state.file.layout s.state.file.cluster m) view) (sym same) stands) in
           let by = c.in-Ok-mend_file.ensures.over (did Sync base) grade view planned on (stands_over c.args.rooms.layout t base s.state same view may c.in-Ok.ensures.kept answer) in
-          record { moments = by.moments; mended = by.raised; kept_for = by.kept_for; settled = open_settles s base _ c.in-Ok-mend_file.ensures.steps };
+          record { moments = by.moments; bare = by.bare; mended = by.raised; kept_for = by.kept_for; settled = open_settles s base _ c.in-Ok-mend_file.ensures.steps };
       anew = λ view whole found distinct.
           let anew = planned_same s.state.file s.state.headers s.mends s.state.fields s.chosen.members (did Sync t) (begun t) refl plan in
           let by = c.in-Ok-mend_file.ensures.anew t view anew whole found distinct (stands_anew c.args.rooms.layout t s.state view c.in-Ok.ensures.kept answer whole found) in
@@ -101,7 +101,7 @@ returns-in-Err-mend_file-clause-stopped g c = λ t is whole fault.
           let planned = planned_same s.state.file s.state.headers s.mends s.state.fields s.chosen.members (did Sync t) (did Sync base) same plan in
           let on = barrier_rests grade s.state.file view base may (subst (λ (m : Image). StandsFor grade (unit_at s.state.file.layout s.state.file.cluster m) view) (sym same) stands) in
           let by = c.in-Err-mend_file.ensures.over (did Sync base) grade view planned on (stands_over c.args.rooms.layout t base s.state same view may c.in-Ok.ensures.kept answer) in
-          front_moments es (did Sync base) part.part part.again (IsGoodFor grade (format s.state.file) (shape s.state.file) view (kept (begun_state s.state.file base view (boot_fields s.state)))) by.moments;
+          (front_moments es (did Sync base) part.part part.again (IsGoodFor grade (format s.state.file) (shape s.state.file) view (kept (begun_state s.state.file base view (boot_fields s.state)))) by.moments, by.bare);
       anew = λ view image found distinct.
           let anew = planned_same s.state.file s.state.headers s.mends s.state.fields s.chosen.members (did Sync t) (begun t) refl plan in
           let by = c.in-Err-mend_file.ensures.anew t view anew image found distinct (stands_anew c.args.rooms.layout t s.state view c.in-Ok.ensures.kept answer image found) in
