@@ -27,9 +27,9 @@ pub record OpensAsLeftAs (version : ℕ) (file : DataFile) (view : View) (t : To
   pub opens : IsNotRefusedAs version file t.shown
   pub finds : (s : State) → (is : IsOpenedAs version file.layout t.shown s) → (s.file ≡ file) × (is.view ≡ view)
 
--- where version 1 is asked for
+-- where version 2 is asked for, as an open does
 abbrev pub OpensAsLeft : DataFile → View → Told → Type 0
-OpensAsLeft file view t = OpensAsLeftAs 1 file view t
+OpensAsLeft file view t = OpensAsLeftAs 2 file view t
 
 -- a file at rest of which at most two superblock copies are hurt, and nothing else, is opened as it was left
 abbrev pub TwoCopiesAreEnough : Type 0

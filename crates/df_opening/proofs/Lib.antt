@@ -21,4 +21,5 @@ pub mod Hurts
 pub mod Barriers
 pub mod Refused
 pub mod Opens
+pub mod BegunStates
 pub mod Laws

@@ -82,7 +82,7 @@ module _ (view : View) (s : Survey) (base : Told) (four : length s.chosen.member
   d = boot_content (memory_of sh (spelling file) w) (sum_of s.state)
 
   content_is_d : raised_content s.state ≡ d
-  content_is_d = raised_is s.state is ∙ ap (λ (m : Memory). boot_content m (sum_of s.state)) stands
+  content_is_d = raised_is s.state is.second.rules.version ∙ ap (λ (m : Memory). boot_content m (sum_of s.state)) stands
 
   own_content : view.checkpoint.content ≡ content_of (content_with s.state.fields)
   own_content = content_is file view s.state.headers s.mends s.state.fields s.chosen.members (begun base) four plan whole found distinct

@@ -63,8 +63,8 @@ abbrev pub sum_of : State → ℕ
 sum_of s = number_of (content_with (boot_fields s)).checksum
 
 -- what is written is what the machine records
-pub raised_is : (s : State) → IsState s → raised_content s ≡ boot_content (memory s) (sum_of s)
-raised_is s is = recorded_content s (record s.fields { boot = s.fields.boot + 1 }) is.second.rules.version
+pub raised_is : (s : State) → s.fields.version ≡ 2 → raised_content s ≡ boot_content (memory s) (sum_of s)
+raised_is s second = recorded_content s (record s.fields { boot = s.fields.boot + 1 }) second
 
 -- ---- in one log
 
@@ -93,7 +93,7 @@ module _ (g : Grade) (view : View) (s : Survey) (base : Told) (four : length s.c
   d = boot_content (memory_of (shape file) (spelling file) w) (sum_of s.state)
 
   content_is_d : raised_content s.state ≡ d
-  content_is_d = raised_is s.state is ∙ ap (λ (m : Memory). boot_content m (sum_of s.state)) stands
+  content_is_d = raised_is s.state is.second.rules.version ∙ ap (λ (m : Memory). boot_content m (sum_of s.state)) stands
 
   own_content : view.checkpoint.content ≡ content_of (content_with s.state.fields)
   own_content = content_is file view s.state.headers s.mends s.state.fields s.chosen.members base four plan (rest_whole g file view base on) (rest_found g file view base on) (rest_distinct g file view base on)

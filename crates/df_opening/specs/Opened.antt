@@ -28,8 +28,8 @@ use Rattle.df_damage.specs.Plan.{AreDistinct}
 use Rattle.df_damage.specs.Surveys.{IsOpenedAs}
 use Rattle.df_opening.specs.Following.{MayOpen}
 use Rattle.df_opening.specs.Sparing.{AreSettled, SparesReads, image_after}
-use Rattle.df_opening.specs.Mending.{IsMended, StaysFound, raised_state, raising_events}
-pub use Rattle.df_opening.specs.Mending.{begun_state, first_state}
+use Rattle.df_opening.specs.Mending.{IsMended, StaysFound, raising_events}
+pub use Rattle.df_opening.specs.Mending.{begun_state, first_state, raised_state}
 use Rattle.df_opening.specs.Keeping.{Firm, Grade, IsGoodFor, IsKept, StandsFor, format}
 use Rattle.df_opening.specs.Surveying.{TellsSurvey, mends_of}
 
