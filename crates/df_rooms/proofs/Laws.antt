@@ -8,7 +8,7 @@ use Rattle.df_model.specs.Blocks.{Blocks}
 use Rattle.df_rooms.specs.declared.file.DataFile.{DataFile}
 use Rattle.df_rooms.specs.State.{AreAsked, IsBooted, IsCourse, IsLevel, RunningState, State}
 pub use Rattle.df_rooms.proofs.SameFile.{same_file}
-pub use Rattle.df_rooms.proofs.Recorded.{boot_may_record, recorded_content, recorded_is_super}
+pub use Rattle.df_rooms.proofs.Records.{boot_may_record, recorded_content, recorded_is_super}
 
 -- a request that is noted is the last one of its client
 pub asked_noted : (h : Units.Header) (ss : List Units.Session) → AreAsked ss → 0 < h.request → AreAsked (noted h ss)

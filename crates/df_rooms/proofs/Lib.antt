@@ -1,3 +1,3 @@
 pub mod Laws
 mod SameFile
-mod Recorded
+mod Records
