@@ -84,7 +84,7 @@ module _ (layout : Layout) (runs : Twice layout (OnFile layout (ScrubsFile layou
   listed : failing_blocks s one.after.shown ≡ failing_blocks u other.after.shown
   listed =
       failing_alike s.file.layout (shown_of s.file one.after.shown) (shown_of s.file other.after.shown) here (reference_in s.blocks) 1 s.file.layout.blocks (omega arith) (omega arith)
-      ∙ ap (λ (m : Memory). failing_in (grid_with s.file m.blocks) other.after.shown) known
+      ∙ ap (λ (m : Memory). failing_in (grid_with s.file m.boot m.blocks) other.after.shown) known
       ∙ ap (λ (f : DataFile). failing_in (grid_with f u.blocks) other.after.shown) (file_alike layout runs.one.told.shown runs.other.told.shown runs.same s u here_found.is_opened there_found.is_opened)
 
   report : tour_report s one.after.shown ≡ tour_report u other.after.shown

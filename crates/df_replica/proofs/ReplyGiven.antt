@@ -10,7 +10,8 @@ use Rattle.df_format.specs.Making.{blank_header, for_body}
 use Rattle.df_format.specs.Own.{own_place}
 use Rattle.df_format.specs.Rules.{ObeysRules}
 use Rattle.df_format.specs.Spelling.{IsCheck}
-use Rattle.df_format.proofs.Laws.{given_obeys, of_first}
+use Rattle.df_opening.proofs.Laws.{boot_made}
+use Rattle.df_format.proofs.Laws.{given_obeys, of_second}
 use Rattle.df_sessions.specs.declared.session.Session as told
 use Rattle.df_sessions.specs.Requests.{session_of}
 use Rattle.df_sessions.specs.Table.{IsTable}
@@ -56,7 +57,7 @@ module _ (s : State) (is : IsState s) (table : IsTable s.table) (waits : s.repli
       let named = client_named s.table.sessions (place_waiting s) there.0 table.named there.1 in
       let most = is.requests (place_waiting s) there.0 there.1 in
       let asked = is.asked (place_waiting s) (session_of there.0) there.2 in
-      given_obeys s.file.cluster (s.file.named, is.cluster) (reply_given s) body AsReply (of_first AsReply (reply_given s) refl refl refl refl) (
+      given_obeys s.file.cluster (s.file.named, is.cluster) (reply_given s) body AsReply (of_second AsReply (reply_given s) refl (boot_made s (is.booted may.live), is.second.rules.boot) (record { none_first = refl; none_last = refl })) (
         record {
           parent = parent;
           client = (omega (arith, client, named), small);

@@ -17,7 +17,8 @@ invariant_of-self c =
         cluster = old.cluster;
         parent = old.parent;
         version = old.version;
-        plain = old.plain;
+        second = old.second;
+        booted = λ live. record { boot = (old.booted live).boot; some = (old.booted live).some };
         sequence = old.sequence;
         root = old.root;
         order = old.order;
@@ -27,6 +28,8 @@ invariant_of-self c =
         few = omega (arith, old.few, fewer);
         places = c.store.ensures.places ∙ old.places;
         first = old.first;
+        level = old.level;
+        captured = old.captured;
         requests = numbered_by c.self.inside.parts.sessions.sessions c.store.new.self.sessions same old.requests;
         asked = subst AreAsked (sym same) old.asked;
         tracks =
@@ -38,7 +41,6 @@ invariant_of-self c =
       rooms_fit = c.self.invariant.rooms_fit;
       grid_fits = c.self.invariant.grid_fits;
       grid_named = c.self.invariant.grid_named;
-      grid_unbooted = c.self.invariant.grid_unbooted;
       trailer_fits = c.self.invariant.trailer_fits;
       scrub_fits = c.self.invariant.scrub_fits;
     }

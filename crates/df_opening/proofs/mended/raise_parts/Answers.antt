@@ -1,0 +1,30 @@
+-- The boot that is set is that of the superblock that was written, and what is behind it makes sense.
+use Rattle.std.proofs.Common.{◌≡◌, ◌∙◌, ◌+◌, true, ap, subst, sym, arith}
+use Rattle.df_format.specs.SuperRules.{IsUsable}
+use Rattle.df_format.specs.declared.superblock.SuperFields.{SuperFields}
+use Rattle.df_damage.specs.Below.{IsState, State, state_in}
+use Rattle.df_opening.proofs.RaisedState.{raised_sense}
+use Rattle.df_opening.proofs.mended.raise_parts.Goals as goal
+
+pub set_boot-requires-clause-boot : goal.set_boot-requires-clause-boot
+set_boot-requires-clause-boot g c =
+    let next : c.fields.result.now.boot ≡ c.args.parts.now.content.boot + 1 = ap (λ (f : SuperFields). f.boot) (c.fields.ensures.value ∙ c.requires.content) in
+    (omega (arith, next), omega (arith, next, c.requires.unspent))
+
+pub returns-clause-state : goal.returns-clause-state
+returns-clause-state g c =
+    let s : State = state_in c.args.parts.now in
+    (λ i. record s { fields = c.args.content; boot = (c.fields.ensures.value i).boot; live = true }) ∙ ap (λ (f : SuperFields). record s { fields = f; boot = f.boot; live = true }) c.requires.content
+
+pub returns-clause-whole : goal.returns-clause-whole
+returns-clause-whole g c =
+    let s : State = state_in c.args.parts.now in
+    let old = c.requires.whole in
+    record {
+      state = subst IsState (sym (returns-clause-state g c)) (raised_sense s old.state (subst IsUsable c.requires.content c.fields.ensures.usable));
+      rooms_fit = old.rooms_fit;
+      grid_fits = old.grid_fits;
+      grid_named = old.grid_named;
+      trailer_fits = old.trailer_fits;
+      scrub_fits = old.scrub_fits;
+    }
