@@ -55,4 +55,4 @@ AnswerIsOfHurt =
 
 -- so a survey with rooms of this layout answers, which asks for version 2, where the disk tells what it shows
 abbrev pub TellsHurt : Layout → Option Told → Result State OpenError → Type 0
-TellsHurt layout told result = (file : DataFile) (view : View) (t : Told) → told ≡ Some t → layout ≡ file.layout → MayBeHurtAs 2 file view t → IsUnspent 2 view → AnswersHurt file view t result
+TellsHurt layout told result = (file : DataFile) (view : View) (t : Told) → told ≡ Some t → layout ≡ file.layout → MayBeHurt file view t → IsUnspent 2 view → AnswersHurt file view t result

@@ -11,7 +11,7 @@ use Rattle.df_theory.specs.View.{PassesTests}
 use Rattle.df_units.specs.Format.{shape_as}
 use Rattle.df_units.specs.Meaning.{content_of, layout_of}
 use Rattle.df_units.specs.Superblocks.{AreFieldsOf}
-use Rattle.df_units.proofs.Laws.{none_are, usable_passes}
+use Rattle.df_units.proofs.Laws.{usable_passes}
 use Rattle.df_trailer.specs.Text.{parse_of}
 use Rattle.df_rooms.specs.State.{IsSecond, shape}
 use Rattle.df_rooms.specs.declared.file.DataFile.{DataFile}

@@ -8,10 +8,13 @@ use df_base::Check;
 use df_format::{NO_CHECKSUM, NO_CHECKSUMS, SuperFields};
 use df_sessions::{Session, SessionTable};
 
+// How many places for sessions a superblock has.
+const PLACES: usize = 64;
+
 // The checksum of a session's stored reply, zeros where there is no session or no reply is stored.
 #[tactic(auto, unfolding(df_format::specs::Spelling::no_checksum))]
 fn stored_check(session: Option<Session>) -> Check
-    ensures { result.now ≡ stored_check session }
+    ensures { result ≡ stored_check session }
 {
     match session {
         Some(session) => session.reply.unwrap_or(NO_CHECKSUM),
@@ -21,13 +24,11 @@ fn stored_check(session: Option<Session>) -> Check
 
 // That of each place.
 fn stored_checks(sessions: &SessionTable) -> [Check; 64]
-    ensures { result.now ≡ stored_checks sessions.now.sessions }
+    ensures { result ≡ stored_checks sessions.now.sessions }
 {
     let mut checks = NO_CHECKSUMS;
-    let mut place = 0;
-    while place < checks.len() {
+    for place in 0..PLACES {
         checks[place] = stored_check(sessions.get(place as u64));
-        place += 1;
     }
     checks
 }
