@@ -16,7 +16,7 @@ with_course s b r is course level = record {
   parent = is.parent;
   version = is.version;
   second = is.second;
-  booted = λ live. record { boot = (is.booted live).boot; some = (is.booted live).some };
+  booted = is.booted;
   sequence = is.sequence;
   root = is.root;
   order = is.order;

@@ -70,7 +70,7 @@ finished_sense s r is runs level usable = record {
     blocks = is.second.of.blocks;
     cluster_is = is.second.of.cluster_is;
   });
-  booted = λ live. record { boot = (is.booted live).boot; some = (is.booted live).some };
+  booted = is.booted;
   sequence = (omega (arith, runs.sequence.0), runs.sequence.1);
   root = runs.root;
   order = runs.op_to;

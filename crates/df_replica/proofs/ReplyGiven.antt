@@ -21,10 +21,10 @@ use Rattle.df_replica.specs.Replying.{MayReplyNext, first_check, place_waiting, 
 use Rattle.df_replica.proofs.ReplyTests.{client_named, place_inside, session_told, waiting_told}
 
 -- the header of these parts, over a blank one
-pub header_is : (s : State) (blank : Header) (parent : List ℕ) (client place sequence : ℕ) (r : told.Session) → blank ≡ blank_header AsReply s.file.cluster → client ≡ r.client → parent ≡ first_check s.waiting → place ≡ place_waiting s → slice_get s.table.sessions place ≡ Some r → sequence ≡ s.fields.sequence
-    → record blank { parent = parent; client = client; op = s.replies + 1; request = r.request; mark = s.head; checkpoint = sequence; slot = place }
+pub header_is : (s : State) (blank : Header) (parent : List ℕ) (client place sequence boot : ℕ) (r : told.Session) → blank ≡ blank_header AsReply s.file.cluster → client ≡ r.client → parent ≡ first_check s.waiting → place ≡ place_waiting s → slice_get s.table.sessions place ≡ Some r → sequence ≡ s.fields.sequence → boot ≡ s.fields.boot
+    → record blank { parent = parent; client = client; op = s.replies + 1; request = r.request; mark = s.head; checkpoint = sequence; slot = place; version = 2; boot = boot }
     ≡ reply_given s
-header_is s blank parent client place sequence r blank_is client_here parent_is place_is at sequence_is =
+header_is s blank parent client place sequence boot r blank_is client_here parent_is place_is at sequence_is boot_is =
     let there : session_waiting s ≡ Some (session_of r) = session_told s.table.sessions (place_waiting s) r (subst (λ (k : ℕ). slice_get s.table.sessions k ≡ Some r) place_is at) in
     let client_is : client ≡ client_of (session_waiting s) = client_here ∙ ap client_of (sym there) in
     let request_is : r.request ≡ request_of (session_waiting s) = ap request_of (sym there) in
@@ -36,6 +36,8 @@ header_is s blank parent client place sequence r blank_is client_here parent_is 
       mark = s.head;
       checkpoint = sequence_is i;
       slot = place_is i;
+      version = 2;
+      boot = boot_is i;
     }
 
 module _ (s : State) (is : IsState s) (table : IsTable s.table) (waits : s.replies < s.head) where

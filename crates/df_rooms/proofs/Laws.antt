@@ -42,5 +42,5 @@ level_beyond file f head later checksum b None more idle = tt
 level_beyond file f head later checksum b (Some r) more is = λ same. absurd (omega (arith, more, same, is.op_to))
 
 -- the boot in which units are made is some
-pub boot_made : (s : State) → IsBooted s → 0 < s.fields.boot
+pub boot_made : (s : State) → IsBooted s.boot s.fields.boot → 0 < s.fields.boot
 boot_made s booted = omega (arith, booted.boot, booted.some)

@@ -164,9 +164,9 @@ pub record IsSecond (file : DataFile) (f : SuperFields) : Type 0 where
   pub first_nonzero : f.first_nonzero ≡ None
 
 -- behind a boot update units are made in the superblock's boot
-pub record IsBooted (s : State) : Type 0 where
-  pub boot : s.boot ≡ s.fields.boot
-  pub some : 0 < s.boot
+pub record IsBooted (made superblock : ℕ) : Type 0 where
+  pub boot : made ≡ superblock
+  pub some : 0 < made
 
 -- a running checkpoint that captured the head as it is has that prepare's checksum
 abbrev pub IsLevel : (head : ℕ) → (checksum : List ℕ) → Option RunningState → Type 0
@@ -179,7 +179,7 @@ pub record IsState (s : State) : Type 0 where
   pub parent : IsCheck s.head_checksum
   pub version : s.fields.version ≡ s.file.version
   pub second : IsSecond s.file s.fields
-  pub booted : s.live ≡ true → IsBooted s
+  pub booted : s.live ≡ true → IsBooted s.boot s.fields.boot
   pub sequence : (0 < s.fields.sequence) × (s.fields.sequence ≤ 2 ^ 62)
   pub root : length s.root ≤ 1024
   pub order : s.fields.op ≤ s.head

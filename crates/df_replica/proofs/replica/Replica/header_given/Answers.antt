@@ -1,5 +1,5 @@
 -- What the maker says obeys the rules of a prepare, with any body that fits.
-use Rattle.std.proofs.Common.{ℕ, ◌+◌, ◌∙◌, ◌%◌, ◌^◌, ◌<◌, ◌≤◌, sym, ap, subst, arith, rules, refl}
+use Rattle.std.proofs.Common.{◌≡◌, ℕ, ◌+◌, ◌∙◌, ◌%◌, ◌^◌, ◌<◌, ◌≤◌, true, sym, ap, subst, arith, rules, refl}
 use Rattle.std.proofs.Math.Nat.{mod-lt}
 use Rattle.df_format.specs.declared.header.Header.{Header}
 use Rattle.df_format.specs.declared.kind.Kind.TheVariants.{Prepare as AsPrepare}

@@ -18,7 +18,7 @@ invariant_of-self c =
         parent = old.parent;
         version = old.version;
         second = old.second;
-        booted = λ live. record { boot = (old.booted live).boot; some = (old.booted live).some };
+        booted = old.booted;
         sequence = old.sequence;
         root = old.root;
         order = old.order;

@@ -19,8 +19,8 @@ returns-in-Ok g c =
     let list = c.as_slice.result.now in
     let now = c.scrub-done.new in
     let items : list ≡ now.report.items = c.as_slice.ensures.value in
-    let after : record s { blocks = now.grid.blocks; tour = now.self.tour; findings = now.self.findings } ≡ toured v list =
-    ap (λ (x : GridState). record s { blocks = x.blocks; tour = now.self.tour; findings = now.self.findings }) c.scrub-done.ensures.grid
+    let after : record s { blocks = now.grid.blocks; boot = now.grid.boot; tour = now.self.tour; findings = now.self.findings } ≡ toured v list =
+    ap (λ (x : GridState). record s { blocks = x.blocks; boot = x.boot; tour = now.self.tour; findings = now.self.findings }) c.scrub-done.ensures.grid
     ∙ ap (λ (x : Tour). record s { tour = x; findings = now.self.findings }) c.in-Ok.ensures.tour
     ∙ ap (λ (x : List Finding). record s { tour = first_tour; findings = x }) c.scrub-done.ensures.findings
     ∙ ap (λ (x : List Finding). record s { tour = first_tour; findings = newest (s.findings ++ x) }) (sym items)

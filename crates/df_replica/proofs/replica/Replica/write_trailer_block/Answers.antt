@@ -74,7 +74,7 @@ returns-in-Ok-clause-written g c =
     let i = c.self.inside.parts in
     let s : State = state_in i in
     let r = c.in-Some.running in
-    let to : Blocks → State = λ b. record s { blocks = b; running = Some (record (running_state r) { written = r.written + 1 }) } in
-    let sum = ap (λ (x : GridState). to (next_written i.grid.blocks (number_of (unit_in x r.capture r.written).header.checksum))) (grid_is i.file i.grid c.self.invariant.grid_fits c.self.invariant.grid_named) in
-    of_running (λ x q. to c.write_piece-done.new.grid.blocks ≡ advanced x q) s c.args.self.now i.running r (sym c.in-Some.ensures.value) refl c.self.view_is
-    (ap (λ (x : GridState). to x.blocks) c.in-Ok.ensures.written ∙ sum)
+    let to : GridState → State = λ x. record s { blocks = x.blocks; running = Some (record (running_state r) { written = r.written + 1 }); boot = x.boot } in
+    let sum = ap (λ (x : GridState). record (to i.grid) { blocks = next_written i.grid.blocks (number_of (unit_in x r.capture r.written).header.checksum) }) (grid_is i.file i.grid c.self.invariant.grid_fits c.self.invariant.grid_named) in
+    of_running (λ x q. to c.write_piece-done.new.grid ≡ advanced x q) s c.args.self.now i.running r (sym c.in-Some.ensures.value) refl c.self.view_is
+    (ap to c.in-Ok.ensures.written ∙ sum)
