@@ -7,7 +7,7 @@ pub use Rattle.df_damage.proofs.Tails.{whole_tail_is_found}
 pub use Rattle.df_damage.proofs.Refused.{probe_is_of_hurt_as, refusals_are_of_damage, refusals_blame_hurt, spent_is_the_files, superblock_is_hurt}
 pub use Rattle.df_damage.proofs.Answered.{answer_is_of_hurt_as}
 -- ---- where version 2 is asked for, as an open does
-pub use Rattle.df_damage.proofs.Seconds.{answer_is_of_hurt, found_is_not_refused, headers_may_be_hurt, probe_is_of_hurt, two_copies_are_enough}
+pub use Rattle.df_damage.proofs.Seconds.{answer_is_of_hurt, found_is_not_refused, found_is_usable, headers_may_be_hurt, probe_is_of_hurt, two_copies_are_enough}
 -- ---- what was written
 pub use Rattle.df_damage.proofs.Written.{had_is_written, opened_is_written}
 -- ---- logs begun anew

@@ -1,5 +1,5 @@
 -- What an open leaves of a file, and what it leaves where the disk failed in it.
-use Rattle.std.specs.Prelude.{◌≡◌, ◌⊎◌, List, Option, Some, Result, Ok, Err}
+use Rattle.std.specs.Prelude.{◌≡◌, ◌⊎◌, ◌<◌, ℕ, List, Option, Some, Result, Ok, Err}
 use Rattle.df_base.specs.Image.{Image, IsImage}
 use Rattle.df_base.specs.Log.{Event, Sync}
 use Rattle.df_base.specs.Moments.{EachMoment}
@@ -12,6 +12,7 @@ use Rattle.df_format.specs.declared.superblock.SuperFields.{SuperFields}
 use Rattle.df_damage.specs.Anew.{begun, told_after}
 use Rattle.df_damage.specs.Answers.{TellsHurt}
 use Rattle.df_theory.specs.Found.{IsFound}
+use Rattle.df_theory.specs.Units.{CopyPlace, CopyUnit}
 use Rattle.df_theory.specs.Next.{IsSameBare}
 use Rattle.df_theory.specs.View.{View}
 use Rattle.df_units.specs.Bytes.{unit_at}
@@ -74,13 +75,15 @@ pub record BeginsRaising (t : Told) (found : State) (later : Option Told) : Type
   pub own : AreRaising t found events
   pub part : AddsPart events (Some (did Sync t)) later
 
--- The file was found, mended and raised: so it is by each log that shows what the disk showed, and by which the file may be opened, the told one or one that is begun anew there;
--- and whatever its copies showed, by the log that is begun anew there.
+-- The file was found in what was shown, mended and raised, and then each copy shows the superblock that was written: so it is by each log that shows what the disk showed, and by which the file
+-- may be opened, the told one or one that is begun anew there; and whatever its copies showed, by the log that is begun anew there.
 pub record MendsAll (t : Told) (s : State) (later : Option Told) : Type 0 where
   pub found : State
+  pub opened : IsImage t.shown → IsOpenedAs 2 found.file.layout t.shown found
   pub raised : s ≡ raised_state found
   pub mending : Mends s.file (Some (did Sync t)) later
   pub own : IsImage t.shown → AreRaising t found mending.events
+  pub copies : IsImage t.shown → (n : ℕ) → n < 4 → unit_at s.file.layout s.file.cluster (image_after mending.events t.shown) (CopyPlace n) ≡ Some (CopyUnit (content_of (content_with s.fields)))
   pub over : (g : Grade) (view : View) (base : Told) → base.shown ≡ t.shown → MayOpen s.file view base → StandsFor g (unit_at s.file.layout s.file.cluster t.shown) view
       → OpensOver g view s base (told_after mending.events (did Sync base))
   pub anew : (view : View) → IsImage t.shown → IsFound (shape s.file) (unit_at s.file.layout s.file.cluster t.shown) view → AreDistinct (unit_at s.file.layout s.file.cluster t.shown) → OpensAnew view s t (told_after mending.events (begun t))

@@ -6,10 +6,12 @@ use Rattle.df_base.specs.Log.{Event, Sync}
 use Rattle.df_disk.specs.Adds.{AddsPart, after_all}
 use Rattle.df_disk.specs.Told.{Told, after, did}
 use Rattle.df_damage.specs.Anew.{begun}
+use Rattle.df_layout.specs.declared.layout.Layout.{Layout}
 use Rattle.df_units.proofs.Laws.{steps_within}
 use Rattle.df_units.specs.Bytes.{unit_at}
 use Rattle.df_model.specs.Work.{kept}
 use Rattle.df_damage.specs.Below.{State, boot_fields, shape, state_in}
+use Rattle.df_damage.specs.Surveys.{IsOpenedAs}
 use Rattle.df_opening.specs.Mending.{StaysFound, begun_state, raised_state}
 use Rattle.df_opening.specs.Opened.{MendsAll}
 use Rattle.df_opening.specs.Keeping.{IsGoodFor, StandsFor, format}
@@ -18,7 +20,7 @@ use Rattle.df_opening.specs.Survey.{Survey, survey_in}
 use Rattle.df_opening.specs.Surveying.{TellsSurvey}
 use Rattle.df_opening.proofs.Barriers.{barrier_rests}
 use Rattle.df_opening.proofs.Hurts.{tells_hurt}
-use Rattle.df_opening.proofs.MendShows.{front_spares, opening_spares}
+use Rattle.df_opening.proofs.MendShows.{front_spares, opening_copies, opening_spares}
 use Rattle.df_opening.proofs.Opens.{front_moments, mend_stops, open_settles, own_raising, planned_same, stands_anew, stands_over}
 use Rattle.df_opening.proofs.Refused.{fault_adds, no_refusal, refused_tells}
 use Rattle.df_opening.proofs.opened.open_file.Goals as goal
@@ -53,6 +55,7 @@ returns-in-Ok-mend_file-clause-opened g c = λ t is.
     let plan = c.in-Ok.ensures.planned (did Sync t) synced in
     let all : MendsAll t (raised_state s.state) (g.D.Disk.told c.mend_file.new.disk) = record {
       found = s.state;
+      opened = λ whole. subst (λ (l : Layout). IsOpenedAs 2 l t.shown s.state) (sym c.in-Ok.ensures.kept) (answer whole);
       raised = refl;
       mending = record {
         events = es;
@@ -61,6 +64,7 @@ returns-in-Ok-mend_file-clause-opened g c = λ t is.
         spares = opening_spares s c.in-Ok-mend_file.ensures.steps;
       };
       own = λ whole. own_raising c.args.rooms.layout (g.D.Disk.told c.args.disk.now) t s is c.in-Ok.ensures.kept c.in-Ok.ensures.mends whole;
+      copies = λ whole. opening_copies s c.in-Ok-mend_file.ensures.steps t.shown whole;
       over = λ grade view base same may stands.
           let planned = planned_same s.state.file s.state.headers s.mends s.state.fields s.chosen.members (did Sync t) (did Sync base) same plan in
           let on = barrier_rests grade s.state.file view base may (subst (λ (m : Image). StandsFor grade (unit_at s.state.file.layout s.state.file.cluster m) view) (sym same) stands) in
