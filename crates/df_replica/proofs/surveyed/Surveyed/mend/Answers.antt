@@ -7,6 +7,7 @@ use Rattle.df_opening.specs.Keeping.{Grade}
 use Rattle.df_opening.specs.Mending.{RestsOnDisk, first_state}
 use Rattle.df_opening.specs.Raising.{IsPlannedOf, RaisesAnew, RaisesOver}
 use Rattle.df_opening.specs.Survey.{Survey}
+use Rattle.df_opening.proofs.Laws.{unharmed_error, unharmed_ok}
 use Rattle.df_replica.specs.Below.{AreDistinct, Represents, Told, View, begun, shape}
 use Rattle.df_replica.proofs.surveyed.Surveyed.mend.Goals as goal
 
@@ -28,3 +29,9 @@ returns-in-Ok-clause-anew g c = subst Anew c.self.view_is c.mend_file.ensures.an
 
 pub returns-in-Err-clause-anew : goal.returns-in-Err-clause-anew
 returns-in-Err-clause-anew g c = subst Anew c.self.view_is c.mend_file.ensures.anew
+
+pub returns-in-Ok-clause-unharmed : goal.returns-in-Ok-clause-unharmed
+returns-in-Ok-clause-unharmed g c = unharmed_ok (g.D.Disk.told c.mend_file.new.disk) _
+
+pub returns-in-Err-clause-unharmed : goal.returns-in-Err-clause-unharmed
+returns-in-Err-clause-unharmed g c = unharmed_error (g.D.Disk.told c.mend_file.new.disk) c.in-Err.refused.1 c.in-Err.ensures.unharmed
