@@ -59,7 +59,7 @@ pub record AreScanned (layout : Layout) (cluster : ℕ) (told : Option Told) (sl
   pub replies_are : Shown.IsScanned layout cluster told replies
 
 -- the answer without the rooms that come back with a refusal
-abbrev pub without_rooms : {T R : Type 0} → Result T (R × OpenError) → Result T OpenError
+abbrev pub without_rooms : {T R E : Type 0} → Result T (R × E) → Result T E
 without_rooms (Ok x) = Ok x
 without_rooms (Err refused) = Err refused.1
 

@@ -1,6 +1,6 @@
 -- What is planned is mended and raised: its device calls are steps, so what they leave at each moment and at their end is the machine's, whether all of them were made or a part.
 use Rattle.std.proofs.Common.{◌∙◌, ◌<◌, ◌^◌, ap, subst, sym}
-use Rattle.std.specs.Prelude.{Err}
+use Rattle.std.specs.Prelude.{Ok, Err}
 use Rattle.df_disk.proofs.Laws.{part_then}
 use Rattle.df_format.specs.SuperRules.{IsUsable}
 use Rattle.df_format.specs.declared.superblock.SuperFields.{SuperFields}
@@ -8,10 +8,11 @@ use Rattle.df_superblock.proofs.Laws.{update_is_steps}
 use Rattle.df_damage.specs.Below.{State, boot_fields}
 use Rattle.df_opening.specs.Below.{update_events}
 use Rattle.df_opening.specs.Mending.{AddsRaising, IsReadBack, mending_events, raised_state}
+use Rattle.df_opening.specs.Raising.{opening_events}
 use Rattle.df_opening.specs.Survey.{Survey, survey_in}
 use Rattle.df_opening.proofs.RaiseAnew.{raises_anew}
 use Rattle.df_opening.proofs.RaiseSteps.{opening_is_steps, raises_over}
-use Rattle.df_opening.proofs.Refused.{raising_then, unharmed_error, unharmed_fault, unharmed_ok}
+use Rattle.df_opening.proofs.Refused.{adds_error, raising_then, read_error, unharmed_error, unharmed_fault, unharmed_ok}
 use Rattle.df_opening.proofs.mended.mend_file.Goals as goal
 
 -- ---- the calls are steps, and what they leave
@@ -68,14 +69,15 @@ returns-in-Err-clause-events g c =
 pub returns-in-Ok-raise_parts-clause-events : goal.returns-in-Ok-raise_parts-clause-events
 returns-in-Ok-raise_parts-clause-events g c =
     let s : Survey = survey_in c.args.surveyed in
-    raising_then (mending_events s.state.file.layout s.state.headers s.mends s.state.fields s.chosen.members) (update_events (boot_fields s.state)) (g.D.Disk.told c.args.disk.now) (g.D.Disk.told c.mend_parts.new.disk) (g.D.Disk.told c.raise_parts.new.disk) c.raise_parts.result
-    c.in-Ok.ensures.events (subst (λ (f : SuperFields). AddsRaising (update_events f) (g.D.Disk.told c.mend_parts.new.disk) (g.D.Disk.told c.raise_parts.new.disk) c.raise_parts.result) c.next_superblock-content.ensures c.raise_parts.ensures.events)
+    raising_then {T = Unit {0}} (mending_events s.state.file.layout s.state.headers s.mends s.state.fields s.chosen.members) (update_events (boot_fields s.state)) (g.D.Disk.told c.args.disk.now) (g.D.Disk.told c.mend_parts.new.disk) (g.D.Disk.told c.raise_parts.new.disk) (Ok tt)
+    c.in-Ok.ensures.events (subst (λ (f : SuperFields). AddsRaising {T = Unit {0}} (update_events f) (g.D.Disk.told c.mend_parts.new.disk) (g.D.Disk.told c.raise_parts.new.disk) (Ok tt)) c.next_superblock-content.ensures c.in-Ok-raise_parts.ensures.events)
 
 pub returns-in-Err-raise_parts-clause-events : goal.returns-in-Err-raise_parts-clause-events
 returns-in-Err-raise_parts-clause-events g c =
     let s : Survey = survey_in c.args.surveyed in
-    raising_then (mending_events s.state.file.layout s.state.headers s.mends s.state.fields s.chosen.members) (update_events (boot_fields s.state)) (g.D.Disk.told c.args.disk.now) (g.D.Disk.told c.mend_parts.new.disk) (g.D.Disk.told c.raise_parts.new.disk) (Err c.in-Err-raise_parts.error)
-    c.in-Ok.ensures.events (subst (λ (f : SuperFields). AddsRaising (update_events f) (g.D.Disk.told c.mend_parts.new.disk) (g.D.Disk.told c.raise_parts.new.disk) (Err c.in-Err-raise_parts.error)) c.next_superblock-content.ensures c.in-Err-raise_parts.ensures.events)
+    adds_error (Unit {0}) _ (opening_events s) (g.D.Disk.told c.args.disk.now) (g.D.Disk.told c.raise_parts.new.disk) c.in-Err-raise_parts.error
+    (raising_then {T = Unit {0}} (mending_events s.state.file.layout s.state.headers s.mends s.state.fields s.chosen.members) (update_events (boot_fields s.state)) (g.D.Disk.told c.args.disk.now) (g.D.Disk.told c.mend_parts.new.disk) (g.D.Disk.told c.raise_parts.new.disk) (Err c.in-Err-raise_parts.error)
+    c.in-Ok.ensures.events (subst (λ (f : SuperFields). AddsRaising {T = Unit {0}} (update_events f) (g.D.Disk.told c.mend_parts.new.disk) (g.D.Disk.told c.raise_parts.new.disk) (Err c.in-Err-raise_parts.error)) c.next_superblock-content.ensures c.in-Err-raise_parts.ensures.events))
 
 -- ---- the superblock that is written is that of the state as it was found
 
@@ -89,17 +91,18 @@ pub returns-in-Ok-raise_parts-clause-state : goal.returns-in-Ok-raise_parts-clau
 returns-in-Ok-raise_parts-clause-state g c = c.in-Ok-raise_parts.ensures.state ∙ ap raised_state c.mend_parts.ensures.state
 
 pub returns-in-Ok-raise_parts-clause-read_back : goal.returns-in-Ok-raise_parts-clause-read_back
-returns-in-Ok-raise_parts-clause-read_back g c = subst (λ (f : SuperFields). IsReadBack f (g.D.Disk.told c.raise_parts.new.disk) c.raise_parts.result) c.next_superblock-content.ensures c.raise_parts.ensures.read_back
+returns-in-Ok-raise_parts-clause-read_back g c = subst (λ (f : SuperFields). IsReadBack {T = Unit {0}} f (g.D.Disk.told c.raise_parts.new.disk) (Ok tt)) c.next_superblock-content.ensures c.in-Ok-raise_parts.ensures.read_back
 
 pub returns-in-Err-raise_parts-clause-read_back : goal.returns-in-Err-raise_parts-clause-read_back
 returns-in-Err-raise_parts-clause-read_back g c =
-    subst (λ (f : SuperFields). IsReadBack f (g.D.Disk.told c.raise_parts.new.disk) (Err c.in-Err-raise_parts.error)) c.next_superblock-content.ensures c.in-Err-raise_parts.ensures.read_back
+    read_error (Unit {0}) _ (boot_fields (survey_in c.args.surveyed).state) (g.D.Disk.told c.raise_parts.new.disk) c.in-Err-raise_parts.error
+    (subst (λ (f : SuperFields). IsReadBack {T = Unit {0}} f (g.D.Disk.told c.raise_parts.new.disk) (Err c.in-Err-raise_parts.error)) c.next_superblock-content.ensures c.in-Err-raise_parts.ensures.read_back)
 
 pub returns-in-Err-clause-unharmed : goal.returns-in-Err-clause-unharmed
-returns-in-Err-clause-unharmed g c = unharmed_fault (g.D.Disk.told c.mend_parts.new.disk)
+returns-in-Err-clause-unharmed g c = unharmed_fault _ (g.D.Disk.told c.mend_parts.new.disk)
 
 pub returns-in-Ok-raise_parts-clause-unharmed : goal.returns-in-Ok-raise_parts-clause-unharmed
-returns-in-Ok-raise_parts-clause-unharmed g c = unharmed_ok (g.D.Disk.told c.raise_parts.new.disk) c.raise_parts.new.parts
+returns-in-Ok-raise_parts-clause-unharmed g c = unharmed_ok _ (g.D.Disk.told c.raise_parts.new.disk) c.raise_parts.new.parts
 
 pub returns-in-Err-raise_parts-clause-unharmed : goal.returns-in-Err-raise_parts-clause-unharmed
-returns-in-Err-raise_parts-clause-unharmed g c = unharmed_error (g.D.Disk.told c.raise_parts.new.disk) c.in-Err-raise_parts.error c.in-Err-raise_parts.ensures.unharmed
+returns-in-Err-raise_parts-clause-unharmed g c = unharmed_error (Unit {0}) _ (g.D.Disk.told c.raise_parts.new.disk) c.in-Err-raise_parts.error c.in-Err-raise_parts.ensures.unharmed

@@ -1,6 +1,7 @@
 -- What was surveyed behind the barrier is mended and raised, and the state is that of the survey, but for its boot.
-use Rattle.std.proofs.Common.{◌≡◌, ◌∙◌, List, Option, Some, inr, refl, ap, subst, sym}
-use Rattle.std.specs.Prelude.{Ok}
+use Rattle.std.proofs.Common.{◌≡◌, ◌∙◌, ℕ, List, Option, Some, inr, refl, ap, subst, sym}
+use Rattle.std.specs.Prelude.{Ok, Err}
+use Rattle.df_base.specs.Causes.{Blamed}
 use Rattle.df_base.specs.Image.{Image}
 use Rattle.df_base.specs.Log.{Event, Sync}
 use Rattle.df_disk.specs.Adds.{AddsPart, after_all}
@@ -9,7 +10,9 @@ use Rattle.df_damage.specs.Anew.{begun}
 use Rattle.df_layout.specs.declared.layout.Layout.{Layout}
 use Rattle.df_units.proofs.Laws.{steps_within}
 use Rattle.df_units.specs.Bytes.{unit_at}
+use Rattle.df_model.specs.Faults.{is_mend_fault, is_open_fault}
 use Rattle.df_model.specs.Work.{kept}
+use Rattle.df_model.specs.declared.errors.OpenError.{OpenError}
 use Rattle.df_damage.specs.Below.{State, boot_fields, shape, state_in}
 use Rattle.df_damage.specs.Surveys.{IsOpenedAs}
 use Rattle.df_opening.specs.Mending.{StaysFound, begun_state, raised_state}
@@ -22,7 +25,7 @@ use Rattle.df_opening.proofs.Barriers.{barrier_rests}
 use Rattle.df_opening.proofs.Hurts.{tells_hurt}
 use Rattle.df_opening.proofs.MendShows.{front_spares, opening_copies, opening_spares}
 use Rattle.df_opening.proofs.Opens.{front_moments, mend_stops, open_settles, own_raising, planned_same, stands_anew, stands_over}
-use Rattle.df_opening.proofs.Refused.{fault_adds, no_refusal, refused_tells}
+use Rattle.df_opening.proofs.Refused.{blamed_open, fault_adds, no_refusal, refused_tells}
 use Rattle.df_opening.proofs.opened.open_file.Goals as goal
 
 pub returns-in-Ok-mend_file-clause-answer : goal.returns-in-Ok-mend_file-clause-answer
@@ -37,14 +40,22 @@ returns-in-Ok-mend_file-clause-hurt g c = (
 
 pub returns-in-Err-mend_file-clause-answer : goal.returns-in-Err-mend_file-clause-answer
 returns-in-Err-mend_file-clause-answer g c =
-    refused_tells c.args.rooms.layout (g.D.Disk.told c.args.disk.now) (g.D.Disk.told c.survey_file.new.disk) (g.D.Disk.told c.mend_file.new.disk) (opening_events (survey_in c.in-Ok.surveyed)) c.in-Err-mend_file.error c.in-Ok.ensures.barrier c.in-Err-mend_file.ensures.events c.in-Err-mend_file.ensures.unharmed
+    subst (λ (e : OpenError). TellsSurvey c.args.rooms.layout (g.D.Disk.told c.args.disk.now) (Err e)) (sym c.refusal_of.ensures)
+    (refused_tells _ c.args.rooms.layout (g.D.Disk.told c.args.disk.now) (g.D.Disk.told c.survey_file.new.disk) (g.D.Disk.told c.mend_file.new.disk) (opening_events (survey_in c.in-Ok.surveyed)) c.in-Err-mend_file.error c.in-Ok.ensures.barrier c.in-Err-mend_file.ensures.events c.in-Err-mend_file.ensures.unharmed)
 
 pub returns-in-Err-mend_file-clause-hurt : goal.returns-in-Err-mend_file-clause-hurt
-returns-in-Err-mend_file-clause-hurt g c = tells_hurt c.args.rooms.layout (g.D.Disk.told c.args.disk.now) _ (returns-in-Err-mend_file-clause-answer g c)
+returns-in-Err-mend_file-clause-hurt g c = tells_hurt c.args.rooms.layout (g.D.Disk.told c.args.disk.now) (Err c.refusal_of.result) (returns-in-Err-mend_file-clause-answer g c)
 
 pub returns-in-Err-mend_file-clause-refused : goal.returns-in-Err-mend_file-clause-refused
-returns-in-Err-mend_file-clause-refused g c =
-    no_refusal (g.D.Disk.told c.args.disk.now) (g.D.Disk.told c.survey_file.new.disk) (g.D.Disk.told c.mend_file.new.disk) (opening_events (survey_in c.in-Ok.surveyed)) c.in-Err-mend_file.error c.in-Ok.ensures.barrier c.in-Err-mend_file.ensures.events c.in-Err-mend_file.ensures.unharmed
+returns-in-Err-mend_file-clause-refused g c = λ other.
+    no_refusal _ (g.D.Disk.told c.args.disk.now) (g.D.Disk.told c.survey_file.new.disk) (g.D.Disk.told c.mend_file.new.disk) (opening_events (survey_in c.in-Ok.surveyed)) c.in-Err-mend_file.error c.in-Ok.ensures.barrier c.in-Err-mend_file.ensures.events c.in-Err-mend_file.ensures.unharmed
+    (λ is. other (c.refusal_of.ensures ∙ is))
+
+pub returns-in-Err-mend_file-clause-cause : goal.returns-in-Err-mend_file-clause-cause
+returns-in-Err-mend_file-clause-cause g c =
+    subst (λ (e : OpenError). Blamed (is_open_fault e) (g.D.Disk.faults c.args.disk.now) (g.D.Disk.faults c.mend_file.new.disk)) (sym c.refusal_of.ensures)
+    (blamed_open c.in-Err-mend_file.error (g.D.Disk.faults c.args.disk.now) (g.D.Disk.faults c.mend_file.new.disk)
+    (subst (λ (n : ℕ). Blamed (is_mend_fault c.in-Err-mend_file.error) n (g.D.Disk.faults c.mend_file.new.disk)) c.in-Ok.ensures.cause c.in-Err-mend_file.ensures.cause))
 
 pub returns-in-Ok-mend_file-clause-opened : goal.returns-in-Ok-mend_file-clause-opened
 returns-in-Ok-mend_file-clause-opened g c = λ t is.
@@ -84,7 +95,7 @@ returns-in-Err-mend_file-clause-stopped g c = λ t is whole fault.
     let synced : g.D.Disk.told c.survey_file.new.disk ≡ Some (did Sync t) = c.in-Ok.ensures.barrier ∙ ap (after Sync) is in
     let answer : TellsSurvey c.args.rooms.layout (Some t) (Ok s.state) = subst (λ (o : Option Told). TellsSurvey c.args.rooms.layout o (Ok s.state)) is c.in-Ok.ensures.answer in
     let plan = c.in-Ok.ensures.planned (did Sync t) synced in
-    let adds = fault_adds es (g.D.Disk.told c.survey_file.new.disk) (g.D.Disk.told c.mend_file.new.disk) c.in-Err-mend_file.error fault c.in-Err-mend_file.ensures.events in
+    let adds = fault_adds _ es (g.D.Disk.told c.survey_file.new.disk) (g.D.Disk.told c.mend_file.new.disk) c.in-Err-mend_file.error (sym c.refusal_of.ensures ∙ fault) c.in-Err-mend_file.ensures.events in
     let part = mend_stops es (g.D.Disk.told c.survey_file.new.disk) (g.D.Disk.told c.mend_file.new.disk) (did Sync t) synced adds in
     let done = part.steps (format s.state.file) (opening_steps s) c.in-Err-mend_file.ensures.steps in
     inr (inr (record {

@@ -2,7 +2,7 @@
 use Rattle.std.proofs.Common.{◌≡◌, ◌∙◌, ℕ, ap, refl, sym, arith, ◌<◌, ◌^◌, subst}
 use Rattle.std.specs.Prelude.{None, false, true}
 use Rattle.df_format.specs.SuperRules.{IsUsable}
-use Rattle.df_damage.specs.Below.{ScrubState, new_scrub}
+use Rattle.df_damage.specs.Below.{ScrubState}
 use Rattle.df_opening.specs.Survey.{Survey}
 use Rattle.df_damage.proofs.Laws.{second_super}
 use Rattle.df_opening.proofs.surveying.parts_of.Goals as goal
@@ -76,4 +76,4 @@ returns-clause-seen c =
       chosen = s.copies.found.chosen;
       mends = s.log.mends.items;
     } in
-    ap (λ (x : ScrubState). seen x s.grid.boot) c.cleared-scrub.ensures.cleared ∙ ap (seen new_scrub) s.grid_unbooted
+    (λ i. seen (c.cleared-scrub.ensures.cleared i) (s.grid_unbooted i))
