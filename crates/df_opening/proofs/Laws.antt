@@ -5,7 +5,7 @@ pub use Rattle.df_opening.proofs.KeptFiles.{firm_of, firmly, good_safe}
 pub use Rattle.df_opening.proofs.Opens.{codec_of, found_keeps, layout_shown, second_found, super_shown}
 pub use Rattle.df_opening.proofs.Views.{keeps_back, keeps_on, keeps_self}
 pub use Rattle.df_opening.proofs.BegunStates.{begun_keeps}
-pub use Rattle.df_opening.proofs.Refused.{unharmed_error, unharmed_ok}
+pub use Rattle.df_opening.proofs.Refused.{adds_error, read_error, unharmed_error, unharmed_ok}
 pub use Rattle.df_opening.proofs.RaiseSteps.{raised_is, sum_of}
 pub use Rattle.df_opening.proofs.NotRefused.{safe_is_not_refused}
 pub use Rattle.df_opening.proofs.Followed.{begun_may_open, stopped_may_open}

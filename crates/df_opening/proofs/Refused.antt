@@ -33,9 +33,9 @@ fault_adds T events old new DiskFault is adds = adds
 fault_adds T events old new (Damaged place kind) is adds = all_is_part events old new adds
 
 -- no harm but damage
-pub unharmed_ok : (T : Type 0) (told : Option Told) (x : T) → IsUnharmed {T = T} told (Ok x)
-unharmed_ok T None x = tt
-unharmed_ok T (Some t) x = tt
+pub unharmed_ok : {T : Type 0} (told : Option Told) (x : T) → IsUnharmed told (Ok x)
+unharmed_ok None x = tt
+unharmed_ok (Some t) x = tt
 
 pub unharmed_fault : (T : Type 0) (told : Option Told) → IsUnharmed {T = T} told (Err DiskFault)
 unharmed_fault T None = tt

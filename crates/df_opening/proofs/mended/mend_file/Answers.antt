@@ -102,7 +102,7 @@ pub returns-in-Err-clause-unharmed : goal.returns-in-Err-clause-unharmed
 returns-in-Err-clause-unharmed g c = unharmed_fault _ (g.D.Disk.told c.mend_parts.new.disk)
 
 pub returns-in-Ok-raise_parts-clause-unharmed : goal.returns-in-Ok-raise_parts-clause-unharmed
-returns-in-Ok-raise_parts-clause-unharmed g c = unharmed_ok _ (g.D.Disk.told c.raise_parts.new.disk) c.raise_parts.new.parts
+returns-in-Ok-raise_parts-clause-unharmed g c = unharmed_ok (g.D.Disk.told c.raise_parts.new.disk) c.raise_parts.new.parts
 
 pub returns-in-Err-raise_parts-clause-unharmed : goal.returns-in-Err-raise_parts-clause-unharmed
 returns-in-Err-raise_parts-clause-unharmed g c = unharmed_error (Unit {0}) _ (g.D.Disk.told c.raise_parts.new.disk) c.in-Err-raise_parts.error c.in-Err-raise_parts.ensures.unharmed

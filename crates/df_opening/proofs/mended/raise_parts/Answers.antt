@@ -34,7 +34,7 @@ returns-clause-whole g c =
     }
 
 pub returns-clause-unharmed : goal.returns-clause-unharmed
-returns-clause-unharmed g c = unharmed_ok _ (g.D.Disk.told c.update.new.disk) tt
+returns-clause-unharmed g c = unharmed_ok {T = Unit {0}} (g.D.Disk.told c.update.new.disk) tt
 
 pub returns-in-Err-Damaged-clause-unharmed : goal.returns-in-Err-Damaged-clause-unharmed
 returns-in-Err-Damaged-clause-unharmed g c = unharmed_of _ _ (g.D.Disk.told c.update.new.disk) c.in-Err-Damaged.place c.in-Err-Damaged.class c.in-Err-Damaged.ensures.undamaged
