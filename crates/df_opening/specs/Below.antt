@@ -12,7 +12,7 @@ pub use Rattle.df_superblock.specs.Below.{Sync}
 pub use Rattle.df_superblock.specs.Events.{update_events}
 pub use Rattle.df_headers.specs.Ring.{sector_writes}
 pub use Rattle.df_journal.specs.Below.{EachMoment}
-pub use Rattle.df_damage.specs.Below.{AreAsked, AreFound, AreWhole, DataFile, HasCause, IsBlamed, IsCourse, IsLevel, IsMachineStep, IsMachines, IsRunning, IsState, IsStep, IsVerdict, ListsFailing, MayRecord, Represents, RunningCheckpoint, RunningState, ScrubState, State, Told, View, after_step, boot_fields, captured_text, course_in, course_of, failing_among, failing_in, fault_of, grid_with, is_open_fault, left_in, memory, prepare_sum, recorded, reply_sum, running_of, running_state, sessions_of, shape, spelling, state_in, stored_sum, sum_of, summary_of, verdict_in, with_check}
+pub use Rattle.df_damage.specs.Below.{AreAsked, AreFound, AreWhole, DataFile, HasCause, IsBlamed, IsCourse, IsLevel, IsMachineStep, IsMachines, IsRunning, IsState, IsStep, IsVerdict, ListsFailing, MayRecord, Parts, Represents, RunningCheckpoint, RunningState, ScrubState, State, Told, View, after_step, boot_fields, captured_text, course_in, course_of, failing_among, failing_in, fault_of, grid_with, is_open_fault, left_in, memory, prepare_sum, recorded, reply_sum, running_of, running_state, sessions_of, shape, spelling, state_in, stored_sum, sum_of, summary_of, verdict_in, with_check}
 pub use Rattle.df_damage.specs.Checkpoints.{AreOfCheckpoint}
 pub use Rattle.df_damage.specs.Finding.{IsDamage}
 pub use Rattle.df_damage.specs.Found.{IsLayoutShown, Syncs, TellsLayout}

@@ -1,14 +1,16 @@
 -- What a mending and a boot update leave is said of the survey that the parts are seen as.
 use Rattle.std.proofs.Common.{subst}
+use Rattle.std.specs.Prelude.{Err}
 use Rattle.df_base.specs.Image.{IsImage}
 use Rattle.df_theory.specs.Found.{IsFound}
 use Rattle.df_units.specs.Bytes.{unit_at}
 use Rattle.df_opening.specs.Keeping.{Grade}
-use Rattle.df_opening.specs.Mending.{RestsOnDisk, first_state}
-use Rattle.df_opening.specs.Raising.{IsPlannedOf, RaisesAnew, RaisesOver}
+use Rattle.df_opening.specs.Below.{Parts, State, state_in}
+use Rattle.df_opening.specs.Mending.{AddsRaising, IsReadBack, RestsOnDisk, first_state}
+use Rattle.df_opening.specs.Raising.{IsPlannedOf, RaisesAnew, RaisesOver, opening_events}
 use Rattle.df_opening.specs.Survey.{Survey}
-use Rattle.df_opening.proofs.Laws.{unharmed_error, unharmed_ok}
-use Rattle.df_replica.specs.Below.{AreDistinct, Represents, Told, View, begun, shape}
+use Rattle.df_opening.proofs.Laws.{adds_error, read_error, unharmed_error, unharmed_ok}
+use Rattle.df_replica.specs.Below.{AreDistinct, Represents, Told, View, begun, boot_fields, shape}
 use Rattle.df_replica.proofs.surveyed.Surveyed.mend.Goals as goal
 
 abbrev Over : Survey → Type 0
@@ -30,8 +32,21 @@ returns-in-Ok-clause-anew g c = subst Anew c.self.view_is c.mend_file.ensures.an
 pub returns-in-Err-clause-anew : goal.returns-in-Err-clause-anew
 returns-in-Err-clause-anew g c = subst Anew c.self.view_is c.mend_file.ensures.anew
 
+pub returns-in-Err-clause-events : goal.returns-in-Err-clause-events
+returns-in-Err-clause-events g c =
+    let old = g.D.Disk.told c.args.disk.now in
+    let new = g.D.Disk.told c.mend_file.new.disk in
+    adds_error Parts State (opening_events c.args.self) old new c.in-Err.refused.1
+    (subst (λ (v : Survey). AddsRaising {T = Parts} (opening_events v) old new (Err c.in-Err.refused.1)) c.self.view_is c.in-Err.ensures.events)
+
+pub returns-in-Err-clause-read_back : goal.returns-in-Err-clause-read_back
+returns-in-Err-clause-read_back g c =
+    let new = g.D.Disk.told c.mend_file.new.disk in
+    read_error Parts State (boot_fields c.args.self.state) new c.in-Err.refused.1
+    (subst (λ (v : Survey). IsReadBack {T = Parts} (boot_fields v.state) new (Err c.in-Err.refused.1)) c.self.view_is c.in-Err.ensures.read_back)
+
 pub returns-in-Ok-clause-unharmed : goal.returns-in-Ok-clause-unharmed
-returns-in-Ok-clause-unharmed g c = unharmed_ok (g.D.Disk.told c.mend_file.new.disk) _
+returns-in-Ok-clause-unharmed g c = unharmed_ok {T = State} (g.D.Disk.told c.mend_file.new.disk) (state_in c.in-Ok.parts)
 
 pub returns-in-Err-clause-unharmed : goal.returns-in-Err-clause-unharmed
-returns-in-Err-clause-unharmed g c = unharmed_error (g.D.Disk.told c.mend_file.new.disk) c.in-Err.refused.1 c.in-Err.ensures.unharmed
+returns-in-Err-clause-unharmed g c = unharmed_error Parts State (g.D.Disk.told c.mend_file.new.disk) c.in-Err.refused.1 c.in-Err.ensures.unharmed
