@@ -10,12 +10,13 @@ use Rattle.df_units.specs.Bytes.{unit_at}
 use Rattle.df_units.specs.Meaning.{content_of}
 use Rattle.df_model.specs.Making.{boot_content}
 use Rattle.df_model.specs.Memory.{Memory, memory_of}
+use Rattle.df_model.specs.Supply.{boot_sum}
 use Rattle.df_model.specs.Work.{Work, opened, raised}
 use Rattle.df_replica.specs.Below.{DataFile, IsOpened, State, boot_fields, memory, shape, spelling}
 use Rattle.df_replica.specs.Leaving.{image_after}
 use Rattle.df_replica.specs.Opened.{MendsAll, begun_state, raised_state}
 use Rattle.df_replica.proofs.Laws.{found_keeps, raised_is, sum_of}
-use Rattle.df_result.specs.Begun.{BegunIsWork, begun_work, boot_sum}
+use Rattle.df_result.specs.Begun.{BegunIsWork, begun_work}
 use Rattle.df_result.specs.Codec.{IsOfFile, codec}
 use Rattle.df_result.proofs.Sums.{units_have_sums}
 

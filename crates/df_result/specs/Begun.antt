@@ -1,29 +1,19 @@
 -- The state that calls begin with behind an open, as a function of the file, of what the disk shows and of the view that is found in it: no replica is in sight.
-use Rattle.std.specs.Prelude.{◌≡◌, ℕ, Option}
+use Rattle.std.specs.Prelude.{◌≡◌, Option}
 use Rattle.df_base.specs.Image.{Image, IsImage}
 use Rattle.df_disk.specs.Told.{Told}
 use Rattle.df_theory.specs.Found.{IsFound}
 use Rattle.df_theory.specs.View.{View}
 use Rattle.df_units.specs.Bytes.{unit_at}
-use Rattle.df_model.specs.Making.{boot_content}
-use Rattle.df_model.specs.Memory.{Memory, memory_of}
-use Rattle.df_model.specs.Supply.{Codec}
-use Rattle.df_model.specs.Work.{Work, opened, raised}
-use Rattle.df_replica.specs.Below.{DataFile, State, shape, spelling}
+use Rattle.df_model.specs.Supply.{begun_from}
+use Rattle.df_model.specs.Work.{Work, opened}
+use Rattle.df_replica.specs.Below.{DataFile, State, shape}
 use Rattle.df_replica.specs.Opened.{MendsAll, begun_state}
 use Rattle.df_result.specs.Codec.{codec}
 
--- the checksum of the superblock that an open writes where this is in memory, whatever stands in its own field
-abbrev pub boot_sum : Codec → Memory → ℕ
-boot_sum codec m = codec.content (boot_content m 0)
-
--- the boot is raised behind what was found, by a superblock that records the state as it is
-abbrev pub begun_from : DataFile → Work → Work
-begun_from file w = raised w (boot_content (memory_of (shape file) (spelling file) w) (boot_sum (codec file) (memory_of (shape file) (spelling file) w)))
-
--- where an open finds this view in this image
+-- what calls begin with where an open finds this view in this image
 abbrev pub begun_work : DataFile → Image → View → Work
-begun_work file image view = begun_from file (opened (shape file) (unit_at file.layout file.cluster image) view)
+begun_work file image view = begun_from (shape file) (codec file) (opened (shape file) (unit_at file.layout file.cluster image) view)
 
 -- it is the state that the superblock leads to which an open wrote
 abbrev pub BegunIsWork : Type 0

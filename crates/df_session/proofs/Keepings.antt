@@ -38,6 +38,7 @@ opened_here t s mended over whole g view base same may stands =
 
 pub calls_keep : CallsOnOpenFileKeepIt
 calls_keep t s mended found to new acts answers failed calls whole live = record {
+  stands = λ view is. begun_here t s mended found view whole is;
   answered = λ view is. answers_alone Firm (begun_work s.file t.shown view) s to mended new acts answers failed live (begun_here t s mended found view whole is) calls;
   result = λ view shown is agree. opened_answers s t mended found whole (begun_work s.file t.shown view) (begun_here t s mended found view whole is) to new failed shown agree acts answers calls;
   mends = (found.found, found.raised, found.own whole);

@@ -1,5 +1,5 @@
 -- What is promised of calls on a file that was opened, whatever they are.
-use Rattle.std.specs.Prelude.{◌≡◌, true, List, [], Option, Some}
+use Rattle.std.specs.Prelude.{◌≡◌, true, List, [], Option, None, Some}
 use Rattle.df_base.specs.Image.{IsImage}
 use Rattle.df_base.specs.Log.{Sync}
 use Rattle.df_disk.specs.Adds.{after_all}
@@ -14,7 +14,7 @@ use Rattle.df_result.specs.Following.{MayOpen}
 use Rattle.df_result.specs.Begun.{begun_work}
 use Rattle.df_result.specs.Opened.{AreRaising, Mends, MendsAll, raised_state}
 use Rattle.df_result.specs.Reading.{shown_of}
-use Rattle.df_result.specs.Serving.{Grade, IsKept, StandsFor}
+use Rattle.df_result.specs.Serving.{Firm, Grade, IsKept, Keeps, StandsFor}
 use Rattle.df_result.specs.Session.{Act, answers_of}
 use Rattle.df_result.specs.Agreeing.{AgreeShown}
 use Rattle.df_session.specs.Acknowledging.{KeepsAnswered}
@@ -24,10 +24,11 @@ use Rattle.df_session.specs.Resulting.{AnswersResult}
 use Rattle.df_session.specs.Sparing.{SparesBlocks}
 
 -- The calls were made on a file that was found in what the disk showed, mended and raised. On whatever image: the mending and the boot update are their own device calls alone, as each of the calls is; the answers
--- are the machine's, from the state behind the boot update on, and a function of what was shown; what is told is what the calls added; no call writes a sector of a block that is held, but a step those of the running trailer's next. By each log that shows what was shown, and by which
+-- are the machine's, from the state behind the boot update on, for which the replica stands, and a function of what was shown; what is told is what the calls added; no call writes a sector of a block that is held, but a step those of the running trailer's next. By each log that shows what was shown, and by which
 -- the file may be opened, the told one or one that is begun anew there: the file is kept at the open, at the end all that was answered is there, and so it is at each moment from its
 -- answer on.
 pub record CallsKeep (t : Told) (s : Replica) (mended : Option Told) (mending : Mends s.file (Some (did Sync t)) mended) (c : CallsMade) : Type 0 where
+  pub stands : (view : View) → IsFound (shape s.file) (unit_at s.file.layout s.file.cluster t.shown) view → Keeps Firm s (begun_work s.file t.shown view) None
   pub answered : (view : View) → IsFound (shape s.file) (unit_at s.file.layout s.file.cluster t.shown) view → c.answers ≡ answers_of s.file (begun_work s.file t.shown view) c.acts
   pub result : (view : View) (shown : Shown) → IsFound (shape s.file) (unit_at s.file.layout s.file.cluster t.shown) view → AgreeShown s.file.layout (shown_of s.file t.shown) shown
       → AnswersResult s.file shown (begun_work s.file t.shown view) c.acts c.answers
