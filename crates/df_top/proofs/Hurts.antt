@@ -6,19 +6,16 @@ use Rattle.df_disk.specs.Told.{Told, did}
 use Rattle.df_disk.proofs.Laws.{goes_told}
 use Rattle.df_layout.specs.declared.layout.Layout.{Layout}
 use Rattle.df_model.specs.Commands.{Answer}
-use Rattle.df_model.specs.Work.{Work, opened}
+use Rattle.df_model.specs.Sense.{IsWork}
+use Rattle.df_model.specs.Work.{Work}
 use Rattle.df_session.specs.Begun.{begun_work}
-use Rattle.df_session.specs.Below.{FindsHad, IsNeedless, RefusesHurt, MayBeHurt, OpensAsLeft, DataFile, State as Replica, shape}
+use Rattle.df_session.specs.Below.{FindsHad, IsNeedless, RefusesHurt, MayBeHurt, OpensAsLeft, DataFile, State as Replica, shape, spelling}
 use Rattle.df_session.specs.Lending.{GivesOwn}
 use Rattle.df_session.specs.Serving.{Firm, Keeps, next}
 use Rattle.df_session.specs.Session.{Act}
 use Rattle.df_session.specs.WrittenFor.{IsWrittenFor, IsWrittenIn}
 use Rattle.df_session.proofs.Laws.{call_is_own, call_is_the_one, file_there, opened_is_written_for, answer_is_of_hurt, headers_may_be_hurt, probe_is_of_hurt, two_copies_are_enough}
 use Rattle.df_theory.specs.Found.{IsFound}
-use Rattle.df_theory.specs.Next.{booted}
-use Rattle.df_theory.specs.Shape.{Shape}
-use Rattle.df_theory.specs.Shows.{Needs}
-use Rattle.df_theory.specs.Units.{AnyUnit, BlockPlace, Content, CopyPlace, HeaderPlace, Place, PreparePlace, ReplyPlace}
 use Rattle.df_theory.specs.View.{View, boot_of}
 use Rattle.df_units.specs.Bytes.{unit_at}
 use Rattle.df_session.specs.Found.{FoundFile}
@@ -56,16 +53,6 @@ ends_give : (w : Work) (s t : Replica) (old new : Option Told) (acts : List Act)
 ends_give w s t old new acts answers None keeps written ends = all_give w s t old new acts answers keeps written ends
 ends_give w s t old new acts answers (Some a) keeps written ends = all_give w s ends.0 old ends.1 acts answers keeps written ends.2
 
--- ---- what was written
-
--- a boot update needs no other unit
-needs_same : (sh : Shape) (v : View) (d : Content) (place : Place) (x : AnyUnit) → Needs sh (booted v d) place x → Needs sh v place x
-needs_same sh v d (CopyPlace n) x need = need
-needs_same sh v d (HeaderPlace n) x need = need
-needs_same sh v d (PreparePlace n) x need = need
-needs_same sh v d (ReplyPlace n) x need = need
-needs_same sh v d (BlockPlace n) x need = need
-
 -- ---- a word
 
 module _ (file : DataFile) (view : View) (t : Told) (may : MayBeHurt file view t) (unspent : boot_of view < 2 ^ 62) where
@@ -89,17 +76,10 @@ module _ (file : DataFile) (view : View) (t : Told) (may : MayBeHurt file view t
     written : IsWrittenIn found.replica.file found.mended w
     written =
         let goes = goes_told (did Sync t) found.mended (found.mending.events, found.mending.told) in
-        let before : IsWrittenFor found.replica.file goes.0.log (opened (shape file) (unit_at file.layout file.cluster t.shown) finds.found) =
-        subst (λ (x : DataFile). IsWrittenFor x goes.0.log (opened (shape file) (unit_at file.layout file.cluster t.shown) finds.found)) (sym (file_there file.layout t found))
-        (opened_is_written_for file view t found.found goes.0.log finds goes.2.grew) in
-        let behind : IsWrittenFor found.replica.file goes.0.log w = record {
-          view = record {
-            sound = stands.0.view;
-            needs = λ place x need. before.view.needs place x (needs_same (shape found.replica.file) finds.found w.view.checkpoint.content place x need);
-          };
-          trailer = before.trailer;
-        } in
-        subst (λ (o : Option Told). IsWrittenIn found.replica.file o w) (sym goes.1) behind
+        let there = file_there file.layout t found in
+        let own : IsWrittenFor found.found.file goes.0.log w =
+        opened_is_written_for file view t found.found goes.0.log w.view.checkpoint.content finds goes.2.grew (subst (λ (x : DataFile). IsWork (shape x) (spelling x) w) there stands.0) in
+        subst (λ (o : Option Told). IsWrittenIn found.replica.file o w) (sym goes.1) (subst (λ (x : DataFile). IsWrittenFor x goes.0.log w) (sym there) own)
 
     -- the reads of calls on what was found
     reads_own : (to : Replica) (now : Option Told) (acts : List Act) (xs : List Answer) (failed : Option Act) → (calls : EndsCalls found.replica to found.mended now acts xs failed) → AllGiveOwn found.replica to found.mended now w acts xs failed calls
