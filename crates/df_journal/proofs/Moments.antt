@@ -27,14 +27,15 @@ use Rattle.df_theory.specs.Units
 use Rattle.df_theory.specs.Units.{AnyUnit, HeaderPlace, HeaderUnit, PreparePlace, PrepareUnit, or_else}
 use Rattle.df_theory.specs.UnitLog.{put_one}
 use Rattle.df_theory.specs.TidyLaws.{IsTidy}
-use Rattle.df_theory.specs.Cases.{IsEmpty, IsTake, cut, decided, decision, seen_header}
+use Rattle.df_theory.specs.Cases.{IsEmpty, Takes, cut, decided, decision, seen_header}
+use Rattle.df_theory.specs.Tails.{In}
 use Rattle.df_theory.specs.Device.{AreSteps, IsGoodDisk, IsPut, units_log}
 use Rattle.df_theory.specs.Found.{IsFound}
 use Rattle.df_theory.specs.Holds.{Held}
 use Rattle.df_theory.specs.Next.{appended}
 use Rattle.df_theory.specs.Shape.{slots}
 use Rattle.df_theory.specs.View.{Checkpoint, View, boot_of, head}
-use Rattle.df_theory.proofs.Laws.{found_law, slot_law}
+use Rattle.df_theory.proofs.Laws.{found_law, in_front, slot_law}
 use Rattle.df_units.specs.Append.{LeadsOnDisk, append_events}
 use Rattle.df_units.specs.Bytes.{first_at, unit_at}
 use Rattle.df_units.specs.Format.{format_of, shape_of}
@@ -110,20 +111,16 @@ decided_above : (n b top : ℕ) (image : Units.Units) (o : ℕ) → top < o → 
 decided_above n b top image o above = cond-true (nat_lt top o) (cut (seen_header b o (image (HeaderPlace (o % n)))) (decision n b image o)) (decision n b image o) (lt-ltb top o above)
 
 stays : (layout : Layout) (cluster : ℕ) (named : 0 < cluster) (parse : ℕ → List ℕ → Option Units.Parts) (image : Image) (v u : View) → IsImage image → Held (shape_of layout cluster named parse) (unit_at layout cluster image) u
-    → u.checkpoint ≡ v.checkpoint → head v ≤ head u → head u ≤ head v + 1 → OthersStay (shape_of layout cluster named parse) (unit_at layout cluster image) v
-stays layout cluster named parse image v u whole held same low high =
+    → u.checkpoint ≡ v.checkpoint → ((p : Units.Message) → In p v.tail → In p u.tail) → head v ≤ head u → head u ≤ head v + 1 → OthersStay (shape_of layout cluster named parse) (unit_at layout cluster image) v
+stays layout cluster named parse image v u whole held same tail low high =
     let sh = shape_of layout cluster named parse in
     let units = unit_at layout cluster image in
     let found : IsFound sh units u = (found_law sh units u).0 held in
     let boot : boot_of u ≡ boot_of v = ap (λ (c : Checkpoint). c.content.boot) same in
     let places = of_places layout cluster named parse image whole in
     let op : u.checkpoint.content.op ≡ v.checkpoint.content.op = ap (λ (c : Checkpoint). c.content.op) same in
-    let pin : u.checkpoint.content.pin ≡ v.checkpoint.content.pin = ap (λ (c : Checkpoint). c.content.pin) same in
-    let from : u.checkpoint.content.op ≤ u.checkpoint.content.pin = found.checkpoint.tests.pin.0 in
     record {
-      taken = λ o above le.
-          let law = slot_law sh units u o places found (omega (arith, above, pin, from)) (omega (arith, le, low, op, found.tail.room)) in
-          subst (λ (b : ℕ). IsTake (decision (slots sh) b units o)) boot (law.0 (omega (arith, above, pin)) (omega (arith, le, low)));
+      taken = λ p is. subst (λ (c : Checkpoint). Takes (slots sh) units c.content p) same (found.tail.takes p (tail p is));
       empty = λ o above within.
           let law = slot_law sh units u o places found (omega (arith, above, op)) (omega (arith, within, op)) in
           subst IsEmpty (decided_above (slots sh) (boot_of v) (head u) units o (omega (arith, above, high)) ∙ sym (decided_above (slots sh) (boot_of v) (head v) units o (omega (arith, above))))
@@ -146,8 +143,8 @@ module _ (layout : Layout) (u : Message) (table : List Header) (t : Told) (may :
       record {
         good = good;
         others = λ image left chance. elim (good.left image left chance) [
-          | inl before ↦ stays layout u.header.cluster may.named may.parse image may.view may.view left.whole before refl (omega arith) (omega arith)
-          | inr behind ↦ stays layout u.header.cluster may.named may.parse image may.view (appended may.view (message_of u ∷ [])) left.whole behind refl (omega (arith, more)) (omega (arith, more))
+          | inl before ↦ stays layout u.header.cluster may.named may.parse image may.view may.view left.whole before refl (λ p is. is) (omega arith) (omega arith)
+          | inr behind ↦ stays layout u.header.cluster may.named may.parse image may.view (appended may.view (message_of u ∷ [])) left.whole behind refl (λ p is. in_front p may.view.tail (message_of u ∷ []) is) (omega (arith, more)) (omega (arith, more))
         ];
       }
 
