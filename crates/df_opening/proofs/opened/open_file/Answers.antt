@@ -38,6 +38,11 @@ returns-in-Ok-mend_file-clause-hurt g c = (
   tells_hurt c.args.rooms.layout (g.D.Disk.told c.args.disk.now) (Ok (state_in c.in-Ok.surveyed.parts)) c.in-Ok.ensures.answer,
 )
 
+pub returns-in-Ok-mend_file-clause-told : goal.returns-in-Ok-mend_file-clause-told
+returns-in-Ok-mend_file-clause-told g c =
+    let es : List Event = opening_events (survey_in c.in-Ok.surveyed) in
+    (es, c.in-Ok-mend_file.ensures.events ∙ ap (after_all es) c.in-Ok.ensures.barrier)
+
 pub returns-in-Err-mend_file-clause-answer : goal.returns-in-Err-mend_file-clause-answer
 returns-in-Err-mend_file-clause-answer g c =
     subst (λ (e : OpenError). TellsSurvey c.args.rooms.layout (g.D.Disk.told c.args.disk.now) (Err e)) (sym c.refusal_of.ensures)
