@@ -22,7 +22,7 @@ use Rattle.df_model.specs.Work.{kept}
 use Rattle.df_model.specs.declared.errors.MendError.{MendError}
 use Rattle.df_model.specs.declared.errors.MendError.TheVariants as mend
 use Rattle.df_model.specs.declared.errors.OpenError.{OpenError}
-use Rattle.df_model.specs.declared.errors.OpenError.TheVariants as open
+use Rattle.df_model.specs.declared.errors.OpenError.TheVariants as opens
 use Rattle.df_damage.specs.Below.{DataFile, State, boot_fields, shape}
 use Rattle.df_damage.specs.Found.{IsChoiceOf}
 use Rattle.df_damage.specs.Plan.{AreDistinct}
@@ -106,8 +106,8 @@ StopsOpening layout t later = (later ≡ Some t) ⊎ (later ≡ Some (did Sync t
 
 -- what an open answers where the mending or the boot update failed
 abbrev pub refusal_of : MendError → OpenError
-refusal_of (mend.Damaged place class) = open.Damaged place class
-refusal_of mend.DiskFault = open.DiskFault
+refusal_of (mend.Damaged place class) = opens.Damaged place class
+refusal_of mend.DiskFault = opens.DiskFault
 
 -- the answer is that of what the disk shows, where it tells that: the refusal that a survey gives, or the state behind the boot update of the one that it finds
 abbrev pub TellsOpened : Layout → Option Told → Result State OpenError → Type 0
