@@ -6,7 +6,7 @@ from typing import Optional
 from . import copies, form, generate_grid, recovery, script, superblock
 from .form import LIMITS, SECTOR, Home, Image, Layout
 from .knows import knows
-from .machine import Machine
+from .machine import Machine, opens
 
 SIZES = (0, 0, 1, 2, 127, 128, 2048, 3839, 3840, 3841, 5000, 7935, 7936, 12000)
 DIGITS = b"0123456789"
@@ -88,6 +88,13 @@ def machine_of(data: Optional[bytes]) -> Machine:
         data = script.fresh(Home(form.SMALL, 7))
         found = recovery.found(data)
     return Machine(found, Image(data))
+
+
+def opened_file(data: bytes) -> tuple:
+    """The machine of a file behind its open, and the file then."""
+    found = recovery.found(data)
+    machine = Machine(found, Image(data))
+    return machine, script.state(data, opens(found, machine))
 
 
 def any_number(random: Random, high: int) -> int:
