@@ -3,9 +3,7 @@
 use df_base::SECTOR;
 use df_disk::Disk;
 use df_memdisk::{MemoryDisk, Strike};
-use df_runs::{
-    Status, blank, disk_behind, made_file, printed, run_script, run_words, small_file,
-};
+use df_runs::{Status, blank, disk_behind, made_file, printed, run_script, run_words, small_file};
 use std::alloc::Global;
 use std::test::Fail;
 

@@ -4,9 +4,7 @@ use crate::shown::{expect_script, expect_words, strike};
 use df_base::SECTOR;
 use df_disk::Disk;
 use df_memdisk::{MemoryDisk, Strike};
-use df_runs::{
-    Status, disk_behind, made_file, ops_of_one, run_words, small_file, small_summary,
-};
+use df_runs::{Status, disk_behind, made_file, ops_of_one, run_words, small_file, small_summary};
 use std::alloc::Global;
 use std::test::Fail;
 

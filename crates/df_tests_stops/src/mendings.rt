@@ -1,9 +1,7 @@
 // Mendings that are stopped within each write and sync: the next run does what is left of them.
 use df_images::{FATES, Fate, stop, strike};
 use df_memdisk::MemoryDisk;
-use df_runs::{
-    BOOT_EVENTS, FIND_CALLS, Status, made_file, ops_of_one, printed, run_script,
-};
+use df_runs::{BOOT_EVENTS, FIND_CALLS, Status, made_file, ops_of_one, printed, run_script};
 use std::alloc::Global;
 use std::process::Abort;
 use std::test::Fail;

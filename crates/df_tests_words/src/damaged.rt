@@ -84,7 +84,8 @@ fn a_step_whose_copies_are_lost_ends_the_run(rt: HostRuntime) -> Result<(), Fail
     Ok(())
 }
 
-const NEW: &str = "cluster 7\nlayout 32 8192 4 16384 64\nsequence 1\ncheckpoint 0\nhead 0\nreplies 0\nsessions 0\nreferences 0\n";
+const NEW: &str =
+    "cluster 7\nlayout 32 8192 4 16384 64\nsequence 1\ncheckpoint 0\nhead 0\nreplies 0\nsessions 0\nreferences 0\n";
 
 // The open itself loses two copies of its boot update: its line is the only one, and the script isn't read.
 #[test]
