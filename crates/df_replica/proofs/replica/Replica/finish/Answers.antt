@@ -23,7 +23,10 @@ invariant_of-self c =
     subst (λ (q : Option RunningCheckpoint). OfRunning (running_of q) (λ x. c.args.content ≡ next_fields s x)) at (subst (λ (x : State). OfRunning x.running (λ q. c.args.content ≡ next_fields x q)) (sym c.self.view_is) c.requires.content) in
     let sense = finished_sense s r old.state runs level (subst IsUsable content c.fields-fields.ensures.usable) in
     record {
-      state = subst (λ (x : GridState). IsState (record s { fields = c.args.content; root = r.root; blocks = x.blocks; boot = x.boot; running = None })) (sym c.finish.ensures) (subst (λ (f : SuperFields). IsState (record (finished s r) { fields = f })) (sym content) sense);
+      state =
+          subst (λ (o : Option RunningCheckpoint). IsState (record s { fields = c.args.content; root = r.root; blocks = c.finish.new.self.blocks; boot = c.finish.new.self.boot; running = running_of o })) (sym c.take.ensures.after)
+          (subst (λ (x : GridState). IsState (record s { fields = c.args.content; root = r.root; blocks = x.blocks; boot = x.boot; running = None })) (sym c.finish.ensures)
+          (subst (λ (f : SuperFields). IsState (record (finished s r) { fields = f })) (sym content) sense));
       rooms_fit = old.rooms_fit;
       grid_fits = ap (λ (x : GridState). x.layout) c.finish.ensures ∙ old.grid_fits;
       grid_named = ap (λ (x : GridState). x.cluster) c.finish.ensures ∙ old.grid_named;
