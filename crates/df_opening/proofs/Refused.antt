@@ -15,6 +15,7 @@ use Rattle.df_model.specs.declared.errors.MendError.{MendError}
 use Rattle.df_model.specs.declared.errors.MendError.TheVariants.{Damaged, DiskFault}
 use Rattle.df_model.specs.declared.errors.OpenError.TheVariants as opens
 use Rattle.df_superblock.specs.Calls.{IsUndamaged}
+use Rattle.df_superblock.specs.declared.updates.UpdateError.{UpdateError}
 use Rattle.df_superblock.specs.declared.updates.UpdateError.TheVariants as updates
 use Rattle.df_damage.proofs.Laws.{added_is_told}
 use Rattle.df_opening.specs.Mending.{AddsRaising, IsReadBack, IsUnharmed}
@@ -41,10 +42,10 @@ pub unharmed_fault : (T : Type 0) (told : Option Told) → IsUnharmed {T = T} to
 unharmed_fault T None = tt
 unharmed_fault T (Some t) = tt
 
--- the update's own word on it
-pub unharmed_of : (S T : Type 0) (told : Option Told) (place : Place) (kind : Class) → IsUndamaged {T = S} told (Err (updates.Damaged place kind)) → IsUnharmed {T = T} told (Err (Damaged place kind))
-unharmed_of S T None place kind is = tt
-unharmed_of S T (Some t) place kind is = is
+-- the update's own word on it, whatever place and class are told of
+pub unharmed_of : (S T : Type 0) (told : Option Told) (error : UpdateError) (place other : Place) (kind what : Class) → error ≡ updates.Damaged place kind → IsUndamaged {T = S} told (Err error) → IsUnharmed {T = T} told (Err (Damaged other what))
+unharmed_of S T None error place other kind what same is = tt
+unharmed_of S T (Some t) error place other kind what same is = subst (λ (e : UpdateError). IsUndamaged {T = S} (Some t) (Err e)) same is
 
 -- what an error says is no matter of what would have been handed out
 pub unharmed_error : (S T : Type 0) (told : Option Told) (error : MendError) → IsUnharmed {T = S} told (Err error) → IsUnharmed {T = T} told (Err error)

@@ -8,10 +8,10 @@ use Rattle.df_opening.proofs.RaisedState.{raised_sense}
 use Rattle.df_opening.proofs.Refused.{unharmed_fault, unharmed_of, unharmed_ok}
 use Rattle.df_opening.proofs.mended.raise_parts.Goals as goal
 
-pub set_boot-requires-clause-boot : goal.set_boot-requires-clause-boot
-set_boot-requires-clause-boot g c =
+pub set_boot-requires : goal.set_boot-requires
+set_boot-requires g c =
     let next : c.fields.result.now.boot ≡ c.args.parts.now.content.boot + 1 = ap (λ (f : SuperFields). f.boot) (c.fields.ensures.value ∙ c.requires.content) in
-    (omega (arith, next), omega (arith, next, c.requires.unspent))
+    record { boot = (omega (arith, next), omega (arith, next, c.requires.unspent)) }
 
 pub returns-clause-state : goal.returns-clause-state
 returns-clause-state g c =
@@ -37,7 +37,8 @@ pub returns-clause-unharmed : goal.returns-clause-unharmed
 returns-clause-unharmed g c = unharmed_ok {T = Unit {0}} (g.D.Disk.told c.update.new.disk) tt
 
 pub returns-in-Err-Damaged-clause-unharmed : goal.returns-in-Err-Damaged-clause-unharmed
-returns-in-Err-Damaged-clause-unharmed g c = unharmed_of _ _ (g.D.Disk.told c.update.new.disk) c.in-Err-Damaged.place c.in-Err-Damaged.class c.in-Err-Damaged.ensures.undamaged
+returns-in-Err-Damaged-clause-unharmed g c =
+    unharmed_of (Unit {0}) _ (g.D.Disk.told c.update.new.disk) c.in-Err-Damaged.field-0 c.in-Err-Damaged.place _ c.in-Err-Damaged.class _ c.in-Err-Damaged.field-0-is c.in-Err-Damaged.ensures.undamaged
 
 pub returns-in-Err-DiskFault-clause-unharmed : goal.returns-in-Err-DiskFault-clause-unharmed
 returns-in-Err-DiskFault-clause-unharmed g c = unharmed_fault _ (g.D.Disk.told c.update.new.disk)
