@@ -75,7 +75,7 @@ returns-in-Ok-raise_parts-clause-events g c =
 pub returns-in-Err-raise_parts-clause-events : goal.returns-in-Err-raise_parts-clause-events
 returns-in-Err-raise_parts-clause-events g c =
     let s : Survey = survey_in c.args.surveyed in
-    adds_error (Unit {0}) _ (opening_events s) (g.D.Disk.told c.args.disk.now) (g.D.Disk.told c.raise_parts.new.disk) c.in-Err-raise_parts.error
+    adds_error (Unit {0}) (Unit {0}) (opening_events s) (g.D.Disk.told c.args.disk.now) (g.D.Disk.told c.raise_parts.new.disk) c.in-Err-raise_parts.error
     (raising_then {T = Unit {0}} (mending_events s.state.file.layout s.state.headers s.mends s.state.fields s.chosen.members) (update_events (boot_fields s.state)) (g.D.Disk.told c.args.disk.now) (g.D.Disk.told c.mend_parts.new.disk) (g.D.Disk.told c.raise_parts.new.disk) (Err c.in-Err-raise_parts.error)
     c.in-Ok.ensures.events (subst (λ (f : SuperFields). AddsRaising {T = Unit {0}} (update_events f) (g.D.Disk.told c.mend_parts.new.disk) (g.D.Disk.told c.raise_parts.new.disk) (Err c.in-Err-raise_parts.error)) c.next_superblock-content.ensures c.in-Err-raise_parts.ensures.events))
 
@@ -95,7 +95,7 @@ returns-in-Ok-raise_parts-clause-read_back g c = subst (λ (f : SuperFields). Is
 
 pub returns-in-Err-raise_parts-clause-read_back : goal.returns-in-Err-raise_parts-clause-read_back
 returns-in-Err-raise_parts-clause-read_back g c =
-    read_error (Unit {0}) _ (boot_fields (survey_in c.args.surveyed).state) (g.D.Disk.told c.raise_parts.new.disk) c.in-Err-raise_parts.error
+    read_error (Unit {0}) (Unit {0}) (boot_fields (survey_in c.args.surveyed).state) (g.D.Disk.told c.raise_parts.new.disk) c.in-Err-raise_parts.error
     (subst (λ (f : SuperFields). IsReadBack {T = Unit {0}} f (g.D.Disk.told c.raise_parts.new.disk) (Err c.in-Err-raise_parts.error)) c.next_superblock-content.ensures c.in-Err-raise_parts.ensures.read_back)
 
 pub returns-in-Err-clause-unharmed : goal.returns-in-Err-clause-unharmed
