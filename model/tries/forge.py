@@ -25,7 +25,7 @@ def next_prepare(random: Random, m: Machine) -> tuple:
 
 def boot_of(m: Machine) -> int:
     """The boot in which a unit of the file was made last; a new file has none."""
-    return max(1, m.boot)
+    return max(1, m.found_boot)
 
 
 def next_reply(random: Random, m: Machine) -> tuple:
@@ -79,7 +79,7 @@ def changes(random: Random, m: Machine, f: dict, data: bytes) -> tuple:
         ("slot", 0), ("slot", 1), ("slot", 2**32 - 1),
         ("kind", 0), ("kind", 1), ("kind", 2), ("kind", 3), ("kind", 4), ("kind", 5), ("kind", 6), ("kind", 255),
         ("block_kind", 1), ("block_kind", 255), ("version", 0), ("version", 1), ("version", 2), ("version", 257), ("boot", 0),
-        ("boot", 1), ("boot", m.boot + 1), ("boot", max(0, m.boot - 1)), ("boot", TOP), ("boot", TOP + 1), ("boot", 2**63), ("group", 0), ("group", 1), ("group", op),
+        ("boot", 1), ("boot", m.found_boot + 1), ("boot", max(0, m.found_boot - 1)), ("boot", TOP), ("boot", TOP + 1), ("boot", 2**63), ("group", 0), ("group", 1), ("group", op),
         ("group", op + 1), ("group", max(0, op - 7)), ("group", max(0, op - 8)), ("group_last", 0), ("group_last", max(0, op - 1)),
         ("group_last", op), ("group_last", op + 7), ("group_last", op + 8), ("zero", bytes(107) + b"\1"),
         ("zero", b"\1" + bytes(107)), ("parent", bytes(16)),
@@ -101,7 +101,7 @@ def misfits(random: Random, m: Machine, f: dict) -> tuple:
 
 def sealed(random: Random, m: Machine, f: dict, data: bytes) -> bytes:
     """A unit of these fields, up to two of them changed; now and then of another boot, or of version 1."""
-    f = units.in_boot(f, random.choice((1, m.boot + 1, max(1, m.boot - 1), TOP))) if random.random() < 0.1 else dict(f)
+    f = units.in_boot(f, random.choice((1, m.found_boot + 1, max(1, m.found_boot - 1), TOP))) if random.random() < 0.1 else dict(f)
     f = dict(f, version=1, boot=0, group=0, group_last=0) if random.random() < 0.05 else f
     for _ in range(random.choice((0, 0, 1, 1, 1, 1, 2))):
         fits = f["kind"] == PREPARE and random.random() < 0.5

@@ -82,19 +82,19 @@ def spelled(random: Random, data: bytes) -> bytes:
 
 
 def machine_of(data: Optional[bytes]) -> Machine:
-    """The machine of a file that opens; that of a new file where it doesn't."""
-    found = recovery.found(data)
-    if found.refusal:
+    """The machine of a file that opens, behind its open; that of a new file where it doesn't."""
+    if recovery.found(data).refusal:
         data = script.fresh(Home(form.SMALL, 7))
-        found = recovery.found(data)
-    return Machine(found, Image(data))
+    return opened_file(data)[0]
 
 
 def opened_file(data: bytes) -> tuple:
     """The machine of a file behind its open, and the file then."""
     found = recovery.found(data)
     machine = Machine(found, Image(data))
-    return machine, script.state(data, opens(found, machine))
+    events = opens(found, machine)
+    machine.reads.clear()
+    return machine, script.state(data, events)
 
 
 def any_number(random: Random, high: int) -> int:

@@ -19,8 +19,8 @@ class Machine(Grid):
         self.tail, self.replies = list(view.tail), view.replies
         self.sessions, self.stored = list(view.sessions), dict(view.stored)
         self.table, self.waiting = list(opened.table), dict(opened.waiting)
-        # That of the superblock, in which units are made; an open raises it.
-        self.boot = opened.content.boot
+        # That of the superblock as it was found; an open raises it, and in the next one units are made.
+        self.boot = self.found_boot = opened.content.boot
         self.image = image
         # The offsets that were read, in order.
         self.reads: list = []
