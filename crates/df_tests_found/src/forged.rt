@@ -13,11 +13,14 @@ pub(crate) const NONE: Check = [0; 16];
 /// A prepare or a reply without a body, by its numbers; its slot is that of its op, or its session's place.
 #[derive(Clone, Copy)]
 pub(crate) struct Unit {
+    /// A reply, or else a prepare.
     pub(crate) is_reply: bool,
     pub(crate) op: u64,
+    /// The checksum of the prepare before it, zeros in a reply.
     pub(crate) parent: Check,
     pub(crate) client: u64,
     pub(crate) request: u64,
+    /// In a prepare how many replies were stored, in a reply the head then.
     pub(crate) mark: u64,
     pub(crate) boot: u64,
     /// The first and the last op of its group, zeros in a reply.

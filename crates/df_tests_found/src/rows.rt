@@ -62,6 +62,16 @@ fn made_file() -> File {
     }
 }
 
+// A superblock of a new file, which names nothing.
+const NAMELESS: Named = Named {
+    op: 0,
+    boot: 0,
+    head: 0,
+    replies: 0,
+    head_checksum: NONE,
+    second: NONE,
+};
+
 // What is found where this is put over the file.
 fn found_with(alloc: Global, file: &File, puts: &[Put]) -> Result<Answer, Fail> {
     let mut all = Vec::new(alloc);
@@ -171,8 +181,7 @@ fn a_head_at_the_checkpoint_has_its_checksum(rt: HostRuntime) -> Result<(), Fail
         boot: 3,
         head: 4,
         replies: 4,
-        head_checksum: NONE,
-        second: NONE,
+        ..NAMELESS
     };
     let mut disk = forge(rt.alloc(), &named, &[])?;
     assert_eq!(rt;
@@ -322,15 +331,7 @@ fn the_greatest_boot_is_refused_last(rt: HostRuntime) -> Result<(), Fail> {
 // A sync, four copies, two header sectors, 32 slots of the ring of prepares and four reply slots.
 #[test]
 fn a_survey_of_either_version_is_forty_three_calls(rt: HostRuntime) -> Result<(), Fail> {
-    let blank = Named {
-        op: 0,
-        boot: 0,
-        head: 0,
-        replies: 0,
-        head_checksum: NONE,
-        second: NONE,
-    };
-    let mut disk = forge(rt.alloc(), &blank, &[])?;
+    let mut disk = forge(rt.alloc(), &NAMELESS, &[])?;
     let calls = disk.calls();
     assert_eq!(rt; surveyed(rt.alloc(), &mut disk, 2)?, Ok((0, 0, 0)));
     assert_eq!(rt; disk.calls().checked_sub(calls), Some(43));

@@ -81,27 +81,14 @@ pub(crate) fn grouped_header(op: u64, boot: u8, is_paired: bool, parent: Check) 
     ensures own { (layout : AnyLayout) → layout.slots ≡ 32 → IsSome (own_place layout Zone.WalPrepares result) }
 {
     let (group, group_last) = group_of(op, is_paired);
-    let first = Header {
-        checksum_body: check(&[]),
-        parent,
-        client: 5,
-        op,
-        request: op - 4,
-        mark: op - 1,
-        checkpoint: 1,
-        size: 256,
-        slot: (op % 32) as u32,
-        ..Header::of(Kind::Prepare, 7)
-    };
+    let alone = prepare_header(op, op - 4, u64::from(boot), parent);
     if boot == 0 {
-        first
+        alone
     } else {
         Header {
-            version: 2,
-            boot: u64::from(boot),
             group,
             group_last,
-            ..first
+            ..alone
         }
     }
 }

@@ -148,6 +148,40 @@ const EMPTY: Decision = Decision::Empty { mend: false };
 
 const LOST: Decision = Decision::Lost;
 
+// Prepares of boot 3 (own), of boot 2 (earlier), of boot 3 in a group of two (paired), or of version 1 (unbooted): with the header, without it
+// (untold), of which the header alone is left (told), or nothing (gone).
+const EARLIER: Written = (2, false, ALL);
+
+const OWN: Written = (3, false, ALL);
+
+const GONE: Written = (3, false, Left::Nothing);
+
+const EARLIER_UNTOLD: Written = (2, false, Left::Prepare);
+
+const UNTOLD: Written = (3, false, Left::Prepare);
+
+const EARLIER_TOLD: Written = (2, false, Left::Header);
+
+const EARLIER_GONE: Written = (2, false, Left::Nothing);
+
+const TOLD: Written = (3, false, Left::Header);
+
+const PAIRED_UNTOLD: Written = (3, true, Left::Prepare);
+
+const PAIRED_GONE: Written = (3, true, Left::Nothing);
+
+const PAIRED_TOLD: Written = (3, true, Left::Header);
+
+const PAIRED: Written = (3, true, ALL);
+
+const UNBOOTED: Written = (0, false, ALL);
+
+const UNBOOTED_UNTOLD: Written = (0, false, Left::Prepare);
+
+const UNBOOTED_GONE: Written = (0, false, Left::Nothing);
+
+const UNBOOTED_TOLD: Written = (0, false, Left::Header);
+
 // Four prepares, of ops 5 to 8, with what is left of each; the checksum that the checkpoint's prepare is said to have; and what is
 // found. Where nothing is left of a prepare, its header was never written.
 type Row = (&'static str, [Written; 4], Check, Answer);
@@ -156,122 +190,67 @@ type Row = (&'static str, [Written; 4], Check, Answer);
 const ROWS: [Row; 11] = [
     (
         "both named ones and one above",
-        [
-            (2, false, ALL),
-            (3, false, ALL),
-            (3, false, ALL),
-            (3, false, Left::Nothing),
-        ],
+        [EARLIER, OWN, OWN, GONE],
         BASE,
         (None, (7, 7), false, [TAKE, TAKE, TAKE, EMPTY]),
     ),
     (
         "the same without headers",
-        [
-            (2, false, Left::Prepare),
-            (3, false, Left::Prepare),
-            (3, false, Left::Prepare),
-            (3, false, Left::Nothing),
-        ],
+        [EARLIER_UNTOLD, UNTOLD, UNTOLD, GONE],
         BASE,
         (None, (7, 7), false, [MEND, MEND, MEND, EMPTY]),
     ),
     (
         "the first named one is lost",
-        [
-            (2, false, Left::Header),
-            (3, false, ALL),
-            (3, false, ALL),
-            (3, false, Left::Nothing),
-        ],
+        [EARLIER_TOLD, OWN, OWN, GONE],
         BASE,
         (Some(5), (4, 4), true, [LOST, TAKE, TAKE, EMPTY]),
     ),
     (
         "both named ones are lost",
-        [
-            (2, false, Left::Nothing),
-            (3, false, Left::Nothing),
-            (3, false, ALL),
-            (3, false, Left::Nothing),
-        ],
+        [EARLIER_GONE, GONE, OWN, GONE],
         BASE,
         (Some(6), (4, 4), true, [LOST, LOST, TAKE, EMPTY]),
     ),
     (
         "the first named one doesn't fit",
-        [
-            (2, false, ALL),
-            (3, false, ALL),
-            (3, false, Left::Nothing),
-            (3, false, Left::Nothing),
-        ],
+        [EARLIER, OWN, GONE, GONE],
         [9; 16],
         (None, (4, 4), true, [TAKE, TAKE, EMPTY, EMPTY]),
     ),
     (
         "above them one of an earlier boot",
-        [
-            (2, false, ALL),
-            (3, false, ALL),
-            (2, false, ALL),
-            (3, false, Left::Nothing),
-        ],
+        [EARLIER, OWN, EARLIER, GONE],
         BASE,
         (None, (6, 6), false, [TAKE, TAKE, EMPTY, EMPTY]),
     ),
     (
         "above them a header alone",
-        [
-            (2, false, ALL),
-            (3, false, ALL),
-            (3, false, Left::Header),
-            (3, false, Left::Nothing),
-        ],
+        [EARLIER, OWN, TOLD, GONE],
         BASE,
         (None, (6, 6), true, [TAKE, TAKE, LOST, EMPTY]),
     ),
     (
         "a whole group without headers",
-        [
-            (2, false, ALL),
-            (3, false, ALL),
-            (3, true, Left::Prepare),
-            (3, true, Left::Prepare),
-        ],
+        [EARLIER, OWN, PAIRED_UNTOLD, PAIRED_UNTOLD],
         BASE,
         (None, (8, 8), false, [TAKE, TAKE, MEND, MEND]),
     ),
     (
         "the first of a group alone survives",
-        [
-            (2, false, ALL),
-            (3, false, ALL),
-            (3, true, Left::Prepare),
-            (3, true, Left::Nothing),
-        ],
+        [EARLIER, OWN, PAIRED_UNTOLD, PAIRED_GONE],
         BASE,
         (None, (6, 7), false, [TAKE, TAKE, EMPTY, EMPTY]),
     ),
     (
         "the last of a group alone survives",
-        [
-            (2, false, ALL),
-            (3, false, ALL),
-            (3, true, Left::Nothing),
-            (3, true, Left::Prepare),
-        ],
+        [EARLIER, OWN, PAIRED_GONE, PAIRED_UNTOLD],
         BASE,
         (None, (6, 6), false, [TAKE, TAKE, EMPTY, EMPTY]),
     ),
     (
         "a group was cut off and a header of it is shown",
-        [
-            (2, false, ALL),
-            (3, false, ALL),
-            (3, true, Left::Prepare),
-            (3, true, Left::Header),
-        ],
+        [EARLIER, OWN, PAIRED_UNTOLD, PAIRED_TOLD],
         BASE,
         (None, (6, 7), true, [TAKE, TAKE, EMPTY, LOST]),
     ),
@@ -280,12 +259,7 @@ const ROWS: [Row; 11] = [
 // With head 5 and boot 3.
 const WITHIN: Row = (
     "the named head is the first of a group",
-    [
-        (3, true, ALL),
-        (3, true, ALL),
-        (3, false, Left::Nothing),
-        (3, false, Left::Nothing),
-    ],
+    [PAIRED, PAIRED, GONE, GONE],
     BASE,
     (None, (4, 4), true, [TAKE, TAKE, EMPTY, EMPTY]),
 );
@@ -294,23 +268,13 @@ const WITHIN: Row = (
 const FIRST: [Row; 2] = [
     (
         "all of version 1",
-        [
-            (0, false, ALL),
-            (0, false, ALL),
-            (0, false, Left::Prepare),
-            (0, false, Left::Nothing),
-        ],
+        [UNBOOTED, UNBOOTED, UNBOOTED_UNTOLD, UNBOOTED_GONE],
         BASE,
         (None, (7, 7), false, [TAKE, TAKE, MEND, EMPTY]),
     ),
     (
         "the second is lost",
-        [
-            (0, false, ALL),
-            (0, false, Left::Header),
-            (0, false, ALL),
-            (0, false, Left::Nothing),
-        ],
+        [UNBOOTED, UNBOOTED_TOLD, UNBOOTED, UNBOOTED_GONE],
         BASE,
         (None, (5, 5), true, [TAKE, LOST, TAKE, EMPTY]),
     ),
