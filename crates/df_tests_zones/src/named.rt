@@ -3,7 +3,7 @@
 ghost use Rattle.std.specs.Prelude.{◌≡◌, ◌≤◌};
 ghost use Rattle.df_headers.specs.Ring.{IsTable};
 
-use crate::files::{blank, grouped_header, scanned_from};
+use crate::files::{blank, prepare_header, scanned_from};
 use crate::rings::reserved_table;
 use crate::tails::write_ring;
 use df_base::Check;
@@ -88,7 +88,8 @@ fn write(
 {
     let (boot, is_paired, left) = *written;
     let room: Raw<Prepare> = Raw::reserve(alloc, layout).expect(rt, "memory of a room");
-    let unit = room.make(grouped_header(op, boot, is_paired, parent), &[]);
+    let header = prepare_header(op, op - 4, u64::from(boot), is_paired, parent);
+    let unit = room.make(header, &[]);
     let is_told = left == Left::All || left == Left::Header;
     write_unit(disk, layout, &unit, tables, rt, alloc, is_told);
     let is_shown = left == Left::All || left == Left::Prepare;
@@ -96,6 +97,32 @@ fn write(
         assert!(rt; disk.strike(6 + 2 * op, Strike::Fill { byte: 0xa5 }).is_ok());
     }
     unit.header().checksum
+}
+
+// Writes the prepares of ops 5 to 8 behind the checkpoint's, and hands back the checksum of the head, which is op 4, 5 or 6.
+fn write_all(
+    disk: &mut MemoryDisk,
+    layout: &Layout,
+    tables: &mut Tables,
+    rt: &impl Abort,
+    alloc: Global,
+    written: &[Written; 4],
+    head: u64,
+) -> Check
+    requires slots { layout.now.slots ≡ 32 }
+    requires size { layout.now.message_size ≡ 8192 }
+    requires shown { IsTable layout.now 7 tables.old.shown }
+    requires unshown { IsTable layout.now 7 tables.old.unshown }
+{
+    let five = write(disk, layout, tables, rt, alloc, 5, &written[0], BASE);
+    let six = write(disk, layout, tables, rt, alloc, 6, &written[1], five);
+    let seven = write(disk, layout, tables, rt, alloc, 7, &written[2], six);
+    write(disk, layout, tables, rt, alloc, 8, &written[3], seven);
+    match head {
+        5 => five,
+        6 => six,
+        _ => BASE,
+    }
 }
 
 // What is found: the op that lacks; the ops of the tail and of what is reached; whether something is lost; and the decisions on the
@@ -280,10 +307,8 @@ const FIRST: [Row; 2] = [
     ),
 ];
 
-// Asserts what is found of a row from there, where the superblock names its head of op 4, 5 or 6.
-fn assert_row(rt: &impl Abort, alloc: Global, row: &Row, start: &Start)
-    requires op { start.now.op ≡ 4 }
-{
+// Asserts what is found of a row where the superblock has this head and this boot.
+fn assert_row(rt: &impl Abort, alloc: Global, row: &Row, head: u64, boot: u64) {
     let layout = Layout::small();
     let (name, written, base, answer) = row;
     let mut disk = blank(alloc);
@@ -292,52 +317,14 @@ fn assert_row(rt: &impl Abort, alloc: Global, row: &Row, start: &Start)
         unshown: reserved_table(alloc, &layout).expect(rt, "memory of a table"),
     };
     write_ring(rt, alloc, &mut disk, &layout, &tables.shown);
-    let five = write(
-        &mut disk,
-        &layout,
-        &mut tables,
-        rt,
-        alloc,
-        5,
-        &written[0],
-        BASE,
-    );
-    let six = write(
-        &mut disk,
-        &layout,
-        &mut tables,
-        rt,
-        alloc,
-        6,
-        &written[1],
-        five,
-    );
-    let seven = write(
-        &mut disk,
-        &layout,
-        &mut tables,
-        rt,
-        alloc,
-        7,
-        &written[2],
-        six,
-    );
-    write(
-        &mut disk,
-        &layout,
-        &mut tables,
-        rt,
-        alloc,
-        8,
-        &written[3],
-        seven,
-    );
-    let head = match start.head {
-        5 => five,
-        6 => six,
-        _ => BASE,
+    let named = write_all(&mut disk, &layout, &mut tables, rt, alloc, written, head);
+    let start = Start {
+        cluster: 7,
+        op: 4,
+        head,
+        boot,
     };
-    let (lacking, reach, lost, decided) = found(rt, alloc, &mut disk, &layout, start, base, &head);
+    let (lacking, reach, lost, decided) = found(rt, alloc, &mut disk, &layout, &start, base, &named);
     let (wanted_lacking, wanted_reach, wanted_lost, wanted_decided) = answer;
     assert!(rt; lacking == *wanted_lacking, "{name}");
     assert!(rt;
@@ -349,28 +336,15 @@ fn assert_row(rt: &impl Abort, alloc: Global, row: &Row, start: &Start)
 
 #[test]
 fn named_prepares_and_groups_are_found(rt: HostRuntime) {
-    let start = Start {
-        cluster: 7,
-        op: 4,
-        head: 6,
-        boot: 3,
-    };
     for row in &ROWS {
-        assert_row(&rt, rt.alloc(), row, &start);
+        assert_row(&rt, rt.alloc(), row, 6, 3);
     }
-    let within = Start { head: 5, ..start };
-    assert_row(&rt, rt.alloc(), &WITHIN, &within);
+    assert_row(&rt, rt.alloc(), &WITHIN, 5, 3);
 }
 
 #[test]
 fn a_file_of_version_1_names_none(rt: HostRuntime) {
-    let start = Start {
-        cluster: 7,
-        op: 4,
-        head: 4,
-        boot: 0,
-    };
     for row in &FIRST {
-        assert_row(&rt, rt.alloc(), row, &start);
+        assert_row(&rt, rt.alloc(), row, 4, 0);
     }
 }
