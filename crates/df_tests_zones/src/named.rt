@@ -324,7 +324,9 @@ fn assert_row(rt: &impl Abort, alloc: Global, row: &Row, head: u64, boot: u64) {
         head,
         boot,
     };
-    let (lacking, reach, lost, decided) = found(rt, alloc, &mut disk, &layout, &start, base, &named);
+    let (lacking, reach, lost, decided) = found(
+        rt, alloc, &mut disk, &layout, &start, base, &named,
+    );
     let (wanted_lacking, wanted_reach, wanted_lost, wanted_decided) = answer;
     assert!(rt; lacking == *wanted_lacking, "{name}");
     assert!(rt;
