@@ -61,7 +61,7 @@ from_start pace told old s layout last status fresh none idle ended =
 -- ---- a file that was opened
 
 -- what was found is of the rooms' layout
-opened_there : (layout : Layout) (t : Told) (s : Replica) (mended : Option Told) → IsImage t.shown → s.file.layout ≡ layout → (over : MendsAll t s mended) → IsOpened layout t.shown over.found
+pub opened_there : (layout : Layout) (t : Told) (s : Replica) (mended : Option Told) → IsImage t.shown → s.file.layout ≡ layout → (over : MendsAll t s mended) → IsOpened layout t.shown over.found
 opened_there layout t s mended whole of over =
     subst (λ (l : Layout). IsOpened l t.shown over.found) (sym (ap (λ (r : Replica). r.file.layout) over.raised) ∙ of) (over.opened whole)
 
