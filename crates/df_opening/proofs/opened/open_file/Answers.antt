@@ -100,7 +100,7 @@ returns-in-Err-mend_file-clause-stopped g c = λ t is whole fault.
     let synced : g.D.Disk.told c.survey_file.new.disk ≡ Some (did Sync t) = c.in-Ok.ensures.barrier ∙ ap (after Sync) is in
     let answer : TellsSurvey c.args.rooms.layout (Some t) (Ok s.state) = subst (λ (o : Option Told). TellsSurvey c.args.rooms.layout o (Ok s.state)) is c.in-Ok.ensures.answer in
     let plan = c.in-Ok.ensures.planned (did Sync t) synced in
-    let adds = fault_adds _ es (g.D.Disk.told c.survey_file.new.disk) (g.D.Disk.told c.mend_file.new.disk) c.in-Err-mend_file.error (sym c.refusal_of.ensures ∙ fault) c.in-Err-mend_file.ensures.events in
+    let adds = fault_adds (Unit {0}) es (g.D.Disk.told c.survey_file.new.disk) (g.D.Disk.told c.mend_file.new.disk) c.in-Err-mend_file.error (sym c.refusal_of.ensures ∙ fault) c.in-Err-mend_file.ensures.events in
     let part = mend_stops es (g.D.Disk.told c.survey_file.new.disk) (g.D.Disk.told c.mend_file.new.disk) (did Sync t) synced adds in
     let done = part.steps (format s.state.file) (opening_steps s) c.in-Err-mend_file.ensures.steps in
     inr (inr (record {
