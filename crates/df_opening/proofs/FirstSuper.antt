@@ -1,5 +1,5 @@
 -- The superblock of a new file can be used.
-use Rattle.std.proofs.Common.{inr, ◌≡◌, ℕ, ◌<◌, ◌+◌, drop, length, length-drop, None, refl, ◌∙◌, arith}
+use Rattle.std.proofs.Common.{inr, ◌≡◌, ℕ, ◌<◌, ◌+◌, drop, length-drop, None, refl, ◌∙◌, arith}
 use Rattle.std.proofs.lemmas.List.{get_or-drop}
 use Rattle.df_format.specs.Super.{AreNone, no_checksums}
 use Rattle.df_layout.specs.declared.layout.Layout.{Layout}

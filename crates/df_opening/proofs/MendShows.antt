@@ -17,7 +17,7 @@ use Rattle.df_theory.specs.Units.{AnyUnit, BlockPlace, CopyPlace, CopyUnit, Plac
 use Rattle.df_units.specs.Bytes.{unit_at}
 use Rattle.df_units.specs.Meaning.{content_of}
 use Rattle.df_units.specs.Puts.{put_copies, put_copy}
-use Rattle.df_damage.specs.Below.{DataFile, boot_fields}
+use Rattle.df_damage.specs.Below.{boot_fields}
 use Rattle.df_opening.specs.Sparing.{SparesReads, image_after}
 use Rattle.df_opening.specs.Mending.{mending_steps, sector_put, sector_puts, sectors_of}
 use Rattle.df_opening.specs.Raising.{opening_events, opening_steps}

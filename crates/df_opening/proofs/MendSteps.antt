@@ -1,15 +1,6 @@
 -- The device calls of a mending are the theory's steps, and what they leave is the theory's.
 use Rattle.std.proofs.Common.{◌≡◌, ◌⊎◌, inl, inr, ℕ, zero, suc, ◌+◌, ◌/◌, ◌<◌, ◌≤◌, List, [], ◌∷◌, ◌++◌, length, Bool, true, false, Option, Some, None, refl, sym, ◌∙◌, ap, subst, append_assoc, arith}
-use Rattle.std.specs.Prelude.{Result, Ok, Err, OnOk}
-use Rattle.std.proofs.lemmas.Option.{slice_get_within}
-use Rattle.df_base.specs.declared.Failed.{Failed}
 use Rattle.df_base.specs.Log.{Sync}
-use Rattle.df_base.specs.Moments.{EachMoment}
-use Rattle.df_disk.specs.Told.{Told}
-use Rattle.df_disk.specs.Adds.{Adds, AddsPart, after_all}
-use Rattle.df_disk.proofs.Laws.{all_is_part}
-use Rattle.df_damage.specs.Anew.{told_after}
-use Rattle.df_damage.proofs.Laws.{added_is_told}
 use Rattle.df_layout.specs.declared.damage.Mend.{Mend}
 use Rattle.df_layout.specs.declared.layout.Layout.{Layout}
 use Rattle.df_format.specs.declared.header.Header.{Header}
@@ -17,29 +8,22 @@ use Rattle.df_format.specs.declared.superblock.SuperFields.{SuperFields}
 use Rattle.df_format.specs.SuperRules.{IsUsable}
 use Rattle.df_theory.specs.Units
 use Rattle.df_theory.specs.Units.{AnyUnit, HeaderPlace, HeaderUnit, Place, or_else}
-use Rattle.df_theory.specs.Device.{AreSteps, units_log}
+use Rattle.df_theory.specs.Device.{AreSteps}
 use Rattle.df_theory.specs.MakingLaws.{all_puts}
 use Rattle.df_theory.specs.MendLaws.{AllPutTable, PutsTable, Reaches, copy_steps, header_steps, mend_steps}
-use Rattle.df_theory.specs.Grown.{IsClear}
-use Rattle.df_theory.specs.Rests.{RestsOn}
-use Rattle.df_theory.specs.Runs.{Command, Puts, Step, Syncs, after_steps}
-use Rattle.df_theory.specs.TidyLaws.{IsTidy, KeepsStanding, LeadsTidily}
-use Rattle.df_theory.specs.Commands.{mend_command}
-use Rattle.df_theory.specs.View.{View}
-use Rattle.df_theory.specs.WholeLaws.{IsStanding}
-use Rattle.df_theory.specs.UnitLog.{Synced, UnitLog, add, now, settled, wrote}
-use Rattle.df_theory.proofs.Laws.{clear_law, now_units, steps_join_law, tidy_mend_law}
+use Rattle.df_theory.specs.Runs.{Puts, Step, Syncs, after_steps}
+use Rattle.df_theory.specs.UnitLog.{Synced, UnitLog, add, now, wrote}
+use Rattle.df_theory.proofs.Laws.{steps_join_law}
 use Rattle.df_units.specs.Format.{format_of}
-use Rattle.df_units.specs.Calls.{IsCall}
-use Rattle.df_units.proofs.Laws.{call_ends, call_good, call_whole, headers_put, is_format}
+use Rattle.df_units.proofs.Laws.{headers_put}
 use Rattle.df_headers.specs.Ring.{IsTable, in_sector, sector_writes}
 use Rattle.df_headers.proofs.Laws.{table_written}
 use Rattle.df_superblock.specs.Events.{repair_events}
 use Rattle.df_superblock.specs.Steps.{repaired}
-use Rattle.df_damage.specs.Below.{DataFile, shape}
-use Rattle.df_damage.specs.Plan.{header_or_none, headers_in, if_wanted}
-use Rattle.df_opening.specs.Mending.{IsMended, MayMendOn, header_events, mending_events, mending_steps, needs_sector, sector_puts, sectors_of, sectors_to}
-use Rattle.df_opening.specs.Keeping.{Firm, Grade, IsGoodFor, StandingFor, Whole, format}
+use Rattle.df_damage.specs.Below.{DataFile}
+use Rattle.df_damage.specs.Plan.{if_wanted}
+use Rattle.df_opening.specs.Mending.{header_events, mending_events, mending_steps, needs_sector, sector_puts, sectors_of, sectors_to}
+use Rattle.df_opening.specs.Keeping.{format}
 use Rattle.df_superblock.proofs.Laws.{repair_from}
 use Rattle.df_opening.proofs.MendEvents.{sectors_more}
 

@@ -36,7 +36,6 @@ use Rattle.df_headers.specs.Ring.{in_sector}
 use Rattle.df_headers.proofs.Laws.{sector_at, sector_has}
 use Rattle.df_superblock.specs.Steps.{repaired}
 use Rattle.df_journal.specs.declared.table.Start.{Start}
-use Rattle.df_journal.specs.Shows.{TellsRings}
 use Rattle.df_damage.specs.Below.{DataFile, shape}
 use Rattle.df_opening.specs.Mending.{IsPlanned, PlannedMayMend, RestsOnDisk, lies_in, needs_sector, sector_put, sector_puts, sectors_of, sectors_to}
 use Rattle.df_damage.specs.Plan.{AreDistinct, IsScanOf, copy_mends, header_or_none, headers_in, if_wanted, needs_header, shown_class, slot_mend, slot_mends}

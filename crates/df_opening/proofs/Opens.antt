@@ -1,5 +1,5 @@
 -- What an open leaves: which device calls it makes, what stays settled, and what an open finds in an image.
-use Rattle.std.proofs.Common.{◌≡◌, ◌-◌, ◌+◌, ℕ, List, [], ◌∷◌, ◌++◌, map, Bool, true, false, Option, Some, None, refl, sym, ◌∙◌, ap, subst, arith}
+use Rattle.std.proofs.Common.{◌≡◌, ◌+◌, ℕ, List, [], ◌∷◌, ◌++◌, map, Bool, true, false, Option, Some, None, refl, sym, ◌∙◌, ap, subst, arith}
 use Rattle.std.specs.Prelude.{Ok}
 use Rattle.df_base.specs.Image.{Image, IsImage}
 use Rattle.df_base.specs.Log
@@ -21,8 +21,7 @@ use Rattle.df_theory.specs.Found.{IsFound}
 use Rattle.df_theory.specs.MakingLaws.{all_puts}
 use Rattle.df_theory.specs.MendLaws.{copy_steps, header_steps}
 use Rattle.df_theory.specs.Runs.{Puts, Step, Syncs}
-use Rattle.df_theory.specs.UnitLog.{now}
-use Rattle.df_theory.specs.View.{View, head}
+use Rattle.df_theory.specs.View.{View}
 use Rattle.df_theory.proofs.Laws.{one_found_law}
 use Rattle.df_units.specs.Bytes.{unit_at}
 use Rattle.df_units.proofs.Laws.{all_added, chosen_choice, of_places, part_moments}

@@ -136,11 +136,14 @@ module _ (view : View) (s : Survey) (base : Told) (four : length s.chosen.member
   moments_both =
       subst (λ (l : Log.Log). EachMoment (begun base).log l (λ m. Log.IsLog m × StaysFound file view (boot_fields s.state) m)) (sym added)
       (moments (format file) (λ log. EachLeft log (λ left. IsFound sh left view ⊎ IsFound sh left (booted view d))) (λ l. Log.IsLog l × StaysFound file view (boot_fields s.state) l)
-      (λ l is left. (is, record {
-        left = λ m gone chance.
-            subst (λ (c : Content). IsFound sh (unit_at file.layout file.cluster m) view ⊎ IsFound sh (unit_at file.layout file.cluster m) (booted view c)) (sym content_is_d)
-            (left (unit_at file.layout file.cluster m) (firm_units (format file) (is_format file.layout file.cluster) l m gone.kept) chance);
-      })) (opening_events s) (raise_steps headers copies puts) (begun base).log (record { start = whole; events = tt }) (subst (AreSteps (format file) (opening_events s)) there.1 steps) each)
+      (λ l is left. (
+        is,
+        record {
+          left = λ m gone chance.
+              subst (λ (c : Content). IsFound sh (unit_at file.layout file.cluster m) view ⊎ IsFound sh (unit_at file.layout file.cluster m) (booted view c)) (sym content_is_d)
+              (left (unit_at file.layout file.cluster m) (firm_units (format file) (is_format file.layout file.cluster) l m gone.kept) chance);
+        },
+      )) (opening_events s) (raise_steps headers copies puts) (begun base).log (record { start = whole; events = tt }) (subst (AreSteps (format file) (opening_events s)) there.1 steps) each)
 
   pub anew_moments : EachMoment (begun base).log end.log (StaysFound file view (boot_fields s.state))
   anew_moments = λ l moment. (moments_both l moment).1

@@ -1,6 +1,5 @@
 -- What an open does behind its survey leads, in one log, to a file that is kept by the state behind the boot update.
-use Rattle.std.proofs.Common.{◌≡◌, inl, ℕ, ◌+◌, ◌<◌, ◌^◌, List, [], length, map, Option, Some, refl, sym, ◌∙◌, ap, subst, arith}
-use Rattle.std.proofs.lemmas.List.{length-map}
+use Rattle.std.proofs.Common.{◌≡◌, inl, ℕ, ◌+◌, ◌<◌, ◌^◌, List, length, Option, Some, refl, sym, ◌∙◌, ap, subst, arith}
 use Rattle.df_base.specs.Log as Log
 use Rattle.df_base.specs.Moments.{EachMoment, Extends, adds}
 use Rattle.df_base.proofs.Laws.{adds_extends, extends_self}
@@ -10,7 +9,6 @@ use Rattle.df_format.specs.declared.header.Header.{Header}
 use Rattle.df_headers.specs.Ring.{IsTable}
 use Rattle.df_journal.specs.Append.{ShowsRing}
 use Rattle.df_format.specs.Copies.{content_with}
-use Rattle.df_format.specs.declared.superblock.SuperFields.{SuperFields}
 use Rattle.df_theory.specs.Units
 use Rattle.df_theory.specs.Units.{Content, HeaderPlace, HeaderUnit}
 use Rattle.df_theory.specs.CopyPuts.{PutsCopies, update_steps}
@@ -26,7 +24,7 @@ use Rattle.df_theory.proofs.Laws.{after_append, now_units, steps_join_law}
 use Rattle.df_units.specs.Bytes.{unit_at}
 use Rattle.df_units.specs.Meaning.{content_of, layout_of, number_of}
 use Rattle.df_units.specs.Puts.{put_copies}
-use Rattle.df_units.proofs.Laws.{all_added, by_second, call_ends, is_format, of_places}
+use Rattle.df_units.proofs.Laws.{all_added, call_ends, is_format, of_places}
 use Rattle.df_trailer.specs.Text.{parse_of}
 use Rattle.df_superblock.specs.Events.{update_events}
 use Rattle.df_superblock.specs.Steps.{AreStepsOfCopies, repaired}
@@ -34,7 +32,7 @@ use Rattle.df_model.specs.Boots.{DoesOpenOnDisk, MayOpenFor, Raises}
 use Rattle.df_model.specs.Making.{boot_content}
 use Rattle.df_model.specs.Memory.{Memory, memory_of}
 use Rattle.df_model.specs.OnDisk.{BacksOnDisk, LeadsOnDisk}
-use Rattle.df_model.specs.Sense.{IsBacked, IsVersionTwo, IsWork}
+use Rattle.df_model.specs.Sense.{IsBacked, IsWork}
 use Rattle.df_model.specs.Work.{Work, raised}
 use Rattle.df_model.proofs.Laws.{disk_open_law, found_law as sense_found, raised_law}
 use Rattle.df_damage.specs.Anew.{told_after}

@@ -11,14 +11,13 @@ use Rattle.df_journal.specs.Shows.{TellsRings}
 use Rattle.df_journal.specs.declared.table.Start.{Start}
 use Rattle.df_journal.proofs.Laws.{rings_shown}
 use Rattle.df_damage.proofs.Laws.{head_found}
-use Rattle.df_damage.specs.Below.{State}
 use Rattle.df_damage.specs.Found.{IsFound}
 use Rattle.df_damage.specs.Surveying as recovered
 use Rattle.df_damage.specs.Surveying.{IsPlannedFor, IsReadOf, TellsSurveyAs, state_found}
 use Rattle.df_damage.specs.Types.{Surveyed}
 use Rattle.df_opening.specs.Mending.{IsPlanned}
 use Rattle.df_opening.specs.Survey.{Survey}
-use Rattle.df_opening.specs.Surveying.{TellsMends, TellsSurvey, survey_found}
+use Rattle.df_opening.specs.Surveying.{TellsMends, survey_found}
 
 -- what a survey is planned from
 abbrev pub IsPlannedOn : Survey → Told → Type 0

@@ -8,7 +8,6 @@ use Rattle.df_disk.specs.Adds.{AddsPart, after_all}
 use Rattle.df_layout.specs.declared.layout.Layout.{Layout}
 use Rattle.df_quorum.specs.declared.choice.Chosen.{Chosen}
 use Rattle.df_format.specs.Copies.{content_with}
-use Rattle.df_format.specs.declared.superblock.SuperFields.{SuperFields}
 use Rattle.df_damage.specs.Anew.{begun, told_after}
 use Rattle.df_damage.specs.Answers.{TellsHurt}
 use Rattle.df_theory.specs.Found.{IsFound}

@@ -1,5 +1,5 @@
 -- What an open does behind its survey: it mends, and raises the boot; and what it leaves at each moment of that, by each log on which the plan rests.
-use Rattle.std.specs.Prelude.{◌≡◌, List}
+use Rattle.std.specs.Prelude.{List}
 use Rattle.df_base.specs.Log.{Event}
 use Rattle.df_base.specs.Moments.{EachMoment}
 use Rattle.df_disk.specs.Told.{Told}

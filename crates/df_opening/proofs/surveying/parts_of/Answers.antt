@@ -1,5 +1,5 @@
 -- The parts make sense by themselves: what was found is in its ranges, and the table is one of the file.
-use Rattle.std.proofs.Common.{◌≡◌, ◌∙◌, ℕ, ap, refl, sym, arith, ◌<◌, ◌^◌, subst}
+use Rattle.std.proofs.Common.{◌≡◌, ◌∙◌, ℕ, refl, sym, arith, ◌<◌, ◌^◌, subst}
 use Rattle.std.specs.Prelude.{None, false, true}
 use Rattle.df_format.specs.SuperRules.{IsUsable}
 use Rattle.df_damage.specs.Below.{ScrubState}
