@@ -66,6 +66,8 @@ def scrubbed(t: Try) -> None:
     t.binary.put(data)
     before = asked(t, "scrub", data, ["scrub"])
     t.counts["blocks found failing"] += before.text.count(b"failing ")
+    # The tour's open has raised the boot.
+    data = before.data
     m, lines = generate.machine_of(data), []
     for _ in range(random.randint(5, 40)):
         line = b"scrub" if random.random() < 0.7 else generate.line_of(random, m, 0.05)
