@@ -5,8 +5,8 @@ use df_base::SECTOR;
 use df_disk::Disk;
 use df_format::decode_own_copy;
 use df_images::{
-    Call, FATES, Fate, OpenError, SURVEY_CALLS, found, open, open_in, rooms_of, serve, served_file,
-    small_file, stop_since, strike,
+    Call, FATES, Fate, OpenError, Rooms, SURVEY_CALLS, found, open, open_in, rooms_of, serve,
+    served_file, small_file, stop_since, strike,
 };
 use df_layout::{Class, Layout, Zone};
 use df_memdisk::{DroppingDisk, MemoryDisk};
@@ -143,17 +143,23 @@ const LOST: [(&[u64], Option<u64>, u64); 5] = [
     (&[1, 2, 3, 4], Some(0), 2),
 ];
 
-// What an open answers whose disk loses these writes, with the layout of the rooms that come back.
+// The refusal of an open, with the layout of the rooms that come back.
+fn refusal_in<D: Disk>(disk: &mut D, rooms: Rooms) -> Option<(Layout, OpenError)> {
+    match open_in(disk, rooms) {
+        Ok(_) => None,
+        Err((rooms, refusal)) => Some((rooms.layout(), refusal)),
+    }
+}
+
+// What an open answers whose disk loses these writes.
 fn opened_losing(
     alloc: Global,
     disk: MemoryDisk,
     lost: &[u64],
 ) -> Result<(MemoryDisk, Option<(Layout, OpenError)>), Fail> {
     let mut disk = DroppingDisk::new(disk, Vec::from_slice(alloc, lost)?);
-    let refused = match open_in(&mut disk, rooms_of(alloc, &Layout::small())?) {
-        Ok(_) => None,
-        Err((rooms, refusal)) => Some((rooms.layout(), refusal)),
-    };
+    let rooms = rooms_of(alloc, &Layout::small())?;
+    let refused = refusal_in(&mut disk, rooms);
     Ok((disk.into_disk(), refused))
 }
 
