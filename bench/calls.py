@@ -79,8 +79,8 @@ def traced(bench, ground: Ground, word: str, text: bytes) -> list:
     expect("the answers", wanted.text, result.text)
     calls = calls[next(at for at, call in enumerate(calls) if call.name == "read" and call.fd == 0) :]
     lines = lines_of(calls, wanted.text.splitlines(keepends=True))
-    # The model's first event is the sync of the open.
-    events = wanted.events[1:]
+    # The model's first events are those of the open: the barrier, and the four copies of its boot update, each with a sync.
+    events = wanted.events[1 + 2 * form.COPIES :]
     wants = [event.kind for event in events if event.kind != "answer"]
     expect("writes and syncs in their order", wants, [kind for kind in in_order(calls) if kind != "answer"])
     before = [[kind for kind in in_order(line) if kind != "answer"] + ["answer"] for line in lines]

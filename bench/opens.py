@@ -1,6 +1,7 @@
-"""What an open and a tour of the scrubber cost over full files, against reading the same bytes and hashing the units in use.
+"""What an open and a tour of the scrubber cost over full files, against reading the same bytes, hashing the units in use, and writing as much.
 
-The yardstick reads each place once, as far as the program reads it, and hashes each unit that stands there, its header and its body.
+The yardstick reads each place once, as far as the program reads it, and hashes each unit that stands there, its header and its body. It then
+writes the four copies as they are, with a sync behind each.
 """
 
 import os
@@ -15,7 +16,7 @@ from tools import peak
 from tries import form
 from tries.binary import Binary, expect, has_strace
 from tries.form import COPIES, HEADERS, SECTOR, Layout
-from yardstick import hashed, plan, read, unit
+from yardstick import SYNC, hashed, plan, read, unit, write
 
 
 class Case(NamedTuple):
@@ -94,6 +95,9 @@ def steps_of(case: Case, path: str, words: str) -> list:
         for zone, places in zones(case, words).items():
             for at, length in places:
                 steps += [read(at, length), *hashes(zone, os.pread(file.fileno(), form.HEADER, at))]
+    for copy in range(COPIES):
+        # What is written is what the room has: the copy itself.
+        steps += [read(SECTOR * copy, SECTOR), write(SECTOR * copy, SECTOR), SYNC]
     return steps
 
 

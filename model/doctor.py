@@ -146,7 +146,7 @@ def report(case, path):
     if f:
         end = zones_of(f)["Grid"].at(f["Blocks"] + 1)
         members = " ".join(map(str, members_of(copies_of(file))))
-        lines.append(f"layout {layout_text(f)}, {end} bytes; cluster {f['Cluster']}, version 1; the superblock stands in copies "
+        lines.append(f"layout {layout_text(f)}, {end} bytes; cluster {f['Cluster']}, version {f['Version']}, boot {f['Boot']}; the superblock stands in copies "
                      f"{members}")
     lines += refusal_lines(case, file.sectors()) if case.refusal else state_lines(case) + found_lines(case)
     return [*lines, *(f"next: {line}" for line in next_lines(case))], case.status()

@@ -3,7 +3,7 @@ without a trace. It reads by `reader.py`, and writes nothing."""
 
 from dataclasses import dataclass, field
 
-from reader import NUMBERS, choose, class_of_copy, content, find, is_copy
+from reader import NUMBERS, choose, class_of_copy, content, find, is_copy, is_own
 from reader_trailer import Refused, class_at, number
 from reader_units import (
     BLOCK, COPIES, HEADER, PREPARE, REPLY, RESERVED, SECTOR, TRAILER, bytes_at, header_of, shown, zones_of,
@@ -105,7 +105,13 @@ def slot_case(state, slot):
     op = f["Op"] + 1 + (slot - f["Op"] - 1) % f["Slots"]
 
     def seen(one):
-        return "nothing" if isinstance(one, str) else "now" if one["op"] == op else "old" if one["op"] < op else "far"
+        if isinstance(one, str):
+            return "nothing"
+        if one["op"] == op:
+            # Up to the head that the superblock names a prepare is known by its checksum, whatever its boot; above it one of another
+            # boot proves nothing.
+            return "now" if op <= f["Pin"] or is_own(one, f) else "old"
+        return "old" if one["op"] < op else "far"
     return op, seen(state["headers"][slot]), seen(state["prepares"][slot])
 
 
@@ -116,10 +122,19 @@ def mends_of(file, state):
     others = [place for place in range(COPIES) if place not in members]
     mends = [("Superblock", place, class_of_copy(sectors[place], place)) for place in others]
     for slot, header in enumerate(state["headers"]):
-        _, in_headers, in_prepares = slot_case(state, slot)
-        if in_headers == "nothing" or (in_headers == "old" and in_prepares == "now"):
+        if is_mended(state, slot):
             mends.append(("WalHeaders", slot, class_at(header)))
     return mends
+
+
+def is_mended(state, slot):
+    """Whether an open writes a slot's header again: that of a named prepare where another one is shown, else where nothing is shown, or
+    an old one beside a prepare of the tail."""
+    op, in_headers, in_prepares = slot_case(state, slot)
+    header, one = state["headers"][slot], state["prepares"][slot]
+    if op <= state["fields"]["Pin"]:
+        return isinstance(header, str) or header["checksum"] != one["checksum"]
+    return in_headers == "nothing" or (in_headers == "old" and in_prepares == "now" and op <= state["head"])
 
 
 def fault_of(file, f, address, checksum):

@@ -1,6 +1,6 @@
 """The doctor's words: what a place holds, why a file is refused, and what to do next."""
 
-from doctor_case import cases_by_copy, copies_of, copy_fields, looks, members_of
+from doctor_case import cases_by_copy, copies_of, copy_fields, looks, members_of, slot_case
 from reader import class_of_copy, evidence_of, is_copy, later_of
 from reader_units import BLOCK, HEADER, PREPARE, REPLY, RESERVED, SECTOR, bytes_at, fields_at, look, zones_of
 
@@ -12,8 +12,10 @@ FIELDS = {  # what is asked of a field of the superblock, or of a part of its ch
     "MessageSize": "it has to be 4096 to 1048576, and a multiple of 4096", "Blocks": "it has to be 8 to 16384",
     "BlockSize": "it has to be 4096 to 524288, and a multiple of 4096", "Cluster": "it has to be above 0",
     "Sequence": "it has to be 1 to 2^62", "Op": "it has to be at most 2^62", "OpChecksum": "it has to be zeros, as Op is 0",
-    "Head": "it has to be Op to Op + Slots, and at most 2^62", "Replies": "it has to be at most Head, and at most 8 below it",
-    "TrailerAddress": "it has to be at most Blocks, and 0 only where Op is 0", "Boot": "it has to be 0",
+    "Head": "it has to be Op to Op + Slots, and at most 2^62; or this is the checksum of its prepare, which has to be OpChecksum where Head is "
+            "Op, and zeros where Head is 0",
+    "Replies": "it has to be at most Head, and at most 8 below it; or this is the first place from Clients on that has the checksum of a reply",
+    "TrailerAddress": "it has to be at most Blocks, and 0 only where Op is 0", "Boot": "it has to be at most 2^62",
     "TrailerChecksum": "it has to be zeros, as TrailerAddress is 0",
     "TrailerSize": "it has to be 0 where TrailerAddress is 0, else from 1 to the greatest trailer",
     "Zero": "the byte at this offset of the copy has to be zero",
@@ -31,6 +33,7 @@ NEXT = {
     "Version": "use the program that made the file",
     "BadField": "use the program that made the file; if it is this one, " + COPY_AND_CHECK,
     "Damaged": "what was acknowledged isn't all there: " + COPY_AND_CHECK,
+    "BootSpent": COPY_AND_CHECK,
 }
 
 
@@ -41,13 +44,14 @@ def unit_text(h):
         PREPARE: f"op {h['op']}, client {h['client']}, request {h['request']}, mark {h['mark']}, checkpoint {h['checkpoint']}",
         REPLY: f"op {h['op']}, client {h['client']}, request {h['request']}, mark {h['mark']}, checkpoint {h['checkpoint']}",
     }.get(h["kind"], f"index {h['mark']} of checkpoint {h['checkpoint']}, for address {h['op']}")
-    return f"a {NAMES[h['kind']]}: {text}, {h['size']} bytes, cluster {h['cluster']}"
+    boot = f", boot {h['boot']}" if h["boot"] else ""
+    return f"a {NAMES[h['kind']]}: {text}{boot}, {h['size']} bytes, cluster {h['cluster']}"
 
 
 def copy_text(sector):
     """What a copy says, in words."""
     c = copy_fields(sector)
-    return (f"copy {sector[16]} of a superblock: version {c['Version']}, sequence {c['Sequence']}, cluster {c['Cluster']}, "
+    return (f"copy {sector[16]} of a superblock: version {c['Version']}, sequence {c['Sequence']}, boot {c['Boot']}, cluster {c['Cluster']}, "
             f"layout {layout_text(c)}, checkpoint {c['Op']}, head {c['Head']}, replies {c['Replies']}")
 
 
@@ -108,6 +112,15 @@ def told(state, head):
     return ", ".join(found[:FEW]) + (f" and {len(found) - FEW} places more" if len(found) > FEW else "")
 
 
+def named_lines(file, state, slot):
+    """Why a prepare is missed that the superblock names."""
+    f, op = state["fields"], slot_case(state, slot)[0]
+    lines = [f"the superblock names the prepares up to op {f['Pin']}, of boot {f['Boot']} and before, and op {op} belongs into slot {slot}"]
+    if not isinstance(state["prepares"][slot], str):
+        lines.append("another prepare stands there, or this one doesn't fit those before it")
+    return lines + place_lines(file, f, "WalPrepares", slot) + place_lines(file, f, "WalHeaders", slot)
+
+
 def lost_lines(file, state):
     """Why the prepare behind the tail is missed."""
     f, head = state["fields"], state["head"]
@@ -126,10 +139,11 @@ def damaged_lines(case, zone, index):
     """Why a place refuses the file."""
     file, state, f = case.file, case.state, case.fields
     if zone == "WalPrepares":
-        return lost_lines(file, state)
+        return lost_lines(file, state) if "head" in state else named_lines(file, state, index)
     if zone == "Superblock":
         found = later_of(state)
-        lines = [f"{len(found)} places are of a later checkpoint or boot than the superblock's, of sequence {f['Sequence']} and op {f['Op']}"]
+        lines = [f"{len(found)} places are of a later checkpoint or boot than the superblock's, of sequence {f['Sequence']}, boot {f['Boot']} "
+                 f"and op {f['Op']}"]
         return lines + [line for each in found[:FEW] for line in place_lines(file, f, *each)] + copy_lines(file)
     if zone == "ClientReplies":
         client, last = list(state["sessions"].items())[index]
@@ -165,7 +179,9 @@ def refusal_lines(case, sectors):
         why = "the first four sectors are zeros" if words[0] == "NotFormatted" else "no two of the four copies agree"
         return [why, *copy_lines(case.file), *alone_lines(case.file), *look_lines(case.file, sectors)]
     if words[0] == "Version":
-        return [f"the superblock has version {words[2]}; the program and this reader know version 1 alone", *copy_lines(case.file)]
+        return [f"the superblock has version {words[2]}; the program opens version 2 alone", *copy_lines(case.file)]
+    if words[0] == "BootSpent":
+        return ["the boot is 2^62, the greatest, and no open can raise it", *copy_lines(case.file)]
     return [f"{words[1]} {words[2]}: {FIELDS[words[1]]}", *copy_lines(case.file)]
 
 

@@ -48,7 +48,7 @@ def tested(file: File) -> tuple:
 
 def test_fields(content: superblock.Content) -> None:
     """The field tests; a refusal ends the run."""
-    if content.version != 1 and not has("Version isn't tested"):
+    if content.version != 2 and not has("Version isn't tested"):
         refuse(f"Version found {content.version}")
     for field, value, fails in superblock.tests(content):
         if fails and not has(f"a field isn't tested: {field}"):
@@ -139,11 +139,16 @@ def block_of(file: File, home: form.Home, address: int):
     return read(file.read(home.layout.at(place), home.layout.block_size), home, place)
 
 
+def content_of(machine: Machine) -> superblock.Content:
+    """The superblock that the machine writes now."""
+    return machine.durable.content(machine.home, machine.recorded())
+
+
 def read_back(file: File, machine: Machine) -> None:
-    """Looks whether three copies at least are as the last step wrote them; else the run is refused."""
+    """Looks whether three copies at least are as they were written; else the run is refused."""
     if has("copies aren't read back"):
         return
-    content, copies = machine.durable.content(machine.home), copies_of(file)
+    content, copies = content_of(machine), copies_of(file)
     bad = [place for place, copy in enumerate(copies) if copy != content]
     if len(bad) > 1 + has("two copies are enough") - has("one lost copy is damage"):
         what = copies[bad[0]]
@@ -176,17 +181,34 @@ def survey(file: File) -> tuple:
 
 
 def opened(file: File) -> Machine:
-    """Finds the state of the file, and mends it."""
+    """Finds the state of the file, mends it, and raises its boot."""
     copies, found = survey(file)
     machine = Machine(found, form.Image(b""))
     machine.file = file
     slots = [place.index for place, _ in found.to_mend if place.zone == form.WAL_HEADERS]
+    if has("the boot is raised before the mending"):
+        raise_boot(file, machine)
     if has("copies are mended before headers"):
         repair(file, copies, found.content)
     mend_headers(file, machine, slots)
     if not has("repairs come last"):
         repair(file, copies, found.content)
+    if not has("the boot is raised before the mending"):
+        raise_boot(file, machine)
     return machine
+
+
+def raise_boot(file: File, machine: Machine) -> None:
+    """The boot update, whose copies are read back."""
+    before = machine.boot
+    events = machine.raised()
+    if has("an open does no boot update"):
+        return
+    if has("the boot update is one write"):
+        events = events[:2]
+    perform(file, machine, [event for event in events if event.kind != "sync" or not has("the boot update isn't synced")])
+    if has("units are of the boot before"):
+        machine.boot = max(1, before)
 
 
 def run(file: File, pace: tuple = (0, 0, 0)) -> int:
@@ -194,7 +216,7 @@ def run(file: File, pace: tuple = (0, 0, 0)) -> int:
     machine = opened(file)
     execute(file, machine, pace)
     if has("repairs come last"):
-        repair(file, copies_of(file), machine.durable.content(machine.home))
+        repair(file, copies_of(file), content_of(machine))
     return DONE
 
 

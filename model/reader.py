@@ -3,8 +3,8 @@
 
     python3 model/reader.py FILE [VERSION]
 
-Prints why the file is refused, where this version is asked for (1 by default), or its layout, its cluster, its checkpoint, each
-prepare and each stored reply.
+Prints why the file is refused, where this version is asked for (2 by default), or its layout, its cluster, its sequence and its boot, its checkpoint,
+each prepare and each stored reply.
 """
 
 import sys
@@ -68,7 +68,7 @@ def names_of(f, copy):
     return tests, [*range(176, 192), *range(1216, SECTOR)], named
 
 
-def fields_of(copy, version=1):
+def fields_of(copy, version=2):
     """The fields of a superblock that passes the tests of version and fields."""
     f = {name: number(copy, at, size) for name, (at, size) in NUMBERS.items()}
     if f["Version"] != version:
@@ -101,7 +101,7 @@ def fields_of(copy, version=1):
     return f | named
 
 
-def superblock_of(file, checkpoints, version=1):
+def superblock_of(file, checkpoints, version=2):
     """The fields of the file's superblock, and the lowest copy that has it."""
     sectors = [bytes_at(file, SECTOR * place, SECTOR) for place in range(COPIES)]
     if not any(map(any, sectors)):
@@ -259,7 +259,7 @@ def damage_of(state, op):
     return Refused(f"Damaged WalPrepares {slot} {class_at(state['prepares'][slot])}")
 
 
-def find(file, state, checkpoints=True, bodies=True, version=1):
+def find(file, state, checkpoints=True, bodies=True, version=2):
     """Fills in what the file has, as far as it isn't refused where this version is asked for: the superblock's fields, its
     checkpoint, what each place of the rings and of the replies shows, the tail, the sessions, the head, how many replies are stored,
     and those."""
@@ -284,7 +284,7 @@ def find(file, state, checkpoints=True, bodies=True, version=1):
         raise Refused("BootSpent")
 
 
-def state_of(file, checkpoints=True, version=1):
+def state_of(file, checkpoints=True, version=2):
     """All that is read of the file, with its referenced blocks, where this version is asked for. Without checkpoints a file that
     has one is refused, as by a program that knows none."""
     state = {}
@@ -311,13 +311,14 @@ def main():
     with open(sys.argv[1], "rb") as opened:
         file = opened.read()
     try:
-        state = state_of(file, version=int((sys.argv[2:] or ["1"])[0]))
+        state = state_of(file, version=int((sys.argv[2:] or ["2"])[0]))
     except Refused as why:
         sys.exit(f"refused {why}")
     f = state["fields"]
     print("layout", *(f[name] for name in ("Slots", "MessageSize", "Clients", "BlockSize", "Blocks")))
     print("cluster", f["Cluster"])
     print("sequence", f["Sequence"])
+    print("boot", f["Boot"])
     print("root", state["root"].hex() or "-")
     for address, one in state["blocks"].items():
         print("block", address, one if isinstance(one, str) else f"kind {one['block_kind']} body {one['body'].hex() or '-'}")

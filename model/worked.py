@@ -53,25 +53,31 @@ def units(version, boot):
     }
 
 
+def stored():
+    """The reply to op 1 that boot 1 stored, with the body aa."""
+    prepare = units(2, 1)["prepare"]
+    own = [(64, 16, 5), (80, 8, 1), (88, 8, 1), (96, 8, 1), (104, 8, 1)]
+    return header(3, (48, prepare[:16]), *own, body=b"\xaa", version=2, boot=1)
+
+
 def acknowledged():
-    """What a file has behind two appends and the reply to the first, in version 1."""
-    first = units(1, 0)["prepare"]
-    own = [(64, 16, 5), (80, 8, 2), (88, 8, 2), (96, 8, 1), (104, 8, 1), (116, 4, 2)]
+    """What a file has behind its first open, two appends and the reply to the first."""
+    first = units(2, 1)["prepare"]
+    own = [(64, 16, 5), (80, 8, 2), (88, 8, 2), (96, 8, 1), (104, 8, 1), (116, 4, 2), (132, 8, 2), (140, 8, 2)]
     return {
-        "reserved header of slot 0": header(1),
-        "prepare of op 2 with body 0102": header(2, (48, first[:16]), *own, body=b"\x01\x02"),
-        "reply to op 1 with body aa": header(3, (48, first[:16]), (64, 16, 5), (80, 8, 1), (88, 8, 1), (96, 8, 1), (104, 8, 1), body=b"\xaa"),
+        "superblock of boot 1": first_copy(0, (152, 8, 1), version=2),
+        "reserved header of slot 0": header(1, version=2),
+        "prepare of op 2 with body 0102": header(2, (48, first[:16]), *own, body=b"\x01\x02", version=2, boot=1),
+        "reply to op 1 with body aa": stored(),
     }
 
 
 def booted():
-    """What boot 1 appended and stored in version 2, and the superblock of the boot behind it."""
-    prepare = units(2, 1)["prepare"]
-    reply = header(3, (48, prepare[:16]), (64, 16, 5), (80, 8, 1), (88, 8, 1), (96, 8, 1), (104, 8, 1), body=b"\xaa", version=2, boot=1)
+    """The superblock of the boot behind boot 1, in which op 1 was appended and answered; and a prepare of a group of two."""
+    prepare, reply = units(2, 1)["prepare"], stored()
     named = [(88, 8, 1), (96, 8, 1), (152, 8, 2), (160, prepare[:16]), (192, reply[:16])]
     own = [(64, 16, 5), (80, 8, 1), (88, 8, 1), (104, 8, 1), (116, 4, 1)]
     return {
-        "stored reply with body aa": reply,
         "superblock of boot 2 over op 1 and its reply": first_copy(2, *named, version=2),
         "the prepare as the first of a group of two": header(2, *own, (132, 8, 1), (140, 8, 2), version=2, boot=1),
     }

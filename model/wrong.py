@@ -49,8 +49,8 @@ def choose(copies: list):
         return max(agreed, key=lambda c: c.sequence, default=None)
     if has("boots are compared before sequences"):
         return max(agreed, key=lambda c: (c.boot, c.sequence), default=None)
-    if has("boots are compared in version 2 alone"):
-        return max(agreed, key=lambda c: (c.sequence, c.boot if c.version == 2 else 0), default=None)
+    if has("boots are compared in version 1 alone"):
+        return max(agreed, key=lambda c: (c.sequence, c.boot if c.version == 1 else 0), default=None)
     if has("the last of equals is chosen"):
         copies = copies[::-1]
     if has("the sequence isn't looked at"):
@@ -65,6 +65,10 @@ class Rules(wrong_grid.Rules):
 
     def decision(self, header, prepare, op: int, boot: int) -> str:
         there = isinstance(prepare, Unit) and prepare.op == op
+        if has("a prepare of an earlier boot is taken") and there:
+            boot = prepare.boot
+        if has("a header of an earlier boot counts") and isinstance(header, Unit) and header.op == op:
+            boot = header.boot
         what = super().decision(header, prepare, op, boot)
         if has("headers aren't looked at"):
             return "Take" if there else "Empty" if isinstance(header, Unit) else "Empty mend"
@@ -104,11 +108,39 @@ class Rules(wrong_grid.Rules):
         tail, sessions = super().tail(reached, sessions)
         return tail, sessions[: self.clients]
 
+    def takes(self, rings, op: int, content) -> bool:
+        if has("a named prepare is known by its header") and op <= content.pin():
+            one = rings.prepares[op % content.slots]
+            return isinstance(one, Unit) and one.op == op and self.decision(
+                rings.headers[op % content.slots], one, op, one.boot).startswith("Take")
+        return super().takes(rings, op, content)
+
+    def unknown(self, rings, content) -> Optional[int]:
+        if has("what is named isn't asked for"):
+            return None
+        lacking = super().unknown(rings, content)
+        if lacking is not None and has("the last of the named ones is blamed"):
+            return content.pin()
+        one = rings.prepares[lacking % content.slots] if lacking is not None else None
+        return None if isinstance(one, Unit) and one.op == lacking and has("a named prepare is known by its op") else lacking
+
+    def answers(self, one, place: int, session, content) -> bool:
+        if has("a named reply is known by its request"):
+            content = content._replace(replies=0, boot=one.boot if isinstance(one, Unit) else 0)
+        if has("an unnamed reply of any boot is taken") and isinstance(one, Unit):
+            content = content if one.op <= content.named() else content._replace(boot=one.boot)
+        return super().answers(one, place, session, content)
+
+    def planned(self, header, one, op: int, head: int, content) -> str:
+        if has("another header of a named prepare stays") and op <= content.pin() and isinstance(header, Unit) and header.op == op:
+            return "Take"
+        return super().planned(header, one, op, head, content)
+
     def behind(self, rings, content) -> bool:
         if has("stamps of sequences are ignored"):
             return any(one.op > content.op + content.slots for one in rings.logged())
         if has("a unit of a later boot is passed over"):
-            return super().behind(rings, content._replace(boot=units.LIMIT))
+            return super().behind(rings, content._replace(boot=form.LIMIT))
         if has("stamps of replies are ignored"):
             return super().behind(rings._replace(replies=[]), content)
         if has("an op beyond the slots is lost"):
@@ -135,6 +167,9 @@ class Rules(wrong_grid.Rules):
         return super().lost(rings, content, head)
 
     def replies(self, rings, content, tail: list) -> int:
+        if has("replies of an earlier boot count"):
+            shown = [one.op for one in rings.replies if isinstance(one, Unit)]
+            return max([super().replies(rings, content, tail), *shown])
         if has("the superblock's replies are ignored"):
             return super().replies(rings, content._replace(replies=0), tail)
         if has("the last mark is ignored"):

@@ -6,6 +6,7 @@ from tries import form, machine, recovery
 from tries.bugs import has
 from tries.form import COPIES, GRID, LIMIT, SECTOR, WAL_PREPARES, Place
 from tries.grid import SYNC, Event, Running, answer
+from tries.superblock import Recorded
 from tries.trailer import Checkpoint, Session
 from tries.units import BLOCK, NO_BYTES, PREPARE, TRAILER, Unit
 
@@ -53,10 +54,10 @@ class Rules(recovery.Rules):
         }
         return None if word and has(skipped[word]) else why
 
-    def contradiction(self, one: Checkpoint) -> Optional[str]:
-        why = super().contradiction(one)
+    def contradiction(self, one: Checkpoint, replies: int) -> Optional[str]:
+        why = super().contradiction(one, replies)
         if why and "TrailerChain" in why and has("a trailer may reference itself"):
-            return super().contradiction(one._replace(chain=()))
+            return super().contradiction(one._replace(chain=()), replies)
         return None if why and "Pending" in why and has("ops that wait for nobody are taken") else why
 
     def checkpoint(self, shown, content) -> Union[str, Checkpoint]:
@@ -154,12 +155,7 @@ class Machine(machine.Machine):
             run = run._replace(sessions=tuple(self.sessions))
         if has("the checkpoint's op has no checksum"):
             run = run._replace(op_checksum=NO_BYTES)
-        head, replies = self.head(), self.replies
         events = super().finish(run)
-        if has("the superblock's head is the captured op"):
-            self.durable = self.durable._replace(head=run.op, replies=min(replies, run.op))
-        if has("the superblock's replies are the head"):
-            self.durable = self.durable._replace(replies=head)
         if has("waiting ops are forgotten at a checkpoint"):
             self.waiting = {op: NO_BYTES if op <= run.op else one for op, one in self.waiting.items()}
         if has("sequences rise by two"):
@@ -168,7 +164,7 @@ class Machine(machine.Machine):
 
     def update(self, events: list) -> list:
         """The events of a last step, whose answer comes last."""
-        content, told = self.durable.content(self.home), events[-1]
+        content, told = self.durable.content(self.home, self.recorded()), events[-1]
         order = [3, 2, 1, 0] if has("an update goes from the last copy to the first") else [0, 1, 2, 3]
         order = order[: 3 if has("an update writes three copies") else COPIES]
         copies = [Event("write", SECTOR * copy, content.encode(copy)) for copy in order]
@@ -180,6 +176,28 @@ class Machine(machine.Machine):
         late = [self.late] if self.late else []
         self.late = None
         return [*first, *written, *late, told]
+
+    def recorded(self) -> Recorded:
+        state = super().recorded()
+        if has("the superblock's head is the captured op"):
+            op = self.durable.op
+            state = state._replace(head=op, head_checksum=self.durable.op_checksum, replies=min(state.replies, op))
+        if has("the superblock's replies are the head"):
+            state = state._replace(replies=state.head)
+        if has("the superblock names no head"):
+            state = state._replace(head_checksum=self.durable.op_checksum)
+        if has("the superblock names no replies"):
+            state = state._replace(stored=())
+        if has("the superblock names one reply less"):
+            state = state._replace(stored=state.stored[:-1])
+        return state
+
+    def raised(self) -> list:
+        if has("the boot is kept"):
+            return self.copies()
+        if has("the boot rises by two"):
+            self.boot += 1
+        return super().raised()
 
     def read(self, address: int) -> list:
         any_kind, any_block = has("a read takes a trailer block"), has("a read of a block doesn't look at the checksum")

@@ -144,7 +144,9 @@ def rows() -> list:
 
 
 def events() -> None:
-    """Blocks and trailer blocks are one write each; the last step is a sync, then each copy with its own."""
-    wanted = ["sync"] + ["write"] * 6 + ["sync"] + ["write", "sync"] * 4
+    """An open is the barrier, then each copy with a sync of its own; blocks and trailer blocks are one write each; the last step is a sync,
+    then the copies as in the open."""
+    copies = ["write", "sync"] * 4
+    wanted = ["sync"] + copies + ["write"] * 6 + ["sync"] + copies
     ran = script.run(NEW, (FIVE + CHECKPOINT).encode())
     expect("the events of five blocks and a checkpoint", wanted, [one.kind for one in ran.events if one.kind != "answer"])

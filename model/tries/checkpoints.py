@@ -2,7 +2,7 @@
 
 from random import Random
 
-from . import generate, generate_grid, script, trailer
+from . import generate, generate_grid, recovery, script, trailer
 from .binary import expect
 from .common import Try, named, on_file, reopen, same_bytes, same_run, session
 from .damage import look, outcome_of
@@ -11,6 +11,7 @@ from .forge_trailer import with_blocks, with_copies
 from .form import LIMIT, SECTOR, Home
 from .knows import knows
 from .machine import Machine
+from .superblock import Recorded
 from .trailer import Checkpoint, Session
 from .stops import Kept, stop
 
@@ -118,23 +119,27 @@ def trailers(t: Try) -> None:
 
 
 def near_limits(random: Random, home: Home) -> bytes:
-    """A file whose ops, requests or sequence come near the greatest ones; its one session waits for its reply."""
+    """A file whose ops, requests, sequence or boot come near the greatest ones; its one session waits for its reply."""
     slots = home.layout.slots
     op = random.choice((1, LIMIT, LIMIT - random.choice((0, 1, 2, slots - 1, slots, slots + 1, random.randint(0, 3 * slots)))))
     sequence = random.choice((2, LIMIT, LIMIT - 1, LIMIT - 2, LIMIT - 5))
     waits = Session(random.choice((5, 2**128 - 1)), random.choice((1, LIMIT, LIMIT - 1, LIMIT - 2)), op)
-    one = Checkpoint(sequence, op, random.randbytes(16), op, op - 1, b"", (waits,))
-    chain = trailer.sealed(home, one.text(home.layout), list(range(1, 9)), sequence)
+    one, boot = Checkpoint(sequence, op, random.randbytes(16), b"", (waits,)), random.choice((1, 2, LIMIT - 3, LIMIT - 2, LIMIT - 1))
+    chain = trailer.sealed(home, boot, one.text(home.layout), list(range(1, 9)), sequence)
     one = one._replace(chain=tuple((block.op, block.checksum) for block in chain))
-    return with_copies(with_blocks(home, script.fresh(home), chain), one.content(home))
+    state = Recorded(boot, op, one.op_checksum, op - 1)
+    return with_copies(with_blocks(home, script.fresh(home), chain), one.content(home, state))
 
 
 def limits(t: Try) -> None:
-    """Sessions near the greatest op, request and sequence."""
+    """Sessions near the greatest op, request, sequence and boot."""
     home = generate.home(t.random)
     data = near_limits(t.random, home)
     t.binary.put(data)
     for number in range(t.random.randint(1, 4)):
+        if recovery.found(data).refusal:
+            session(t, "an open behind the greatest boot", data, b"step\n")
+            break
         m = generate.machine_of(data)
         # The next request of a client that is known, and the first one of a client that isn't; they may be the last ones.
         known = m.sessions[0]

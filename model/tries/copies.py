@@ -4,7 +4,7 @@ from random import Random
 
 from . import form, superblock
 from .form import COPIES, LIMIT, LIMITS, SECTOR
-from .superblock import Content
+from .superblock import Content, Recorded, naming
 
 WORD = 2**64
 
@@ -58,16 +58,18 @@ def hurt(random: Random, data: bytes) -> bytes:
 
 
 def lawful(random: Random, c: Content) -> Content:
-    """A content of the same file that a checkpoint may have left."""
+    """A content of the same file that an update may have left."""
     op = random.choice((0, 1, c.slots, LIMIT - c.slots, LIMIT))
     head = min(LIMIT, op + random.choice((0, 1, c.slots)))
     address = random.choice((1, c.blocks)) if op or random.random() < 0.3 else 0
+    op_checksum = random.randbytes(16) if op else bytes(16)
+    boot = random.choice((0, 1, c.boot, c.boot, c.boot, c.boot + 1, LIMIT - 1, LIMIT))
+    state = Recorded(min(boot, LIMIT), head, op_checksum if head == op else random.randbytes(16), max(0, head - random.choice((0, 1, 8))))
     return c._replace(
-        sequence=random.choice((1, 2, 3, LIMIT)), op=op, head=head, replies=max(0, head - random.choice((0, 1, 8))),
-        op_checksum=random.randbytes(16) if op else bytes(16), trailer_address=address,
+        sequence=random.choice((1, 2, 3, LIMIT)), op=op, op_checksum=op_checksum, trailer_address=address,
         trailer_checksum=random.randbytes(16) if address else bytes(16),
         trailer_size=random.choice((1, superblock.greatest_trailer(c))) if address else 0,
-    )
+    ).recording(state)
 
 
 def edges(random: Random, c: Content) -> dict:
@@ -81,14 +83,16 @@ def edges(random: Random, c: Content) -> dict:
     for _ in range(random.choice((1, 1, 3))):
         marked[random.choice((0, len(marked) - 1, random.randrange(len(marked))))] = random.randint(1, 255)
     odd_checks = (bytes(16), b"\1" + bytes(15), bytes(15) + b"\1", random.randbytes(16))
-    greatest = superblock.greatest_trailer(c)
+    greatest, spare = superblock.greatest_trailer(c), random.choice((0, min(63, c.clients), max(0, min(63, c.clients - 1)), 63))
     return {
-        **numbers, "version": (0, 2, 9, 257, 2**32 - 1), "cluster": (0, 1, 2**128 - 1),
+        **numbers, "version": (0, 1, 9, 257, 2**32 - 1), "cluster": (0, 1, 2**128 - 1),
         "sequence": (0, 1, 2, LIMIT, LIMIT + 1, WORD - 1), "op": (0, 1, LIMIT, LIMIT + 1, WORD - 1, c.head + 1),
         "op_checksum": odd_checks, "head": (c.op, c.op - 1, c.op + c.slots, c.op + c.slots + 1, LIMIT, LIMIT + 1, WORD - 1),
         "replies": (c.head, c.head + 1, c.head - 8, c.head - 9, 0, WORD - 1),
         "trailer_address": (0, 1, c.blocks, c.blocks + 1, WORD - 1), "trailer_checksum": odd_checks,
-        "trailer_size": (0, 1, greatest, greatest + 1, WORD - 1), "boot": (0, 1, LIMIT, WORD - 1), "behind": (bytes(marked), random.randbytes(16) + bytes(len(marked) - 16)),
+        "trailer_size": (0, 1, greatest, greatest + 1, WORD - 1),
+        "boot": (0, 1, c.boot + 1, LIMIT, LIMIT + 1, WORD - 1),
+        "behind": (bytes(marked), naming(random.randbytes(16)), naming(c.op_checksum), naming(c.op_checksum, [(spare, odd_checks[1])])),
     }
 
 

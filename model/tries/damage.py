@@ -152,19 +152,29 @@ def copies_struck(t: Try) -> None:
     session(t, "struck copies, once more", data, look(t, data))
 
 
+def own_of(data: bytes) -> superblock.Content:
+    """A first superblock that records what the file's own one does."""
+    content = superblock.opened(data).content
+    return superblock.first(content.home()).recording(content.recorded())
+
+
 def later(t: Try, own: superblock.Content, data: bytes) -> superblock.Content:
     """A content without a trailer that an update may have left over this file, or nearly so."""
     random, view = t.random, recovery.view_of(data)
     head = max(0, view.head() + random.choice((0, 0, 0, -1, 1)))
     replies = max(0, view.replies + random.choice((0, 0, 0, -1, 1)))
-    return own._replace(sequence=random.choice((1, 2, 3, form.LIMIT)), head=head, replies=replies)
+    last = next((one.checksum for one in view.tail if one.op == head), view.checkpoint.op_checksum)
+    stored = tuple((place, one.checksum) for place, one in view.stored)
+    state = own.recorded()._replace(head=head, head_checksum=last, replies=replies, stored=random.choice((stored, stored, ())))
+    state = state._replace(boot=max(0, own.boot + random.choice((0, 0, 0, 1, -1))))
+    return own._replace(sequence=random.choice((1, 2, 3, form.LIMIT))).recording(state)
 
 
 def copies_forged(t: Try) -> None:
     """Copies with right checksums: of several contents, older and newer, that keep or break the field tests."""
     random, home = t.random, generate.home(t.random)
     data = older = generate.image(random, 12, home, 0)
-    own = superblock.first(home)
+    own = own_of(data)
     contents = [own, superblock.first(generate.home(random)), later(t, own, data), copies.odd(random, own)]
     contents.append(copies.odd(random, own)._replace(sequence=contents[-1].sequence))
     chosen = random.sample(contents, random.choice((1, 1, 2, 2, 3)))

@@ -20,7 +20,12 @@ def next_prepare(random: Random, m: Machine) -> tuple:
         m.home, PREPARE, data, parent=m.last_checksum(), client=form.number(client or generate.new_client(random, m)), op=op,
         request=request, mark=m.replies, checkpoint=m.durable.sequence, slot=op % m.layout.slots,
     )
-    return fields, data
+    return units.in_boot(fields, boot_of(m)), data
+
+
+def boot_of(m: Machine) -> int:
+    """The boot in which a unit of the file was made last; a new file has none."""
+    return max(1, m.found_boot)
 
 
 def next_reply(random: Random, m: Machine) -> tuple:
@@ -30,21 +35,23 @@ def next_reply(random: Random, m: Machine) -> tuple:
         return next_prepare(random, m)
     op = m.replies + random.choice((0, 1, 1, 1, 2))
     place = min(range(len(m.sessions)), key=lambda place: abs(m.sessions[place].op - op))
-    one = units.reply(m.home, m.waiting.get(op, bytes(16)), m.sessions[place], place, data, m.head(), m.durable.sequence)
+    one = units.reply(m.home, boot_of(m), m.waiting.get(op, bytes(16)), m.sessions[place], place, data, m.head(), m.durable.sequence)
     return dict(one.fields()), data
 
 
 def next_reserved(random: Random, m: Machine) -> tuple:
     """The fields of a reserved header."""
-    return units.fields_of(m.home, RESERVED, slot=random.randrange(m.layout.slots)), b""
+    return units.in_boot(units.fields_of(m.home, RESERVED, slot=random.randrange(m.layout.slots)), 0), b""
 
 
 def next_block(random: Random, m: Machine) -> tuple:
     """The fields and the body of a block or of a trailer's first block, which belong into the grid."""
     data, address = generate.body(random, m.layout), random.choice((1, 2, m.layout.blocks, m.layout.blocks + 1))
     if random.random() < 0.5:
-        return units.fields_of(m.home, units.BLOCK, data, op=address, block_kind=random.choice((1, 255))), data
-    return units.fields_of(m.home, units.TRAILER, data, op=address, checkpoint=random.choice((1, 2, TOP))), data
+        fields = units.fields_of(m.home, units.BLOCK, data, op=address, block_kind=random.choice((1, 255)))
+    else:
+        fields = units.fields_of(m.home, units.TRAILER, data, op=address, checkpoint=random.choice((1, 2, TOP)))
+    return units.in_boot(fields, boot_of(m)), data
 
 
 def changes(random: Random, m: Machine, f: dict, data: bytes) -> tuple:
@@ -72,7 +79,7 @@ def changes(random: Random, m: Machine, f: dict, data: bytes) -> tuple:
         ("slot", 0), ("slot", 1), ("slot", 2**32 - 1),
         ("kind", 0), ("kind", 1), ("kind", 2), ("kind", 3), ("kind", 4), ("kind", 5), ("kind", 6), ("kind", 255),
         ("block_kind", 1), ("block_kind", 255), ("version", 0), ("version", 1), ("version", 2), ("version", 257), ("boot", 0),
-        ("boot", 1), ("boot", TOP), ("boot", TOP + 1), ("boot", 2**63), ("group", 0), ("group", 1), ("group", op),
+        ("boot", 1), ("boot", m.found_boot + 1), ("boot", max(0, m.found_boot - 1)), ("boot", TOP), ("boot", TOP + 1), ("boot", 2**63), ("group", 0), ("group", 1), ("group", op),
         ("group", op + 1), ("group", max(0, op - 7)), ("group", max(0, op - 8)), ("group_last", 0), ("group_last", max(0, op - 1)),
         ("group_last", op), ("group_last", op + 7), ("group_last", op + 8), ("zero", bytes(107) + b"\1"),
         ("zero", b"\1" + bytes(107)), ("parent", bytes(16)),
@@ -93,8 +100,9 @@ def misfits(random: Random, m: Machine, f: dict) -> tuple:
 
 
 def sealed(random: Random, m: Machine, f: dict, data: bytes) -> bytes:
-    """A unit of these fields, up to two of them changed."""
-    f = units.in_boot(f, random.choice((1, 3, TOP))) if random.random() < 0.1 else dict(f)
+    """A unit of these fields, up to two of them changed; now and then of another boot, or of version 1."""
+    f = units.in_boot(f, random.choice((1, m.found_boot + 1, max(1, m.found_boot - 1), TOP))) if random.random() < 0.1 else dict(f)
+    f = dict(f, version=1, boot=0, group=0, group_last=0) if random.random() < 0.05 else f
     for _ in range(random.choice((0, 0, 1, 1, 1, 1, 2))):
         fits = f["kind"] == PREPARE and random.random() < 0.5
         name, value = misfits(random, m, f) if fits else changes(random, m, f, data)

@@ -13,16 +13,19 @@ BIG = 2**64 - 1
 REACH = 1 << 26
 
 
-def parts_of(random: Random, data: bytes) -> Checkpoint:
-    """A checkpoint of the file: most often its own, with other parts now and then."""
-    view = recovery.view_of(data)
+def parts_of(random: Random, data: bytes) -> tuple:
+    """A checkpoint of the file, most often its own, with other parts now and then; and what the superblock records beside it."""
+    found = recovery.found(data)
+    view, state = found.view, found.content.recorded()
     one = view.checkpoint
     if one.chain and random.random() < 0.8:
-        return one
+        return one, state
     op, checksum = view.head(), view.tail[-1].checksum if view.tail else one.op_checksum
     listed = random.sample(range(1, view.home.layout.blocks + 1), random.choice((0, 1, 5)))
     references = tuple((address, random.randbytes(16)) for address in sorted(listed))
-    return Checkpoint(max(2, one.sequence), op, checksum, op, view.replies, random.randbytes(3), view.sessions, references)
+    stored = tuple((place, reply.checksum) for place, reply in view.stored)
+    state = state._replace(head=op, head_checksum=checksum, replies=view.replies, stored=stored)
+    return Checkpoint(max(2, one.sequence), op, checksum, random.randbytes(3), view.sessions, references), state
 
 
 def odd_session(random: Random, one: Session, others: tuple, op: int) -> Session:
@@ -101,18 +104,20 @@ def odd_content(random: Random, c: superblock.Content) -> superblock.Content:
         ("trailer_checksum", random.randbytes(16)), ("sequence", c.sequence + 1), ("sequence", max(1, c.sequence - 1)),
         ("replies", max(0, c.replies - 1)), ("replies", min(c.head, c.replies + 1)), ("op", c.op + 1), ("op", max(0, c.op - 1)),
         ("head", c.head + 1), ("head", max(c.op, c.head - 1)), ("op_checksum", random.randbytes(16) if c.op else bytes(16)),
+        ("boot", c.boot + 1), ("boot", max(0, c.boot - 1)), ("boot", LIMIT), ("behind", superblock.naming(random.randbytes(16))),
+        ("behind", superblock.naming(c.head_checksum())),
     ))
     return c._replace(**{name: value})
 
 
-def sealed(random: Random, home: form.Home, text: bytes, addresses: list, sequence: int, odds: float) -> list:
-    """The trailer blocks of a text, with these odds one of them an odd one."""
+def sealed(random: Random, home: form.Home, boot: int, text: bytes, addresses: list, sequence: int, odds: float) -> list:
+    """The trailer blocks of a text, made in a boot, with these odds one of them an odd one."""
     odd, chain = random.random() < odds, []
     pieces = trailer.pieces(text, home.layout)
     which = random.randrange(len(pieces))
     for index, piece in enumerate(pieces):
         before = Link(addresses[index - 1], chain[-1].checksum) if chain else None
-        one = units.trailer(home, addresses[index], before, index, sequence, piece)
+        one = units.trailer(home, boot, addresses[index], before, index, sequence, piece)
         chain.append(odd_link(random, one, home.layout) if odd and index == which else one)
     return chain
 
@@ -120,7 +125,7 @@ def sealed(random: Random, home: form.Home, text: bytes, addresses: list, sequen
 def forge(random: Random, data: bytes) -> tuple:
     """A file that opens with a forged trailer in it; and what was forged."""
     home = generate.home_of(data)
-    one, what = parts_of(random, data), random.choice(("parts", "parts", "text", "text", "link", "superblock", "nothing"))
+    (one, state), what = parts_of(random, data), random.choice(("parts", "parts", "text", "text", "link", "superblock", "nothing"))
     for _ in range(random.choice((1, 1, 2)) if what == "parts" else 0):
         one = odd_parts(random, one, home.layout)
     text = one.text(home.layout)
@@ -131,8 +136,8 @@ def forge(random: Random, data: bytes) -> tuple:
     addresses = taken + [free[at % len(free)] for at in range(count - len(taken))]
     if random.random() < 0.05:
         addresses[random.randrange(count)] = random.randint(1, min(home.layout.blocks, 1 + REACH // home.layout.block_size))
-    chain = sealed(random, home, text, addresses, one.sequence, 1.0 if what == "link" else 0.0)
-    content = one.content(home)._replace(
+    chain = sealed(random, home, max(1, state.boot), text, addresses, one.sequence, 1.0 if what == "link" else 0.0)
+    content = one.content(home, state)._replace(
         trailer_address=addresses[-1], trailer_checksum=chain[-1].checksum, trailer_size=len(text))
     content = odd_content(random, content) if what == "superblock" else content
     return what, with_copies(with_blocks(home, data, chain), content)

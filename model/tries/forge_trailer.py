@@ -11,7 +11,7 @@ from .units import Unit
 
 def text_of(home: Home, root: bytes = b"", sessions=(), references=()) -> bytes:
     """The text of a trailer with these parts."""
-    return Checkpoint(2, 0, bytes(16), 0, 0, root, tuple(sessions), tuple(references)).text(home.layout)
+    return Checkpoint(2, 0, bytes(16), root, tuple(sessions), tuple(references)).text(home.layout)
 
 
 def changed(one: Unit, **fields) -> Unit:
@@ -47,14 +47,16 @@ def with_blocks(home: Home, data: bytes, blocks: list) -> bytes:
 def forged(home: Home, text: bytes, addresses=(1,), data: Optional[bytes] = None, links: Optional[dict] = None,
            **fields) -> bytes:
     """A file, a new one where none is given, with a trailer of this text in blocks at these addresses, and a superblock of
-    sequence 2 that names it. `links` has other fields of the trailer blocks by index, `fields` those of the superblock."""
+    sequence 2 that names it, whose head has the checksum of its op's prepare. `links` has other fields of the trailer blocks by index,
+    `fields` those of the superblock."""
     chain: list = []
     for index, piece in enumerate(trailer.pieces(text, home.layout)):
         before = chain[-1] if chain else None
-        one = units.trailer(home, addresses[index], before, index, 2, piece)
+        one = units.trailer(home, 1, addresses[index], before, index, 2, piece)
         chain.append(changed(one, **(links or {}).get(index, {})))
     last = chain[-1]
     content = superblock.first(home)._replace(sequence=2, trailer_address=last.op, trailer_checksum=last.checksum,
                                               trailer_size=len(text))
     data = with_blocks(home, script.fresh(home) if data is None else data, chain)
-    return with_copies(data, content._replace(**fields))
+    content = content._replace(**fields)
+    return with_copies(data, content._replace(behind=superblock.naming(content.op_checksum)))

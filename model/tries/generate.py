@@ -6,7 +6,7 @@ from typing import Optional
 from . import copies, form, generate_grid, recovery, script, superblock
 from .form import LIMITS, SECTOR, Home, Image, Layout
 from .knows import knows
-from .machine import Machine
+from .machine import Machine, opens
 
 SIZES = (0, 0, 1, 2, 127, 128, 2048, 3839, 3840, 3841, 5000, 7935, 7936, 12000)
 DIGITS = b"0123456789"
@@ -82,12 +82,19 @@ def spelled(random: Random, data: bytes) -> bytes:
 
 
 def machine_of(data: Optional[bytes]) -> Machine:
-    """The machine of a file that opens; that of a new file where it doesn't."""
-    found = recovery.found(data)
-    if found.refusal:
+    """The machine of a file that opens, behind its open; that of a new file where it doesn't."""
+    if recovery.found(data).refusal:
         data = script.fresh(Home(form.SMALL, 7))
-        found = recovery.found(data)
-    return Machine(found, Image(data))
+    return opened_file(data)[0]
+
+
+def opened_file(data: bytes) -> tuple:
+    """The machine of a file behind its open, and the file then."""
+    found = recovery.found(data)
+    machine = Machine(found, Image(data))
+    events = opens(found, machine)
+    machine.reads.clear()
+    return machine, script.state(data, events)
 
 
 def any_number(random: Random, high: int) -> int:

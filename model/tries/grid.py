@@ -96,7 +96,7 @@ class Grid:
         why = self.block_refusal(kind, body)
         if why:
             return refused(why)
-        one = units.block(self.home, self.free()[0], kind, body)
+        one = units.block(self.home, self.boot, self.free()[0], kind, body)
         self.live[one.op] = one.checksum
         return [self.write_of(one), answer(f"wrote {one.op}")]
 
@@ -130,9 +130,8 @@ class Grid:
         return [answer(f"begun {len(pieces)}")]
 
     def next_checkpoint(self, op: int, op_checksum: bytes, root: bytes, sessions: tuple, references: dict) -> Checkpoint:
-        """The checkpoint with this capture, were it finished now."""
-        return Checkpoint(self.durable.sequence + 1, op, op_checksum, self.head(), self.replies, root, sessions,
-                          tuple(sorted(references.items())))
+        """The checkpoint with this capture."""
+        return Checkpoint(self.durable.sequence + 1, op, op_checksum, root, sessions, tuple(sorted(references.items())))
 
     def step(self) -> list:
         """The next trailer block is written without a sync; or, as the last step, one sync and the four copies."""
@@ -144,7 +143,7 @@ class Grid:
             return self.finish(run)
         before = run.written[-1] if index else None
         sequence = self.durable.sequence + 1
-        one = units.trailer(self.home, run.addresses[index], before, index, sequence, run.pieces[index])
+        one = units.trailer(self.home, self.boot, run.addresses[index], before, index, sequence, run.pieces[index])
         run.written.append(one)
         return [self.write_of(one), answer(f"working {run.left()}")]
 
@@ -154,11 +153,13 @@ class Grid:
         done = self.next_checkpoint(run.op, run.op_checksum, run.root, run.sessions, run.references)._replace(chain=chain)
         self.tail = self.tail[run.op - self.durable.op :]
         self.durable, self.running = done, None
-        # The copies are read back.
+        return [SYNC, *self.copies(), answer(f"done {done.sequence}")]
+
+    def copies(self) -> list:
+        """The events that write the superblock, which records the state as it is; its copies are read back."""
         self.reads += [SECTOR * copy for copy in range(COPIES)]
-        content = done.content(self.home)
-        copies = [event for copy in range(COPIES) for event in copy_of(content, copy)]
-        return [SYNC, *copies, answer(f"done {done.sequence}")]
+        content = self.durable.content(self.home, self.recorded())
+        return [event for copy in range(COPIES) for event in copy_of(content, copy)]
 
     def read(self, address: int) -> list:
         """A live block is read."""

@@ -6,6 +6,7 @@ from . import form, recovery, units
 from .form import CLIENT_REPLIES, LIMIT, WAL_PREPARES, Image, Place
 from .grid import SYNC, Event, Grid, answer, copy_of, refused
 from .recovery import PIPELINE, Found, View
+from .superblock import Recorded
 from .units import PREPARE, REPLY, Unit
 
 
@@ -18,6 +19,8 @@ class Machine(Grid):
         self.tail, self.replies = list(view.tail), view.replies
         self.sessions, self.stored = list(view.sessions), dict(view.stored)
         self.table, self.waiting = list(opened.table), dict(opened.waiting)
+        # That of the superblock as it was found; an open raises it, and in the next one units are made.
+        self.boot = self.found_boot = opened.content.boot
         self.image = image
         # The offsets that were read, in order.
         self.reads: list = []
@@ -27,6 +30,16 @@ class Machine(Grid):
         """What is kept now."""
         stored = tuple((place, self.stored[place]) for place in self.places_stored())
         return View(self.home, self.durable, tuple(self.tail), self.replies, tuple(self.sessions), stored)
+
+    def recorded(self) -> Recorded:
+        """What a superblock that is written now records."""
+        stored = tuple((place, self.stored[place].checksum) for place in self.places_stored())
+        return Recorded(self.boot, self.head(), self.last_checksum(), self.replies, stored)
+
+    def raised(self) -> list:
+        """The boot update: the next boot, beside the same checkpoint and the state that was found."""
+        self.boot += 1
+        return self.copies()
 
     def places_stored(self) -> list:
         """The places of the sessions whose last request has a stored reply."""
@@ -88,7 +101,7 @@ class Machine(Grid):
             return refused(why)
         op = self.head() + 1
         one = units.prepare(
-            self.home, self.last_checksum(), client, op, request, body, self.replies, self.durable.sequence
+            self.home, self.boot, self.last_checksum(), client, op, request, body, self.replies, self.durable.sequence
         )
         self.tail.append(one)
         self.waiting[op] = one.checksum
@@ -118,7 +131,7 @@ class Machine(Grid):
             return refused(why)
         place = next(place for place, session in enumerate(self.sessions) if session.op == op)
         parent, sequence = self.waiting.pop(op), self.durable.sequence
-        one = units.reply(self.home, parent, self.sessions[place], place, body, self.head(), sequence)
+        one = units.reply(self.home, self.boot, parent, self.sessions[place], place, body, self.head(), sequence)
         self.replies, self.stored[place] = op, one
         at = self.layout.at(Place(CLIENT_REPLIES, place))
         return [Event("write", at, form.whole_sectors(one.encode())), SYNC, answer(f"replied {op}")]
@@ -153,6 +166,13 @@ class Machine(Grid):
         word = "prepare" if kind == PREPARE else "reply"
         return [answer(f"{word} {one.op} client {one.client} request {one.request} mark {one.mark} "
                        f"checkpoint {f['checkpoint']} body {one.body.hex() or '-'}")]
+
+
+def opens(opened: Found, machine: Machine) -> list:
+    """The events of an open: the barrier, the mending, and the boot update."""
+    events = [SYNC, *mends(opened), *machine.raised()]
+    machine.writes(events)
+    return events
 
 
 def mends(opened: Found) -> list:

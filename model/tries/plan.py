@@ -94,11 +94,13 @@ class Plan:
         return reopen(t, f"{what}, then a stop", self.wanted.kept(upto), image)
 
     def keeps(self, what: str, image: bytes) -> None:
-        """What finishes no checkpoint doesn't change what the copies choose."""
+        """What finishes no checkpoint doesn't change the checkpoint that the copies choose, and raises the boot by one at most."""
         finishes = knows("blocks") and self.wanted.spans and self.words[0] in ("run", "paced", "workload")
         if self.words[0] != "format" and not finishes:
             before, after = (superblock.opened(data or b"").content for data in (self.data, image))
-            expect(f"{what}: the superblock", before, after)
+            raised = after._replace(boot=after.boot - 1) if before and after and after.boot > before.boot else after
+            bare = [one and one.recording(superblock.Recorded(one.boot)) for one in (before, raised)]
+            expect(f"{what}: the superblock's checkpoint, and its boot", *bare)
 
 
 def before(plan: Plan, place: Call) -> tuple:

@@ -10,14 +10,15 @@ from .knows import knows
 
 
 def tied(t: Try) -> bytes:
-    """Two contents of equal sequence on each of which two copies agree, or nearly so."""
+    """Two contents of equal sequence and boot on each of which two copies agree, or nearly so."""
     random = t.random
     home = generate.home(random)
     data = generate.image(random, 6, home, 0)
+    own = damage.own_of(data)
     other = superblock.first(home._replace(cluster=home.cluster % 2**127 + 1))
     if random.random() < 0.3:
         other = superblock.first(generate.home(random))
-    both = (superblock.first(home), other)
+    both = (own, other._replace(boot=own.boot))
     for place, which in enumerate(random.choice(((0, 0, 1, 1), (0, 1, 0, 1), (0, 1, 1, 0), (1, 1, 0, 0), (1, 0, 1, 0), (1, 0, 0, 1)))):
         data = copies.put(data, place, both[which].encode(place))
     return copies.put(data, 3, copies.damaged(random, data, 3)[1]) if random.random() < 0.2 else data
@@ -36,7 +37,7 @@ def forged(t: Try) -> bytes:
     """A file with forged copies, or with forged units."""
     random, home = t.random, generate.home(t.random)
     data = generate.image(random, 12, home, 0)
-    own = superblock.first(home)
+    own = damage.own_of(data)
     if knows("blocks") and random.random() < 0.5:
         return forge_checkpoint.forge(random, data)[1]
     if random.random() < 0.4:

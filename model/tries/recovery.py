@@ -15,7 +15,8 @@ PIPELINE = 8
 
 
 class View(NamedTuple):
-    """The state that a file stands for. The tail has every prepare behind the checkpoint."""
+    """The state that a file stands for, without what its superblock records beside the checkpoint. The tail has every prepare behind the
+    checkpoint."""
 
     home: Home
     checkpoint: Checkpoint
@@ -234,7 +235,7 @@ def after(sessions: list, one: Unit) -> list:
     return sessions + [new]
 
 
-def found(data: Optional[bytes], rules: Rules = Rules(), version: int = 1) -> Found:
+def found(data: Optional[bytes], rules: Rules = Rules(), version: int = 2) -> Found:
     """What an open finds in a file, where this version is asked for."""
     opened = superblock.opened(data or b"", version)
     if opened.refusal:

@@ -117,7 +117,7 @@ def scrubs() -> list:
         (five[: 300 * SECTOR], "scrub", "", "tour 6 0\n", 0),
         (struck(five, "", (100, A5)), "scrub", "", "refused Damaged Grid 6 Garbled\n", 4),
         (struck(five, "", (80, 84)), "scrub", "", "failing 1 Elsewhere Grid 2\ntour 6 1\n", 1),
-        (with_blocks(HOME, five, [units.block(HOME, 2, 1, b"\7")]), "scrub", "", "failing 2 Stale\ntour 6 1\n", 1),
+        (with_blocks(HOME, five, [units.block(HOME, 1, 2, 1, b"\7")]), "scrub", "", "failing 2 Stale\ntour 6 1\n", 1),
         (five[: 92 * SECTOR], "scrub", "", "refused Damaged Grid 6 Blank\n", 4),
         (NEW, "run", "scrub\nrecent\nscrub\n", "tour 0 0\nrecent 0\ntour 0 0\n", 0),
         # The ring of findings keeps the last 64; a tour begins anew after its end.

@@ -58,7 +58,7 @@ def scrubbed(t: Try) -> None:
     known = [address for address, _ in view.checkpoint.references] + generate.machine_of(bytes(image)).free()[:2]
     for address in random.sample(known, min(len(known), random.choice((0, 1, 2, 5)))):
         at = home.layout.at(form.Place(form.GRID, address))
-        other = form.whole_sectors(units.block(home, address, 1, b"another").encode())
+        other = form.whole_sectors(units.block(home, 1, address, 1, b"another").encode())
         first = form.part(image, home.layout.grid(), form.SECTOR)
         strike = random.choice((bytes(form.SECTOR), b"\xa5" * form.SECTOR, first, other))
         put(image, at, strike)
@@ -66,6 +66,8 @@ def scrubbed(t: Try) -> None:
     t.binary.put(data)
     before = asked(t, "scrub", data, ["scrub"])
     t.counts["blocks found failing"] += before.text.count(b"failing ")
+    # The tour's open has raised the boot.
+    data = before.data
     m, lines = generate.machine_of(data), []
     for _ in range(random.randint(5, 40)):
         line = b"scrub" if random.random() < 0.7 else generate.line_of(random, m, 0.05)

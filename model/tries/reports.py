@@ -5,7 +5,7 @@ from typing import Optional
 from . import recovery, script
 from .form import Image
 from .grid import SYNC, answer
-from .machine import Machine, mends
+from .machine import Machine, opens
 from .recovery import Found, View
 from .script import DONE, FOUND, Outcome
 
@@ -55,11 +55,12 @@ def opened(data: Optional[bytes]) -> tuple:
 
 
 def recover(data: Optional[bytes]) -> Outcome:
-    """Opens and mends, and prints a summary."""
+    """Opens, and prints a summary."""
     data, found, refused = opened(data)
     if refused:
         return refused
-    return Outcome(data, DONE, [SYNC, *mends(found), *told(summary(found.view))], [(found.view, 0, 0)])
+    machine = Machine(found, Image(data))
+    return Outcome(data, DONE, [*opens(found, machine), *told(summary(found.view))], [(found.view, 0, 0)], machine)
 
 
 def inspect(data: Optional[bytes]) -> Outcome:
@@ -71,10 +72,11 @@ def inspect(data: Optional[bytes]) -> Outcome:
 
 
 def scrub(data: Optional[bytes]) -> Outcome:
-    """Opens and mends, and prints each referenced block that fails."""
+    """Opens, and prints each referenced block that fails."""
     data, found, refused = opened(data)
     if refused:
         return refused
     machine = Machine(found, Image(data))
+    events = opens(found, machine)
     lines = tour(machine)
-    return Outcome(data, DONE if len(lines) == 1 else FOUND, [SYNC, *mends(found), *told(lines)], [(found.view, 0, 0)], machine)
+    return Outcome(data, DONE if len(lines) == 1 else FOUND, events + told(lines), [(found.view, 0, 0)], machine)

@@ -8,7 +8,7 @@ from .common import Try, asked, session
 from .copy_rows import A5, BLANK, FIRST, HOME, TOP, file_of, four
 from .form import SECTOR, SMALL, Home
 from .knows import knows
-from .worked import NEW, answers, followed, forged, ops, spoiled, struck, with_copies, with_headers
+from .worked import NEW, answers, at_rest, followed, forged, ops, spoiled, struck, with_copies, with_headers
 
 USAGE = report_rows.USAGE
 ONE = "16,4096,1,4096"
@@ -28,6 +28,24 @@ EMPTY = {"kind": units.RESERVED, "slot": 9}
 IN_GRID = {"kind": units.BLOCK, "op": 64, "block_kind": 1}
 OUTSIDE = {"kind": units.BLOCK, "op": 65, "block_kind": 1}
 TWO = "append 1 1 -\nreply 1 -\nappend 2 1 -\n"
+# What a superblock names of a file behind one op: its prepare and the reply to it.
+_PREPARE = units.prepare(HOME, 1, bytes(16), 1, 1, 1, b"", 0, 1)
+_REPLY = units.reply(HOME, 1, _PREPARE.checksum, recovery.Session(1, 1, 1), 0, b"", 1, 1)
+ONE_OP = superblock.naming(_PREPARE.checksum, [(0, _REPLY.checksum)])
+
+
+def twice(text: str) -> bytes:
+    """A new file behind this script, which was opened once more."""
+    return script.run(struck(NEW, text), b"").data
+
+
+def again_lost() -> bytes:
+    """A file whose second prepare was lost with its header and is there again, behind another one of its op and of a later boot."""
+    first = struck(NEW, TWO)
+    lost = script.run(at_rest(first, (4, A5), (10, A5)), b"").data
+    return at_rest(script.run(lost, b"append 2 1 bb\n").data, (10, form.sector(first, 10)))
+
+
 FIRST_SESSION = ("""append 5 1 -
 reply 1 aa
 lookup 5
@@ -137,14 +155,17 @@ ROWS = (
     (struck(forged(NEW, ops(2), LATER_OP, form.WAL_PREPARES, 3), "", (0, A5)), "run", "",
      "refused Damaged Superblock 1 Stale\n", 4),
     (forged(NEW, ops(2), LATER_SEQUENCE, form.CLIENT_REPLIES, 3), "run", "", "refused Damaged Superblock 0 Stale\n", 4),
-    (forged(NEW, ops(2), LATER_MARK, form.CLIENT_REPLIES, 3), "run", "", "refused Damaged WalPrepares 3 Blank\n", 4),
-    (forged(NEW, ops(32), LATER_MARK, form.CLIENT_REPLIES, 3), "run", "", "refused Damaged WalPrepares 1 Stale\n", 4),
+    (forged(NEW, ops(2), LATER_MARK, form.CLIENT_REPLIES, 3, boot=1), "run", "", "refused Damaged WalPrepares 3 Blank\n", 4),
+    (forged(NEW, ops(32), LATER_MARK, form.CLIENT_REPLIES, 3, boot=1), "run", "", "refused Damaged WalPrepares 1 Stale\n", 4),
+    # Of an earlier boot it says nothing of the head, and neither does one of version 1.
+    (forged(twice(ops(2)), "", LATER_MARK, form.CLIENT_REPLIES, 3, boot=1), "run", "append 1 3 -", "appended 3\n", 0),
+    (forged(NEW, ops(2), LATER_MARK, form.CLIENT_REPLIES, 3), "run", "append 1 3 -", "appended 3\n", 0),
     (forged(NEW, ops(2), IN_GRID, form.WAL_PREPARES, 2), "run", "", "refused Damaged WalPrepares 2 Elsewhere Grid 64\n", 4),
     (forged(NEW, TWO, IN_GRID, form.CLIENT_REPLIES, 0), "run", "",
      "refused Damaged ClientReplies 0 Elsewhere Grid 64\n", 4),
     (forged(NEW, TWO, OUTSIDE, form.CLIENT_REPLIES, 0), "run", "", "refused Damaged ClientReplies 0 Garbled\n", 4),
     (forged(NEW, ops(2), IN_GRID, form.WAL_HEADERS, 2), "run", "append 1 3 -", "appended 3\n", 0),
-    # Units of version 2: of a boot in either ring or in a reply slot, and a reserved header, which is of none.
+    # Units of a later boot, in either ring or in a reply slot, and a reserved header, which is of none.
     (forged(NEW, ops(2), SECOND_OP, form.WAL_HEADERS, 2, boot=3), "run", "", "refused Damaged Superblock 0 Stale\n", 4),
     (forged(NEW, ops(2), SECOND_OP, form.WAL_PREPARES, 2, boot=3), "run", "", "refused Damaged Superblock 0 Stale\n", 4),
     (forged(NEW, ops(2), FIRST_OP, form.CLIENT_REPLIES, 3, boot=3), "run", "", "refused Damaged Superblock 0 Stale\n", 4),
@@ -169,8 +190,15 @@ ROWS = (
     # A last header without its prepare, a last prepare without its header, and a header of another prepare.
     (struck(NEW, TWO, (10, A5)), "run", "", "refused Damaged WalPrepares 2 Garbled\n", 4),
     (struck(NEW, TWO, (4, NEW[4 * SECTOR : 5 * SECTOR])), "run", "reply 2 aa", "replied 2\n", 0),
-    (forged(NEW, ops(2), SECOND_OP, form.WAL_HEADERS, 2),
-     "run", "", "refused Damaged WalPrepares 2 Stale\n", 4),
+    (forged(NEW, ops(2), SECOND_OP, form.WAL_HEADERS, 2, boot=1), "run", "", "refused Damaged WalPrepares 2 Stale\n", 4),
+    # What an open found is named, and then known by its checksum alone: another header is mended, and another prepare is damage.
+    (forged(twice(ops(2)), "", SECOND_OP, form.WAL_HEADERS, 2, boot=1), "run", "append 1 3 -", "appended 3\n", 0),
+    (forged(twice(ops(2)), "", SECOND_OP, form.WAL_PREPARES, 2, boot=1), "run", "", "refused Damaged WalPrepares 2 Stale\n", 4),
+    (struck(twice(ops(2)), "", (10, A5), (8, A5), (4, A5)), "run", "", "refused Damaged WalPrepares 2 Garbled\n", 4),
+    (struck(twice(ops(2)), "", (8, A5), (4, A5)), "run", "", "refused Damaged WalPrepares 1 Garbled\n", 4),
+    (struck(twice(TWO), "", (4, A5), (10, A5)), "run", "reply 2 -\n", "refused Damaged WalPrepares 2 Garbled\n", 4),
+    (struck(twice(ops(2)), "", (70, A5)), "run", "", "refused Damaged ClientReplies 0 Garbled\n", 4),
+    (again_lost(), "run", "reply 2 -\n", "refused Damaged WalPrepares 2 Stale\n", 4),
     # A body that isn't the one of its checksum, and a unit of another cluster.
     (spoiled(NEW, TWO.replace("2 1 -", "2 1 aa"), SECTOR * 10 + 256), "run", "", "refused Damaged WalPrepares 2 Garbled\n", 4),
     (forged(NEW, ops(2), {"kind": units.PREPARE, "op": 4, "slot": 4, "checkpoint": 1, **CLIENT}, form.WAL_PREPARES, 2,
@@ -178,11 +206,13 @@ ROWS = (
     # What later prepares, an earlier reply, and the superblock's count of replies show.
     (struck(NEW, EIGHT[:56], (10, A5), (4, A5)), "run", "", "refused Damaged WalPrepares 2 Garbled\n", 4),
     (struck(NEW, ops(2) + "append 2 1 -", (70, EARLIER)), "run", "", "refused Damaged ClientReplies 0 Stale\n", 4),
-    (four(sequence=2, head=1, replies=1) + struck(NEW, ops(1), (70, A5))[4 * SECTOR :], "run", "",
+    (four(sequence=2, boot=1, head=1, replies=1, behind=ONE_OP) + struck(NEW, ops(1), (70, A5))[4 * SECTOR :], "run", "",
      "refused Damaged ClientReplies 0 Garbled\n", 4),
+    (four(sequence=2, boot=1, head=1, replies=1, behind=ONE_OP) + struck(NEW, ops(1))[4 * SECTOR :], "run", "lookup 1",
+     "reply 1 client 1 request 1 mark 1 checkpoint 1 body -\n", 0),
     (NEW, "run", "append 1 1 -\nappend 2 1 -\nreply 2 -", "appended 1\nappended 2\nrefused ReplyOrder expected 1\n", 0),
     # A superblock that has seen an op or a reply which isn't there.
-    (with_headers(four(head=8)), "run", "", "refused Damaged WalPrepares 1 Blank\n", 4),
+    (with_headers(four(head=8)), "run", "", "refused Damaged WalPrepares 8 Blank\n", 4),
     (with_headers(four(head=1, replies=1)), "run", "", "refused Damaged WalPrepares 1 Blank\n", 4),
     *copy_rows.ROWS,
 )
@@ -222,9 +252,10 @@ def torn_rows(t: Try) -> None:
 
 def example() -> None:
     """Bytes that are known: of the prepare of op 1 for client 5, of the superblock, and the sizes of files."""
-    one = units.prepare(HOME, bytes(16), 5, 1, 1, b"", 0, 1)
+    one = units.prepare(HOME, 1, bytes(16), 5, 1, 1, b"", 0, 1)
     listed = {16: "e3b0c44298fc1c149afbf4c8996fb924", 32: "07", 64: "05", 80: "0100000000000000", 88: "0100000000000000",
-              104: "0100000000000000", 112: "00010000", 116: "01000000", 120: "02000100"}
+              104: "0100000000000000", 112: "00010000", 116: "01000000", 120: "02000200", 124: "0100000000000000",
+              132: "0100000000000000", 140: "0100000000000000"}
     wanted = bytearray(form.HEADER)
     for at, digits in listed.items():
         wanted[at : at + len(digits) // 2] = bytes.fromhex(digits)
@@ -257,7 +288,8 @@ def torn_headers() -> None:
     expect("sequence, head, replies, sessions", (1, 17, 16, 1), got)
     mended = script.run(torn, b"")
     expect("what is mended afterwards", ((), view), (recovery.found(mended.data).to_mend, recovery.view_of(mended.data)))
-    expect("mending", ["sync", "write", "sync"], [event.kind for event in mended.events])
+    boot = ["write", "sync"] * form.COPIES
+    expect("mending, and the boot update", ["sync", "write", "sync", *boot], [event.kind for event in mended.events])
 
 
 example()

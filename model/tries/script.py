@@ -8,7 +8,7 @@ from . import form, recovery, superblock, units
 from .form import COPIES, Home, Image, Layout
 from .grid import SYNC, Event, answer, copy_of
 from .knows import knows
-from .machine import Machine, mends
+from .machine import Machine, opens
 
 BUDGET = 2**32
 NUMBER_OF_LINE, BODY = rb"(0|[1-9][0-9]*)", rb"(-|(?:[0-9a-fA-F]{2})+)"
@@ -135,17 +135,18 @@ def state(data: bytes, events: list) -> bytes:
 
 
 def run(data: Optional[bytes], text: bytes, pace: tuple = (0, 0, 0)) -> Outcome:
-    """The word `run`, or `paced`: the copies are read, the barrier, the file is found and mended, then the script is executed."""
+    """The word `run`, or `paced`: the copies are read, the barrier, the file is found and mended, its boot is raised, and then the script
+    is executed."""
     data = data or b""
     opened = recovery.found(data)
     if opened.refusal:
         return refused(data, opened.refusal, [] if opened.early else [SYNC])
-    return execute(data, [SYNC] + mends(opened), Machine(opened, Image(data)), text, pace)
+    machine = Machine(opened, Image(data))
+    return execute(data, opens(opened, machine), machine, text, pace)
 
 
 def execute(data: bytes, events: list, machine: Machine, text: bytes, pace: tuple = (0, 0, 0)) -> Outcome:
     """A script behind the events of an open, with work of this pace behind each of its lines."""
-    machine.writes(events)
     spans, taken, events = [(machine.view(), 0, 0)], 0, list(events)
     accepted = 0
     for index, (line, ended) in enumerate(lines(text), 1):

@@ -85,7 +85,7 @@ def answers_in_time(t: Try) -> None:
     home = generate.home(t.random)
     data = script.fresh(home)
     t.binary.put(data)
-    m = generate.machine_of(data)
+    m, data = generate.opened_file(data)
     process = t.binary.start()
     try:
         for number in range(t.random.randint(1, min(34, 2 + 2**21 // home.layout.message_size))):
@@ -123,7 +123,8 @@ def struck_within(t: Try) -> None:
     data = generate.image(t.random, 20, home, 0)
     t.binary.put(data)
     process = t.binary.start()
-    m, past = generate.machine_of(data), [data]
+    m, data = generate.opened_file(data)
+    past = [data]
     try:
         # The first answer shows that the file has been read.
         process.stdin.write(b"prepare 0\n")

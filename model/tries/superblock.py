@@ -20,6 +20,24 @@ assert FRONT.size == 32 and FRONT.size + CONTENT.size == SECTOR
 # A copy that doesn't count has the text of its class in place of its content.
 
 
+class Recorded(NamedTuple):
+    """What a superblock records of the state beside its checkpoint: the boot, the head with the checksum of its prepare, how many replies
+    are stored, and the checksum of each by its session's place."""
+
+    boot: int = 0
+    head: int = 0
+    head_checksum: bytes = bytes(16)
+    replies: int = 0
+    stored: tuple = ()
+
+
+def naming(head_checksum: bytes, stored=()) -> bytes:
+    """What stands behind the boot in version 2: the head's checksum, and those of the stored replies by place."""
+    by_place = dict(stored)
+    checks = b"".join(by_place.get(place, bytes(16)) for place in range(64))
+    return (head_checksum + bytes(16) + checks).ljust(SECTOR - BEHIND, b"\0")
+
+
 class Content(NamedTuple):
     """What a copy says. Checksums and zeros are bytes, all else are numbers."""
 
@@ -46,6 +64,16 @@ class Content(NamedTuple):
 
     def home(self) -> Home:
         return Home(self.layout(), self.cluster)
+
+    def recorded(self) -> Recorded:
+        """What it records beside its checkpoint, in version 2."""
+        stored = tuple((place, one) for place, one in enumerate(self.reply_checksums()) if any(one))
+        return Recorded(self.boot, self.head, self.head_checksum(), self.replies, stored)
+
+    def recording(self, state: Recorded):
+        """The same checkpoint with this recorded beside it."""
+        behind = naming(state.head_checksum, state.stored)
+        return self._replace(boot=state.boot, head=state.head, replies=state.replies, behind=behind)
 
     def head_checksum(self) -> bytes:
         return self.behind[:HEAD_CHECKSUM]
@@ -79,7 +107,7 @@ class Content(NamedTuple):
 def first(home: Home) -> Content:
     """The superblock of a new file."""
     slots, message_size, clients, block_size, blocks = home.layout
-    return Content(1, slots, message_size, clients, home.cluster, block_size, blocks)
+    return Content(2, slots, message_size, clients, home.cluster, block_size, blocks)
 
 
 def decode(sector: bytes) -> Optional[tuple]:
@@ -160,7 +188,7 @@ def second_tests(c: Content) -> Iterator[tuple]:
     yield "Replies", spare, spare is not None
 
 
-def fault(c: Content, version: int = 1) -> Optional[str]:
+def fault(c: Content, version: int = 2) -> Optional[str]:
     """Why a chosen content is refused by its fields, where this version is asked for."""
     if c.version != version:
         return f"Version found {c.version}"
@@ -182,7 +210,7 @@ class Opened(NamedTuple):
         return [place for place in range(COPIES) if place not in self.members]
 
 
-def opened(data: bytes, version: int = 1) -> Opened:
+def opened(data: bytes, version: int = 2) -> Opened:
     """What an open finds in the copies of a file, where this version is asked for."""
     copies = all_seen(data)
     content = choose(copies)

@@ -7,7 +7,7 @@ from typing import NamedTuple, Optional, Union
 
 from . import superblock, units
 from .form import HEADER, LIMIT, Home, Layout, number
-from .superblock import Content
+from .superblock import Content, Recorded
 from .units import NO_BYTES, TRAILER, Unit
 
 # The bytes of the longest root, of a session in the text, and of a checksum.
@@ -28,8 +28,6 @@ class Checkpoint(NamedTuple):
     sequence: int
     op: int
     op_checksum: bytes
-    head: int
-    replies: int
     root: bytes = b""
     sessions: tuple = ()
     references: tuple = ()
@@ -43,13 +41,13 @@ class Checkpoint(NamedTuple):
         front = word(len(self.root), 4) + self.root + word(len(self.sessions), 4) + sessions
         return front + word(bits, (layout.blocks + 7) // 8) + checks
 
-    def content(self, home: Home) -> Content:
-        """The superblock that has it."""
+    def content(self, home: Home, state: Recorded) -> Content:
+        """The superblock that has it, with this recorded beside it."""
         address, checksum = self.chain[-1] if self.chain else (0, NO_BYTES)
         return superblock.first(home)._replace(
-            sequence=self.sequence, op=self.op, op_checksum=self.op_checksum, head=self.head, replies=self.replies,
-            trailer_address=address, trailer_checksum=checksum, trailer_size=len(self.text(home.layout)) if address else 0,
-        )
+            sequence=self.sequence, op=self.op, op_checksum=self.op_checksum, trailer_address=address, trailer_checksum=checksum,
+            trailer_size=len(self.text(home.layout)) if address else 0,
+        ).recording(state)
 
 
 def word(value: int, size: int) -> bytes:
@@ -67,12 +65,12 @@ def pieces(text: bytes, layout: Layout) -> list:
     return [text[at : at + cap] for at in range(0, len(text), cap)]
 
 
-def sealed(home: Home, text: bytes, addresses: list, sequence: int) -> list:
-    """The trailer blocks of a text at these addresses."""
+def sealed(home: Home, boot: int, text: bytes, addresses: list, sequence: int) -> list:
+    """The trailer blocks of a text at these addresses, made in a boot."""
     chain: list = []
     for index, piece in enumerate(pieces(text, home.layout)):
         before = chain[-1] if chain else None
-        chain.append(units.trailer(home, addresses[index], before, index, sequence, piece))
+        chain.append(units.trailer(home, boot, addresses[index], before, index, sequence, piece))
     return chain
 
 
@@ -148,7 +146,7 @@ class Trailers:
 
     def checkpoint(self, shown, content: Content) -> Union[str, Checkpoint]:
         """The checkpoint that a superblock names, where `shown` gives what an address shows; or the first refusal."""
-        bare = Checkpoint(content.sequence, content.op, content.op_checksum, content.head, content.replies)
+        bare = Checkpoint(content.sequence, content.op, content.op_checksum)
         if content.trailer_address == 0:
             return bare
         chain = self.chain(shown, content)
@@ -159,15 +157,16 @@ class Trailers:
         if broken:
             return f"BadField {broken}"
         full = told(bare, text, layout)._replace(chain=tuple((one.op, one.checksum) for one in chain))
-        return self.contradiction(full) or full
+        return self.contradiction(full, content.replies) or full
 
-    def contradiction(self, one: Checkpoint) -> Optional[str]:
-        """Why the parts of a checkpoint don't go together: a block of the chain is referenced, or an op waits for nobody."""
+    def contradiction(self, one: Checkpoint, replies: int) -> Optional[str]:
+        """Why the parts of a checkpoint don't go together, beside so many replies: a block of the chain is referenced, or an op waits for
+        nobody."""
         both = sorted({address for address, _ in one.chain} & {address for address, _ in one.references})
         if both:
             return f"BadField TrailerChain {both[0]}"
         ops = {session.op for session in one.sessions}
-        waits = (op for op in range(one.replies + 1, one.op + 1) if op not in ops)
+        waits = (op for op in range(replies + 1, one.op + 1) if op not in ops)
         return next((f"BadField Pending {op}" for op in waits), None)
 
 

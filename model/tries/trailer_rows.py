@@ -88,7 +88,7 @@ def chains() -> list:
         bad("BadField TrailerChain 4", addresses=(4, 9), links={0: {"mark": 1, "request": 4}}, **two),
         # The chain is walked back from its last block: what that one has comes first.
         bad("BadField TrailerChain 9", addresses=(4, 9), links={0: {"checkpoint": 3}, 1: {"checkpoint": 3}}, **two),
-        (with_blocks(HOME, forged(HOME, NONE), [units.block(HOME, 1, 1, b"")]), "run", "", "refused Damaged Grid 1 Stale\n", 4),
+        (with_blocks(HOME, forged(HOME, NONE), [units.block(HOME, 1, 1, 1, b"")]), "run", "", "refused Damaged Grid 1 Stale\n", 4),
     ]
 
 
@@ -100,10 +100,10 @@ def known_block(one: units.Unit) -> bytes:
 
 def rows() -> list:
     """All of them; and trailers that open."""
-    trailer_block = changed(units.trailer(HOME, 5, None, 0, 2, b"\7"))
+    trailer_block = changed(units.trailer(HOME, 1, 5, None, 0, 2, b"\7"))
     seven = with_sessions((7, 3, 38), (8, 1, 40), (9, 1, 39))
     waits = {"op": 40, "head": 40, "replies": 37, "op_checksum": A5[:16]}
-    odd_block = forged(HOME, NONE, trailer_checksum=units.block(HOME, 1, 1, NONE).checksum)
+    odd_block = forged(HOME, NONE, trailer_checksum=units.block(HOME, 1, 1, 1, NONE).checksum)
     return [
         *texts(), *chains(),
         # Ops that a checkpoint covers and that wait are those of sessions.
@@ -116,15 +116,15 @@ def rows() -> list:
         # A stored reply of a session of the checkpoint is asked for.
         refusal("Damaged ClientReplies 0 Blank", HOME, seven, **{**waits, "replies": 38}),
         # A block stands where the trailer block is named, with that checksum.
-        (with_blocks(HOME, odd_block, [units.block(HOME, 1, 1, NONE)]), "run", "", "refused Damaged Grid 1 Stale\n", 4),
+        (with_blocks(HOME, odd_block, [units.block(HOME, 1, 1, 1, NONE)]), "run", "", "refused Damaged Grid 1 Stale\n", 4),
         # Referenced units are looked at when they are read, and then their kind too.
-        (known_block(units.block(HOME, 64, 255, b"\7")), "run", "read 64\nread 63\n",
+        (known_block(units.block(HOME, 1, 64, 255, b"\7")), "run", "read 64\nread 63\n",
          "block 64 kind 255 body 07\nrefused NotLive\n", 0),
-        (with_blocks(HOME, known_block(units.block(HOME, 64, 1, b"")), [units.block(HOME, 64, 1, b"\7")]), "run", "read 64\n",
+        (with_blocks(HOME, known_block(units.block(HOME, 1, 64, 1, b"")), [units.block(HOME, 1, 64, 1, b"\7")]), "run", "read 64\n",
          "refused Damaged Grid 64 Stale\n", 0),
         (known_block(trailer_block), "run", "read 5\n", "refused Damaged Grid 5 Stale\n", 0),
         # Of the address of a block that is referenced nothing is given out.
-        (known_block(units.block(HOME, 2, 1, b"")), "run", "block 1 -\nblock 1 -\nrelease 2\nblock 1 -\n",
+        (known_block(units.block(HOME, 1, 2, 1, b"")), "run", "block 1 -\nblock 1 -\nrelease 2\nblock 1 -\n",
          "wrote 3\nwrote 4\nreleased 2\nwrote 5\n", 0),
         # Two trailer blocks that are sound; of a session that they have the reply is asked for.
         refusal("Damaged ClientReplies 0 Blank", WIDE, LONG, (4, 9), **AHEAD),

@@ -156,7 +156,7 @@ def seal(fields: dict, body: bytes = b"") -> bytes:
 
 
 def fields_of(home: Home, kind: int, body: bytes = b"", **others) -> dict:
-    """The fields of a unit of this file in version 1, without its checksums."""
+    """The fields of a unit of this file in version 1, without its checksums; `in_boot` makes it one of version 2."""
     return dict(NOTHING, cluster=number(home.cluster), size=HEADER + len(body), kind=kind, version=1, **others)
 
 
@@ -166,38 +166,40 @@ def in_boot(f: dict, boot: int) -> dict:
     return dict(f, version=2, boot=0 if f["kind"] == RESERVED else boot, group=group, group_last=group)
 
 
-def prepare(home: Home, parent: bytes, client: int, op: int, request: int, body: bytes, mark: int, checkpoint: int) -> Unit:
-    """A prepare."""
-    f = fields_of(home, PREPARE, body, parent=parent, client=number(client), op=op, request=request, mark=mark,
-                  checkpoint=checkpoint, slot=op % home.layout.slots)
-    whole = seal(f, body)
+def made(f: dict, boot: int, body: bytes) -> Unit:
+    """The unit of these fields that is made in a boot."""
+    whole = seal(in_boot(f, boot), body)
     return Unit(whole[:HEADER], body)
 
 
-def reply(home: Home, parent: bytes, session, place: int, body: bytes, mark: int, checkpoint: int) -> Unit:
+def prepare(home: Home, boot: int, parent: bytes, client: int, op: int, request: int, body: bytes, mark: int, checkpoint: int) -> Unit:
+    """A prepare, which is a group by itself."""
+    f = fields_of(home, PREPARE, body, parent=parent, client=number(client), op=op, request=request, mark=mark,
+                  checkpoint=checkpoint, slot=op % home.layout.slots)
+    return made(f, boot, body)
+
+
+def reply(home: Home, boot: int, parent: bytes, session, place: int, body: bytes, mark: int, checkpoint: int) -> Unit:
     """The reply to the last request of the session at this place."""
     f = fields_of(home, REPLY, body, parent=parent, client=number(session.client), op=session.op, request=session.request,
                   mark=mark, checkpoint=checkpoint, slot=place)
-    whole = seal(f, body)
-    return Unit(whole[:HEADER], body)
+    return made(f, boot, body)
 
 
-def block(home: Home, address: int, block_kind: int, body: bytes) -> Unit:
+def block(home: Home, boot: int, address: int, block_kind: int, body: bytes) -> Unit:
     """A block of the grid."""
-    whole = seal(fields_of(home, BLOCK, body, op=address, block_kind=block_kind), body)
-    return Unit(whole[:HEADER], body)
+    return made(fields_of(home, BLOCK, body, op=address, block_kind=block_kind), boot, body)
 
 
-def trailer(home: Home, address: int, before: Optional[Unit], index: int, sequence: int, piece: bytes) -> Unit:
+def trailer(home: Home, boot: int, address: int, before: Optional[Unit], index: int, sequence: int, piece: bytes) -> Unit:
     """The trailer block with this index, behind the one before it."""
     linked = {"parent": before.checksum, "request": before.op} if before else {}
-    whole = seal(fields_of(home, TRAILER, piece, op=address, mark=index, checkpoint=sequence, **linked), piece)
-    return Unit(whole[:HEADER], piece)
+    return made(fields_of(home, TRAILER, piece, op=address, mark=index, checkpoint=sequence, **linked), boot, piece)
 
 
 def reserved(home: Home, slot: int) -> bytes:
-    """The reserved header of a slot."""
-    return seal(fields_of(home, RESERVED, slot=slot))
+    """The reserved header of a slot, which is of no boot."""
+    return seal(in_boot(fields_of(home, RESERVED, slot=slot), 0))
 
 
 def read(raw: bytes, home: Home, place: Place) -> Union[Unit, str]:

@@ -37,10 +37,14 @@ def torn(data: bytes, text: str, at: int) -> bytes:
 
 def struck(data: bytes, text: str, *strikes) -> bytes:
     """A file after a script, with sectors that show these bytes, or what another one showed after the script."""
-    after = script.run(data, text.encode()).data
-    events = [script.Event("write", SECTOR * at, form.sector(after, what) if isinstance(what, int) else what)
+    return at_rest(script.run(data, text.encode()).data, *strikes)
+
+
+def at_rest(data: bytes, *strikes) -> bytes:
+    """A file that isn't opened before its sectors show these bytes, or what another one showed."""
+    events = [script.Event("write", SECTOR * at, form.sector(data, what) if isinstance(what, int) else what)
               for at, what in strikes]
-    return script.state(after, events)
+    return script.state(data, events)
 
 
 def with_copies(data: bytes) -> bytes:
@@ -55,7 +59,7 @@ def spoiled(data: bytes, text: str, at: int) -> bytes:
 
 
 def forged(data: bytes, text: str, unit: dict, zone: str, index: int, home: Home = HOME, boot: int = 0) -> bytes:
-    """A file after a script, with a unit of these fields at a place; with a boot it is of version 2."""
+    """A file after a script, with a unit of these fields at a place; with a boot it is of version 2, and else of version 1."""
     after = script.run(data, text.encode()).data
     fields = units.fields_of(home, **unit)
     whole = units.seal(units.in_boot(fields, boot) if boot else fields)
@@ -67,7 +71,7 @@ def followed(text: str, home: Home = HOME, **changes) -> bytes:
     after = script.run(script.fresh(home), text.encode()).data
     m = generate.machine_of(after)
     place = m.place_of(1)
-    one = units.prepare(home, m.tail[-1].checksum, 1, m.head() + 1, m.sessions[place].request + 1, b"", m.replies, 1)
+    one = units.prepare(home, m.found_boot, m.tail[-1].checksum, 1, m.head() + 1, m.sessions[place].request + 1, b"", m.replies, 1)
     whole = units.seal(dict(one.fields(), **changes))
     slot = one.op % home.layout.slots
     places = (Place(form.WAL_PREPARES, slot), Place(form.WAL_HEADERS, slot))

@@ -4,8 +4,7 @@ from typing import Iterator, Optional
 
 from . import reports
 from .form import Image
-from .grid import SYNC
-from .machine import Machine, mends
+from .machine import Machine, opens
 from .script import DONE, Outcome, does
 
 WORDS = ("appended", "replied", "wrote", "released")
@@ -50,13 +49,12 @@ def commands(seed: int, count: int, clients: int) -> Iterator[tuple]:
 
 
 def work(data: Optional[bytes], seed: int, count: int) -> Outcome:
-    """Opens and mends, executes the commands, and prints the counts."""
+    """Opens, executes the commands, and prints the counts."""
     data, found, refused = reports.opened(data)
     if refused:
         return refused
-    events, spans = [SYNC, *mends(found)], [(found.view, 0, 0)]
     machine = Machine(found, Image(data))
-    machine.writes(events)
+    events, spans = opens(found, machine), [(found.view, 0, 0)]
     lines = counted(machine, seed, count, events, spans)
     return Outcome(data, DONE, events + reports.told(lines), spans, machine)
 

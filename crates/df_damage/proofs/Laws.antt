@@ -6,12 +6,12 @@ pub use Rattle.df_damage.proofs.Opened.{checkpoint_stays, found_was_had, headers
 pub use Rattle.df_damage.proofs.Tails.{whole_tail_is_found}
 pub use Rattle.df_damage.proofs.Refused.{probe_is_of_hurt_as, refusals_are_of_damage, refusals_blame_hurt, spent_is_the_files, superblock_is_hurt}
 pub use Rattle.df_damage.proofs.Answered.{answer_is_of_hurt_as}
--- ---- where version 1 is asked for
-pub use Rattle.df_damage.proofs.Firsts.{answer_is_of_hurt, found_is_not_refused, headers_may_be_hurt, probe_is_of_hurt, two_copies_are_enough}
+-- ---- where version 2 is asked for, as an open does
+pub use Rattle.df_damage.proofs.Seconds.{answer_is_of_hurt, found_is_not_refused, found_is_usable, headers_may_be_hurt, probe_is_of_hurt, two_copies_are_enough}
 -- ---- what was written
 pub use Rattle.df_damage.proofs.Written.{had_is_written, opened_is_written}
 -- ---- logs begun anew
-pub use Rattle.df_damage.proofs.Begun.{added_is_told, honest_stays, same_goes_on, stops_alike}
+pub use Rattle.df_damage.proofs.Begun.{added_is_told, begun_is_honest, honest_stays, same_goes_on, stops_alike}
 pub use Rattle.df_damage.proofs.Started.{hurt_may_begin}
 -- ---- what an open finds
-pub use Rattle.df_recovery.proofs.Laws.{asked_noted, course_on, filter_more, head_found, numbered_by, one_super, plain_super, same_file, slot_mends_more, super_is_written, written_is}
+pub use Rattle.df_recovery.proofs.Laws.{asked_noted, boot_made, boot_may_record, course_on, filter_more, head_found, level_beyond, numbered_by, one_super, recorded_content, recorded_is_super, second_super, same_file, slot_mends_more, super_as, super_is_written, super_is_written_as, written_as, written_is}

@@ -14,5 +14,5 @@ pub mod Begun
 pub mod Started
 pub mod Answered
 pub mod Left
-pub mod Firsts
+pub mod Seconds
 pub mod Laws

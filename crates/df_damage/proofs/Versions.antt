@@ -9,11 +9,7 @@ pub known_file : (version : ℕ) (file : DataFile) → IsKnown version → file.
 known_file version file (inl one) of = inl (of ∙ one)
 known_file version file (inr two) of = inr (of ∙ two)
 
--- in version 1 no boot is spent
-pub first_unspent : (view : View) → IsUnspent 1 view
-first_unspent view two = absurd (omega (arith, two))
-
--- so a boot that isn't spent can be raised, in both
+-- a boot that isn't spent can be raised, in both: in version 1 there is none
 pub below_spent : (version : ℕ) (file : DataFile) (view : View) → IsKnown version → file.version ≡ version → IsUnspent version view → PassesTests (shape file) view.checkpoint.content → boot_of view < 2 ^ 62
 below_spent version file view (inl one) of unspent tests = omega (arith, (tests.of.one (tests.version ∙ of ∙ one)).0)
 below_spent version file view (inr two) of unspent tests = unspent two

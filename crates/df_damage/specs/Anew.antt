@@ -7,7 +7,6 @@ use Rattle.df_disk.specs.Adds.{AddsPart, after_all}
 use Rattle.df_theory.specs.Found.{IsClean, IsFound}
 use Rattle.df_theory.specs.View.{View}
 use Rattle.df_units.specs.Bytes.{unit_at}
-use Rattle.df_model.specs.Views.{KeepsCheckpoint}
 use Rattle.df_recovery.specs.Below.{DataFile, shape}
 use Rattle.df_recovery.specs.Plan.{AreDistinct}
 use Rattle.df_damage.specs.Disks.{MayBeHurtAs}
@@ -77,5 +76,5 @@ StopsAlike =
 -- Whatever of a file is hurt, a log may be begun anew at what it shows, where an open finds the file's own checkpoint there.
 abbrev pub HurtMayBegin : Type 0
 HurtMayBegin =
-    (version : ℕ) (file : DataFile) (view found : View) (t : Told) → MayBeHurtAs version file view t → IsFound (shape file) (unit_at file.layout file.cluster t.shown) found → KeepsCheckpoint view found
+    (version : ℕ) (file : DataFile) (view found : View) (t : Told) → MayBeHurtAs version file view t → IsFound (shape file) (unit_at file.layout file.cluster t.shown) found → (found.checkpoint ≡ view.checkpoint)
     → MayBegin file found t.shown

@@ -4,7 +4,6 @@ use Rattle.df_base.specs.Log.{Sync, add}
 use Rattle.df_disk.specs.Told.{Told}
 use Rattle.df_layout.specs.declared.layout.Layout.{Layout}
 use Rattle.df_layout.specs.declared.places.Zone.TheVariants.{Superblock, WalHeaders}
-use Rattle.df_model.specs.Views.{KeepsCheckpoint, KeepsView}
 use Rattle.df_model.specs.Work.{opened}
 use Rattle.df_model.specs.declared.errors.OpenError.{OpenError}
 use Rattle.df_model.specs.declared.errors.OpenError.TheVariants.{DiskFault}
@@ -32,10 +31,10 @@ pub record FindsHad (file : DataFile) (view : View) (t : Told) (s : State) : Typ
   pub is_found : IsFound (shape file) (unit_at file.layout file.cluster t.shown) found
   pub stands : Represents s (opened (shape file) (unit_at file.layout file.cluster t.shown) found)
   pub had : WasHad file (add Sync t.log) found
-  pub checkpoint : IsAtRest file t.log → HasTwoCopies t → KeepsCheckpoint view found
-  pub begins : KeepsCheckpoint view found → MayBegin file found t.shown
+  pub checkpoint : IsAtRest file t.log → HasTwoCopies t → (found.checkpoint ≡ view.checkpoint)
+  pub begins : (found.checkpoint ≡ view.checkpoint) → MayBegin file found t.shown
   pub headers : IsUnhurtZone file.layout t WalHeaders → HasEachHeader file t found
-  pub whole : IsNeedless file t → KeepsView view found
+  pub whole : IsNeedless file t → (found ≡ view)
 
 -- a refusal: it is of damage, and a sector of the file is hurt; at rest, while two copies stand, it blames what is hurt; and it doesn't come where what is hurt isn't needed
 pub record RefusesHurt (file : DataFile) (view : View) (t : Told) (e : OpenError) : Type 0 where
@@ -54,6 +53,6 @@ abbrev pub AnswerIsOfHurt : Type 0
 AnswerIsOfHurt =
     (version : ℕ) (file : DataFile) (view : View) (t : Told) (result : Result State OpenError) → MayBeHurtAs version file view t → IsUnspent version view → SurveysAs version file.layout t.shown result → AnswersHurt file view t result
 
--- so an open with rooms of this layout answers, which asks for version 1, where the disk tells what it shows
+-- so a survey with rooms of this layout answers, which asks for version 2, where the disk tells what it shows
 abbrev pub TellsHurt : Layout → Option Told → Result State OpenError → Type 0
-TellsHurt layout told result = (file : DataFile) (view : View) (t : Told) → told ≡ Some t → layout ≡ file.layout → MayBeHurt file view t → AnswersHurt file view t result
+TellsHurt layout told result = (file : DataFile) (view : View) (t : Told) → told ≡ Some t → layout ≡ file.layout → MayBeHurt file view t → IsUnspent 2 view → AnswersHurt file view t result

@@ -24,9 +24,9 @@ pub record MayBeHurtAs (version : ℕ) (file : DataFile) (view : View) (t : Told
   pub whole : IsImage t.shown
   pub no_chance : NoChanceOf (format_of file.layout file.cluster) (add Sync t.log) t.shown
 
--- where version 1 is asked for
+-- where version 2 is asked for, as an open does
 abbrev pub MayBeHurt : DataFile → View → Told → Type 0
-MayBeHurt file view t = MayBeHurtAs 1 file view t
+MayBeHurt file view t = MayBeHurtAs 2 file view t
 
 -- the file is at rest: its log leaves four equal superblock copies
 pub record IsAtRest (file : DataFile) (log : Log) : Type 0 where

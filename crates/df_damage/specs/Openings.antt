@@ -9,7 +9,6 @@ use Rattle.df_theory.specs.Tails.{In}
 use Rattle.df_theory.specs.Units.{Header, HeaderPlace, HeaderUnit, Message}
 use Rattle.df_theory.specs.View.{View}
 use Rattle.df_units.specs.Bytes.{unit_at}
-use Rattle.df_model.specs.Views.{KeepsCheckpoint, KeepsView}
 use Rattle.df_recovery.specs.Surveys.{IsOpenedAs}
 use Rattle.df_recovery.specs.Below.{DataFile, State, shape}
 use Rattle.df_damage.specs.Disks.{IsAtRest, MayBeHurtAs}
@@ -26,11 +25,11 @@ FoundWasHad = (version : ℕ) (file : DataFile) (view : View) (t : Told) (s : St
 pub record OpensAsLeftAs (version : ℕ) (file : DataFile) (view : View) (t : Told) : Type 0 where
   pub found : IsFound (shape file) (unit_at file.layout file.cluster t.shown) view
   pub opens : IsNotRefusedAs version file t.shown
-  pub finds : (s : State) → (is : IsOpenedAs version file.layout t.shown s) → (s.file ≡ file) × KeepsView view is.view
+  pub finds : (s : State) → (is : IsOpenedAs version file.layout t.shown s) → (s.file ≡ file) × (is.view ≡ view)
 
--- where version 1 is asked for
+-- where version 2 is asked for, as an open does
 abbrev pub OpensAsLeft : DataFile → View → Told → Type 0
-OpensAsLeft file view t = OpensAsLeftAs 1 file view t
+OpensAsLeft file view t = OpensAsLeftAs 2 file view t
 
 -- a file at rest of which at most two superblock copies are hurt, and nothing else, is opened as it was left
 abbrev pub TwoCopiesAreEnough : Type 0
@@ -44,7 +43,7 @@ HeadersMayBeHurt = (version : ℕ) (file : DataFile) (view : View) (t : Told) �
 -- at rest, with at most two copies and any other sectors hurt, a state that is found has the file's checkpoint
 abbrev pub CheckpointStays : Type 0
 CheckpointStays =
-    (version : ℕ) (file : DataFile) (view : View) (t : Told) (s : State) → MayBeHurtAs version file view t → IsAtRest file t.log → HasTwoCopies t → (is : IsOpenedAs version file.layout t.shown s) → KeepsCheckpoint view is.view
+    (version : ℕ) (file : DataFile) (view : View) (t : Told) (s : State) → MayBeHurtAs version file view t → IsAtRest file t.log → HasTwoCopies t → (is : IsOpenedAs version file.layout t.shown s) → (is.view.checkpoint ≡ view.checkpoint)
 
 -- the tail has the prepare of each header of the ring whose op is above the checkpoint
 abbrev pub HasEachHeader : DataFile → Told → View → Type 0
@@ -55,7 +54,7 @@ HasEachHeader file t found =
 abbrev pub HeadersTell : Type 0
 HeadersTell =
     (version : ℕ) (file : DataFile) (view : View) (t : Told) (s : State) → MayBeHurtAs version file view t → IsUnhurtZone file.layout t WalHeaders → (is : IsOpenedAs version file.layout t.shown s)
-    → HasEachHeader file t is.view × (IsUnhurtZone file.layout t Superblock → KeepsCheckpoint view is.view)
+    → HasEachHeader file t is.view × (IsUnhurtZone file.layout t Superblock → (is.view.checkpoint ≡ view.checkpoint))
 
 -- where the log leaves nothing to mend, too, as behind each finished session, a state that is found has every prepare of the tail
 abbrev pub WholeTailIsFound : Type 0

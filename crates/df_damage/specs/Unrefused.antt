@@ -19,9 +19,9 @@ pub record IsNotRefusedAs (version : ℕ) (file : DataFile) (image : Image) : Ty
   pub layout : (layout : Layout) → IsLayoutShownAs version image layout → layout ≡ file.layout
   pub answered : (error : OpenError) → SurveysAs version file.layout image (Err error) → error ≡ DiskFault
 
--- where version 1 is asked for
+-- where version 2 is asked for, as an open does
 abbrev pub IsNotRefused : DataFile → Image → Type 0
-IsNotRefused file image = IsNotRefusedAs 1 file image
+IsNotRefused file image = IsNotRefusedAs 2 file image
 
 -- an image in which a view is found, whatever was done to it, isn't refused, where the version of its file is asked for and its boot can be raised
 abbrev pub FoundIsNotRefused : Type 0

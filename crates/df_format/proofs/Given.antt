@@ -65,6 +65,10 @@ check_is bytes = record { size = length-check_of bytes; each = AreBytes-check_of
 pub of_first : (kind : Kind) (h : Header) → h.version ≡ 1 → h.boot ≡ 0 → h.group ≡ 0 → h.group_last ≡ 0 → ObeysVersion kind h
 of_first kind h version boot group group_last = inl (record { version = version; boot = boot; group = group; group_last = group_last })
 
+-- and one of version 2, whose maker gives it the boot and the group that its kind asks for
+pub of_second : (kind : Kind) (h : Header) → h.version ≡ 2 → HasBoot kind h.boot → HasGroup kind h.op h.group h.group_last → ObeysVersion kind h
+of_second kind h version boot group = inr (record { version = version; boot = boot; group = group })
+
 record FitsVersion (h : Header) : Type 0 where
   version : h.version < 2 ^ 16
   boot : h.boot < 2 ^ 64

@@ -7,7 +7,7 @@ pub use Rattle.df_format.proofs.Wholes.{begun_is_shown, body_follows, one_unit, 
 pub use Rattle.df_format.proofs.Units.{blank_none, count_is, header_shown, headers_fill, read_belongs, read_shown, same_shown, shown_belongs, shown_is_unit, valid_belongs, header_count, header_first}
 pub use Rattle.df_format.proofs.Front.{front_brings, made_brings}
 pub use Rattle.df_format.proofs.Makes.{sealed_is}
-pub use Rattle.df_format.proofs.Given.{Gives, GivesBlock, GivesPrepare, GivesReply, GivesTrailer, given_obeys, made_again, no_check, of_first}
+pub use Rattle.df_format.proofs.Given.{Gives, GivesBlock, GivesPrepare, GivesReply, GivesTrailer, given_obeys, made_again, no_check, of_first, of_second}
 pub use Rattle.df_format.proofs.CopySpelled.{named_zeros, one_copy_spelling, read_as, was_written}
 pub use Rattle.df_format.proofs.Checks.{are_checks, length-checks_at, no_names}
 pub use Rattle.df_format.proofs.CopyClasses.{blank_copy_none, copy_is_not_blank, is_here, stale_copy, valid_is_stale}

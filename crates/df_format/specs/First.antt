@@ -6,10 +6,10 @@ use Rattle.df_format.specs.Super.{no_checksums}
 use Rattle.df_format.specs.Copies.{Content, content_with}
 use Rattle.df_format.specs.declared.superblock.SuperFields.{SuperFields}
 
--- the fields of a file of this layout and cluster, of version 1 and with nothing else
+-- the fields of a file of this layout and cluster, of version 2 and with nothing else
 abbrev pub blank_super : Layout → ℕ → SuperFields
 blank_super layout cluster = record {
-  version = 1;
+  version = 2;
   slots = layout.slots;
   message_size = layout.message_size;
   clients = layout.clients;
@@ -30,7 +30,7 @@ blank_super layout cluster = record {
   first_nonzero = None;
 }
 
--- the fields of a new file: sequence 1, and no checkpoint
+-- the fields of a new file: sequence 1, and no checkpoint, before the first boot
 unfoldable pub first_super : Layout → ℕ → SuperFields
 first_super layout cluster = record (blank_super layout cluster) { sequence = 1 }
 

@@ -48,14 +48,14 @@ pub struct SuperFields {
 }
 
 impl SuperFields {
-    /// The fields of a file of this layout and cluster, of version 1 and with nothing else: the numbers of its update and its
-    /// checkpoint are set by their maker.
+    /// The fields of a file of this layout and cluster, of version 2 and with nothing else: the numbers of its update and its
+    /// checkpoint, and what is named, are set by their maker.
     #[tactic(auto, unfolding(crate::specs::Spelling::no_checksum, crate::specs::Super::no_checksums))]
     pub fn of(layout: &Layout, cluster: u128) -> SuperFields
         ensures { result ≡ blank_super layout.now cluster }
     {
         SuperFields {
-            version: 1,
+            version: 2,
             slots: layout.slots,
             message_size: layout.message_size,
             clients: layout.clients,

@@ -15,6 +15,7 @@ pub fn reserved_header(cluster: u128, slot: u32) -> Header
         checksum_body: check(&[]),
         size: HEADER as u32,
         slot,
+        version: 2,
         ..Header::of(Kind::Reserved, cluster)
     })
 }

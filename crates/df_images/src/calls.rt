@@ -135,6 +135,17 @@ pub fn cut_making(alloc: Global, number: u64, loose: &[(u16, Fate)]) -> Result<M
     stop(alloc, disk, &mut before, loose)
 }
 
+// A small file behind these calls, and a new one whose device call of this number, counted from behind them, fails.
+fn failing_behind(
+    alloc: Global,
+    calls: &[Call],
+    number: u64,
+) -> Result<(MemoryDisk, MemoryDisk), Fail> {
+    let before = served_file(alloc, calls)?;
+    let disk = small_file(alloc, before.calls().saturating_add(number))?;
+    Ok((before, disk))
+}
+
 /// A small file behind these calls and a stop within the last of them, at its device call of this number: it leaves each of
 /// these loose sectors by its fate.
 pub fn cut_file(
@@ -146,8 +157,7 @@ pub fn cut_file(
     let [front @ .., _] = calls else {
         return Err("no call is stopped".into());
     };
-    let mut before = served_file(alloc, front)?;
-    let mut disk = small_file(alloc, before.calls().saturating_add(number))?;
+    let (mut before, mut disk) = failing_behind(alloc, front, number)?;
     if serve(alloc, &mut disk, calls)? != front.len() {
         return Err("another call is stopped".into());
     }
@@ -164,8 +174,7 @@ pub fn faulty_file(
     let [front @ .., last] = calls else {
         return Err("no call is made".into());
     };
-    let before = served_file(alloc, front)?;
-    let mut disk = small_file(alloc, before.calls().saturating_add(number))?;
+    let (_, mut disk) = failing_behind(alloc, front, number)?;
     let Ok(mut replica) = open(alloc, &mut disk, &Layout::small())? else {
         return Err("the file is refused".into());
     };

@@ -26,7 +26,7 @@ pub fn survey_in(disk: &mut MemoryDisk, rooms: Rooms) -> Result<Surveyed, (Rooms
     survey(disk, rooms)
 }
 
-pub fn open_in(disk: &mut MemoryDisk, rooms: Rooms) -> Result<Replica, (Rooms, OpenError)> {
+pub fn open_in<D: Disk>(disk: &mut D, rooms: Rooms) -> Result<Replica, (Rooms, OpenError)> {
     Replica::open(disk, rooms)
 }
 

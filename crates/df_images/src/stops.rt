@@ -54,18 +54,19 @@ fn shown(disk: &mut MemoryDisk, sector: u16) -> Result<[u8; SECTOR], Fail> {
     Ok(bytes)
 }
 
-fn change(
-    disk: &mut MemoryDisk,
-    before: &mut MemoryDisk,
-    sector: u16,
-    fate: Fate,
-) -> Result<Change, Fail> {
-    let now = shown(disk, sector)?;
-    let earlier = shown(before, sector)?;
-    Ok(Change {
+// What a stop leaves in a sector that holds the one, and held the other before it was written.
+fn change(sector: u16, fate: Fate, now: &[u8; SECTOR], before: &[u8; SECTOR]) -> Change {
+    Change {
         sector: u64::from(sector),
-        bytes: fated(fate, &now, &earlier),
-    })
+        bytes: fated(fate, now, before),
+    }
+}
+
+fn stopped(disk: MemoryDisk, choice: Vec<Change>) -> Result<MemoryDisk, Fail> {
+    match disk.stop(choice) {
+        Ok(disk) => Ok(disk),
+        Err(_) => Err("a sector of the stop isn't loose".into()),
+    }
 }
 
 /// The disk behind a stop that gives each of these loose sectors its fate; `before` is a disk that shows what they held
@@ -79,28 +80,11 @@ pub fn stop(
     let mut disk = disk;
     let mut choice = Vec::new(alloc);
     for (sector, fate) in sectors {
-        choice.push(change(&mut disk, before, *sector, *fate)?)?;
+        let earlier = shown(before, *sector)?;
+        let now = shown(&mut disk, *sector)?;
+        choice.push(change(*sector, *fate, &now, &earlier))?;
     }
-    match disk.stop(choice) {
-        Ok(disk) => Ok(disk),
-        Err(_) => Err("a sector of the stop isn't loose".into()),
-    }
-}
-
-// What a stop leaves in a sector. `Earlier` shows what the log's first events left there; the stop then shows its own bytes.
-fn change_since(
-    disk: &mut MemoryDisk,
-    events: u64,
-    sector: u16,
-    fate: Fate,
-) -> Result<Change, Fail> {
-    let now = shown(disk, sector)?;
-    disk.strike(u64::from(sector), Strike::Earlier { events })?;
-    let earlier = shown(disk, sector)?;
-    Ok(Change {
-        sector: u64::from(sector),
-        bytes: fated(fate, &now, &earlier),
-    })
+    stopped(disk, choice)
 }
 
 /// The disk behind a stop that gives each of these loose sectors its fate; what they held before they were written is what so
@@ -114,10 +98,11 @@ pub fn stop_since(
     let mut disk = disk;
     let mut choice = Vec::new(alloc);
     for (sector, fate) in sectors {
-        choice.push(change_since(&mut disk, events, *sector, *fate)?)?;
+        let now = shown(&mut disk, *sector)?;
+        // It then shows what those events left there, and behind the stop what that leaves.
+        disk.strike(u64::from(*sector), Strike::Earlier { events })?;
+        let earlier = shown(&mut disk, *sector)?;
+        choice.push(change(*sector, *fate, &now, &earlier))?;
     }
-    match disk.stop(choice) {
-        Ok(disk) => Ok(disk),
-        Err(_) => Err("a sector of the stop isn't loose".into()),
-    }
+    stopped(disk, choice)
 }

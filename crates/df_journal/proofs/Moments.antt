@@ -1,9 +1,9 @@
 -- The moments of an append, and its end.
-use Rattle.std.specs.Prelude.{Result, Ok, Err, OnOk}
+use Rattle.std.specs.Prelude.{Result, Ok, Err, OnOk, nat_lt}
 use Rattle.std.proofs.Common.{◌≡◌, inl, inr, ℕ, zero, suc, ◌+◌, ◌*◌, ◌/◌, ◌%◌, ◌<◌, ◌≤◌, List, [], ◌∷◌, take, length, set, length-append, ◌==◌, Option, Some, None, refl, sym, ◌∙◌, ap, subst, arith}
 use Rattle.std.specs.List.{slice_get}
 use Rattle.std.proofs.lemmas.Option.{same_Some}
-use Rattle.std.proofs.lemmas.Bool.{cases_eq, cond-false, cond-true, eq-eqb, ne_eqb}
+use Rattle.std.proofs.lemmas.Bool.{cases_eq, cond-false, cond-true, eq-eqb, lt-ltb, ne_eqb}
 use Rattle.df_base.specs.declared.Failed.{Failed}
 use Rattle.df_base.specs.Image.{Image, IsImage, written}
 use Rattle.df_base.specs.Log
@@ -27,14 +27,15 @@ use Rattle.df_theory.specs.Units
 use Rattle.df_theory.specs.Units.{AnyUnit, HeaderPlace, HeaderUnit, PreparePlace, PrepareUnit, or_else}
 use Rattle.df_theory.specs.UnitLog.{put_one}
 use Rattle.df_theory.specs.TidyLaws.{IsTidy}
-use Rattle.df_theory.specs.Cases.{IsEmpty, IsTake, decision}
+use Rattle.df_theory.specs.Cases.{IsEmpty, Takes, cut, decided, decision, seen_header}
+use Rattle.df_theory.specs.Tails.{In}
 use Rattle.df_theory.specs.Device.{AreSteps, IsGoodDisk, IsPut, units_log}
 use Rattle.df_theory.specs.Found.{IsFound}
 use Rattle.df_theory.specs.Holds.{Held}
 use Rattle.df_theory.specs.Next.{appended}
 use Rattle.df_theory.specs.Shape.{slots}
 use Rattle.df_theory.specs.View.{Checkpoint, View, boot_of, head}
-use Rattle.df_theory.proofs.Laws.{clear_slot_law, found_law, slot_law}
+use Rattle.df_theory.proofs.Laws.{found_law, in_front, slot_law}
 use Rattle.df_units.specs.Append.{LeadsOnDisk, append_events}
 use Rattle.df_units.specs.Bytes.{first_at, unit_at}
 use Rattle.df_units.specs.Format.{format_of, shape_of}
@@ -105,24 +106,25 @@ append_steps layout u table own is bytes brings = (
 
 -- ---- what a stop leaves of the other slots
 
+-- the decision above a head doesn't ask for the head
+decided_above : (n b top : ℕ) (image : Units.Units) (o : ℕ) → top < o → decided n b top image o ≡ cut (seen_header b o (image (HeaderPlace (o % n)))) (decision n b image o)
+decided_above n b top image o above = cond-true (nat_lt top o) (cut (seen_header b o (image (HeaderPlace (o % n)))) (decision n b image o)) (decision n b image o) (lt-ltb top o above)
+
 stays : (layout : Layout) (cluster : ℕ) (named : 0 < cluster) (parse : ℕ → List ℕ → Option Units.Parts) (image : Image) (v u : View) → IsImage image → Held (shape_of layout cluster named parse) (unit_at layout cluster image) u
-    → u.checkpoint ≡ v.checkpoint → head v ≤ head u → head u ≤ head v + 1 → OthersStay (shape_of layout cluster named parse) (unit_at layout cluster image) v
-stays layout cluster named parse image v u whole held same low high =
+    → u.checkpoint ≡ v.checkpoint → ((p : Units.Message) → In p v.tail → In p u.tail) → head v ≤ head u → head u ≤ head v + 1 → OthersStay (shape_of layout cluster named parse) (unit_at layout cluster image) v
+stays layout cluster named parse image v u whole held same tail low high =
     let sh = shape_of layout cluster named parse in
     let units = unit_at layout cluster image in
     let found : IsFound sh units u = (found_law sh units u).0 held in
-    let version = found.checkpoint.tests.of.one found.checkpoint.tests.version in
     let boot : boot_of u ≡ boot_of v = ap (λ (c : Checkpoint). c.content.boot) same in
     let places = of_places layout cluster named parse image whole in
     let op : u.checkpoint.content.op ≡ v.checkpoint.content.op = ap (λ (c : Checkpoint). c.content.op) same in
-    let slot : (o : ℕ) → v.checkpoint.content.op < o → o ≤ v.checkpoint.content.op + slots sh → (o ≤ head u → IsTake (decision (slots sh) (boot_of v) units o)) × (head u < o → IsEmpty (decision (slots sh) (boot_of v) units o)) = λ o above within.
-    let law = slot_law sh units u o places found (omega (arith, above, op)) (omega (arith, within, op)) in (
-      λ le. subst (λ (b : ℕ). IsTake (decision (slots sh) b units o)) boot (law.0 (omega (arith, version.1, above, op)) le),
-      λ less. subst (λ (b : ℕ). IsEmpty (decision (slots sh) b units o)) boot (clear_slot_law sh units u o places found version.0 less (omega (arith, within, op))),
-    ) in
     record {
-      taken = λ o above le. (slot o above (omega (arith, le, low, op, found.tail.room))).0 (omega (arith, le, low));
-      empty = λ o above within. (slot o (omega (arith, above)) within).1 (omega (arith, above, high));
+      taken = λ p is. subst (λ (c : Checkpoint). Takes (slots sh) units c.content p) same (found.tail.takes p (tail p is));
+      empty = λ o above within.
+          let law = slot_law sh units u o places found (omega (arith, above, op)) (omega (arith, within, op)) in
+          subst IsEmpty (decided_above (slots sh) (boot_of v) (head u) units o (omega (arith, above, high)) ∙ sym (decided_above (slots sh) (boot_of v) (head v) units o (omega (arith, above))))
+          (subst (λ (b : ℕ). IsEmpty (decided (slots sh) b (head u) units o)) boot (law.1 (omega (arith, above, high))));
     }
 
 module _ (layout : Layout) (u : Message) (table : List Header) (t : Told) (may : MayAppendOn layout u table t) (own : IsInOwnSlot layout u) (is : IsTable layout u.header.cluster table) (bytes : List ℕ) (brings : Brings layout u.header.cluster (place_in WalPrepares u.header.slot) u bytes) where
@@ -141,8 +143,8 @@ module _ (layout : Layout) (u : Message) (table : List Header) (t : Told) (may :
       record {
         good = good;
         others = λ image left chance. elim (good.left image left chance) [
-          | inl before ↦ stays layout u.header.cluster may.named may.parse image may.view may.view left.whole before refl (omega arith) (omega arith)
-          | inr behind ↦ stays layout u.header.cluster may.named may.parse image may.view (appended may.view (message_of u ∷ [])) left.whole behind refl (omega (arith, more)) (omega (arith, more))
+          | inl before ↦ stays layout u.header.cluster may.named may.parse image may.view may.view left.whole before refl (λ p is. is) (omega arith) (omega arith)
+          | inr behind ↦ stays layout u.header.cluster may.named may.parse image may.view (appended may.view (message_of u ∷ [])) left.whole behind refl (λ p is. in_front p may.view.tail (message_of u ∷ []) is) (omega (arith, more)) (omega (arith, more))
         ];
       }
 

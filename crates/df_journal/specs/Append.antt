@@ -10,11 +10,12 @@ use Rattle.df_format.specs.Message.{Message}
 use Rattle.df_buffers.specs.Sounds.{Holding}
 use Rattle.df_theory.specs.Units
 use Rattle.df_theory.specs.Units.{HeaderPlace, HeaderUnit}
-use Rattle.df_theory.specs.Cases.{IsEmpty, IsTake, decision}
+use Rattle.df_theory.specs.Cases.{IsEmpty, Takes, decided}
 use Rattle.df_theory.specs.Device.{IsGoodDisk, NoChanceOf, units_log}
 use Rattle.df_theory.specs.Next.{MayAppend, appended}
 use Rattle.df_theory.specs.Runs.{Step, Syncs}
 use Rattle.df_theory.specs.Shape.{Shape, slots}
+use Rattle.df_theory.specs.Tails.{In}
 use Rattle.df_theory.specs.TidyLaws.{IsTidy}
 use Rattle.df_theory.specs.View.{View, boot_of, head}
 use Rattle.df_units.specs.Meaning.{header_of, message_of}
@@ -61,10 +62,10 @@ pub record MayAppendOn (layout : Layout) (u : Message) (table : List Header) (t 
   pub may : MayAppend (shape_of layout u.header.cluster named parse) view (message_of u ∷ [])
   pub ring : ShowsRing layout u.header.cluster (Log.now t.log) table
 
--- in the view's boot every slot but that of the next op stays taken or stays empty; what is to be mended may change
+-- every slot but that of the next op stays taken, by what the superblock names or by the view's boot, or stays empty, once the head is known; what is to be mended may change
 pub record OthersStay (sh : Shape) (image : Units.Units) (v : View) : Type 0 where
-  pub taken : (o : ℕ) → v.checkpoint.content.op < o → o ≤ head v → IsTake (decision (slots sh) (boot_of v) image o)
-  pub empty : (o : ℕ) → head v + 1 < o → o ≤ v.checkpoint.content.op + slots sh → IsEmpty (decision (slots sh) (boot_of v) image o)
+  pub taken : (p : Units.Message) → In p v.tail → Takes (slots sh) image v.checkpoint.content p
+  pub empty : (o : ℕ) → head v + 1 < o → o ≤ v.checkpoint.content.op + slots sh → IsEmpty (decided (slots sh) (boot_of v) (head v) image o)
 
 -- at a moment of the append the log is good for the view before it and the one behind it, and in whatever a stop leaves, under no chance, every other slot stays taken or stays empty
 pub record Leaves (layout : Layout) (u : Message) (table : List Header) (t : Told) (may : MayAppendOn layout u table t) (log : Log.Log) : Type 0 where

@@ -1,6 +1,7 @@
--- What opens find in two images that show the same is the same: the file, its superblock, the view, and all that is in memory.
-use Rattle.std.proofs.Common.{◌≡◌, ℕ, Option, sym, ◌∙◌, ap, subst}
+-- What opens find in two images that show the same is the same: the file, its superblock, the view, and all that is in memory. And what a boot update keeps of it.
+use Rattle.std.proofs.Common.{◌≡◌, inl, inr, ℕ, Option, sym, ◌∙◌, ap, subst}
 use Rattle.df_base.specs.Image.{Image}
+use Rattle.df_disk.specs.Told.{Told}
 use Rattle.df_format.specs.Copies.{Content, content_at}
 use Rattle.df_format.specs.declared.superblock.SuperFields.{SuperFields}
 use Rattle.df_layout.specs.declared.layout.Layout.{Layout}
@@ -10,12 +11,15 @@ use Rattle.df_theory.specs.Units.{AnyUnit, BlockPlace, Place, PreparePlace, Repl
 use Rattle.df_theory.specs.View.{View}
 use Rattle.df_theory.proofs.Laws.{one_found_law}
 use Rattle.df_units.specs.Bytes.{unit_at}
+use Rattle.df_model.specs.Blocks.{Blocks}
 use Rattle.df_model.specs.Memory.{Memory, memory_of}
 use Rattle.df_model.specs.Work.{opened}
 use Rattle.df_replica.specs.Below.{DataFile, IsOpened, State as Replica, memory, shape, spelling}
 use Rattle.df_replica.specs.Reading.{shown_of}
+use Rattle.df_replica.specs.Replica.{summary_of}
 use Rattle.df_replica.proofs.Laws.{one_super, same_file, super_shown}
 use Rattle.df_session.specs.Below.{AgreeShown}
+use Rattle.df_session.specs.Found.{FoundFile}
 use Rattle.df_top.specs.OneText.{ShowSame}
 
 module _ (layout : Layout) (a b : Image) (same : ShowSame layout a b) where
@@ -45,6 +49,21 @@ module _ (layout : Layout) (a b : Image) (same : ShowSame layout a b) where
     memory_alike =
         one.stands ∙ ap (λ (image : Place → Option AnyUnit). first s.file image one.view) (units_alike s.file.cluster) ∙ ap (λ (v : View). first s.file (unit_at layout s.file.cluster b) v) view_alike
         ∙ ap (λ (f : DataFile). first f (unit_at layout f.cluster b) other.view) file_alike ∙ sym other.stands
+
+-- ---- as calls are made on it
+
+module _ (layout : Layout) (t : Told) (file : FoundFile layout t) where
+  pub summary_there : summary_of file.replica ≡ summary_of file.found
+  summary_there = elim file.begun [
+    | inl looked ↦ ap summary_of looked
+    | inr raised ↦ ap summary_of raised
+  ]
+
+  pub blocks_there : file.replica.blocks ≡ file.found.blocks
+  blocks_there = elim file.begun [
+    | inl looked ↦ ap (λ (s : Replica). s.blocks) looked
+    | inr raised ↦ ap (λ (s : Replica). s.blocks) raised
+  ]
 
 -- over the file what they show agrees
 pub agree_there : (layout : Layout) (a b : Image) → ShowSame layout a b → (file : DataFile) → file.layout ≡ layout → AgreeShown file.layout (shown_of file a) (shown_of file b)

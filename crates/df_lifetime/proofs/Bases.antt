@@ -11,20 +11,20 @@ use Rattle.df_replica.specs.Following.{MayOpen}
 use Rattle.df_replica.specs.Serving.{Grade, StandsFor}
 use Rattle.df_replica.specs.Session.{Act}
 use Rattle.df_replica.proofs.Laws.{added_is_told}
+use Rattle.df_session.specs.Begun.{begun_work}
 use Rattle.df_session.specs.Links.{CallsMade}
 use Rattle.df_session.specs.Acknowledging.{KeepsAnswered}
 use Rattle.df_session.specs.Keeping.{KeepsFile, over}
-use Rattle.df_lifetime.specs.Life.{start_of}
 
 -- by each log that shows what the disk shows, and by which the file may be opened, all is kept
 abbrev pub KeepsOver : DataFile → Told → List Act → List Answer → Option Act → (mending added : List Event) → Type 0
 KeepsOver f t acts xs failed mending added =
-    (g : Grade) (v : View) (base : Told) → base.shown ≡ t.shown → MayOpen f v base → StandsFor g (unit_at f.layout f.cluster t.shown) v → KeepsFile f g (start_of f t.shown v) base acts xs failed (over mending added base)
+    (g : Grade) (v : View) (base : Told) → base.shown ≡ t.shown → MayOpen f v base → StandsFor g (unit_at f.layout f.cluster t.shown) v → KeepsFile f g (begun_work f t.shown v) base acts xs failed (over mending added base)
 
 -- and what was answered by a moment is there
 abbrev pub AnsweredOver : DataFile → Told → (mending : List Event) → CallsMade → Type 0
 AnsweredOver f t mending c =
-    (g : Grade) (v : View) (base : Told) → base.shown ≡ t.shown → MayOpen f v base → StandsFor g (unit_at f.layout f.cluster t.shown) v → KeepsAnswered f g (start_of f t.shown v) (over mending [] base) c
+    (g : Grade) (v : View) (base : Told) → base.shown ≡ t.shown → MayOpen f v base → StandsFor g (unit_at f.layout f.cluster t.shown) v → KeepsAnswered f g (begun_work f t.shown v) (over mending [] base) c
 
 -- what the disk tells is what the told log tells behind both
 pub told_over : (mending added : List Event) (t : Told) (mended new : Option Told) → mended ≡ after_all mending (Some (did Sync t)) → new ≡ after_all added mended → new ≡ over mending added t

@@ -3,12 +3,15 @@ use Rattle.std.proofs.Common.{◌≡◌, ℕ, Option, Some, sym, ◌∙◌, ap}
 use Rattle.df_base.specs.Image.{Image}
 use Rattle.df_disk.specs.Told.{Told}
 use Rattle.df_layout.specs.declared.layout.Layout.{Layout}
+use Rattle.df_layout.proofs.Laws.{same_layout}
 use Rattle.df_theory.specs.Copies.{IsChosen}
 use Rattle.df_theory.specs.Found.{IsFound}
+use Rattle.df_theory.specs.Units
 use Rattle.df_theory.specs.Units.{Content}
 use Rattle.df_theory.specs.View.{View}
 use Rattle.df_theory.proofs.Laws.{one_chosen_law}
 use Rattle.df_units.specs.Bytes.{unit_at}
+use Rattle.df_units.specs.Meaning.{layout_of}
 use Rattle.df_replica.specs.Below.{IsOpened, State, shape, DataFile}
 use Rattle.df_replica.proofs.Laws.{same_file}
 
@@ -22,11 +25,15 @@ chosen_for layout other cluster another image c is = record {
 }
 
 -- what an open finds is the file in which a view is found
-pub one_file : (file : DataFile) (layout : Layout) (image : Image) (view : View) (s : State) → layout ≡ file.layout → IsFound (shape file) (unit_at file.layout file.cluster image) view → IsOpened layout image s → s.file ≡ file
-one_file file layout image view s same found is =
+pub one_file : (file : DataFile) (layout : Layout) (image : Image) (view : View) (s : State) → IsFound (shape file) (unit_at file.layout file.cluster image) view → IsOpened layout image s → s.file ≡ file
+one_file file layout image view s found is =
     let chosen : IsChosen (unit_at layout s.file.cluster image) view.checkpoint.content = chosen_for file.layout layout file.cluster s.file.cluster image view.checkpoint.content found.chosen in
     let one : is.view.checkpoint.content ≡ view.checkpoint.content = one_chosen_law (unit_at layout s.file.cluster image) is.view.checkpoint.content view.checkpoint.content is.found.chosen chosen in
-    same_file s.file file (is.of.layout_is ∙ same) (sym is.found.checkpoint.tests.cluster ∙ ap (λ (c : Content). c.cluster) one ∙ found.checkpoint.tests.cluster)
+    let numbers : layout_of s.file.layout ≡ layout_of file.layout = sym is.found.checkpoint.tests.layout ∙ ap (λ (c : Content). c.layout) one ∙ found.checkpoint.tests.layout in
+    let own : s.file.layout ≡ file.layout =
+    same_layout s.file.layout file.layout (ap (λ (l : Units.Layout). l.slots) numbers) (ap (λ (l : Units.Layout). l.message_size) numbers) (ap (λ (l : Units.Layout). l.clients) numbers) (ap (λ (l : Units.Layout). l.block_size) numbers)
+    (ap (λ (l : Units.Layout). l.blocks) numbers) in
+    same_file s.file file own (sym is.found.checkpoint.tests.cluster ∙ ap (λ (c : Content). c.cluster) one ∙ found.checkpoint.tests.cluster)
     (sym is.found.checkpoint.tests.version ∙ ap (λ (c : Content). c.version) one ∙ found.checkpoint.tests.version)
 
 -- ---- one thing is told

@@ -1,37 +1,44 @@
 -- What was acknowledged in any session of a life is in the view that is found.
-use Rattle.std.proofs.Common.{◌≡◌, inl, inr, List, [], ◌∷◌, ◌++◌, append_assoc, sym, ◌∙◌, ap, subst}
+use Rattle.std.proofs.Common.{◌≡◌, ◌<◌, ◌^◌, inl, inr, List, [], ◌∷◌, ◌++◌, append_assoc, sym, ◌∙◌, ap, subst}
 use Rattle.df_base.specs.Image.{Image, IsImage}
 use Rattle.df_base.specs.Log.{now}
 use Rattle.df_theory.specs.Found.{IsFound}
-use Rattle.df_theory.specs.View.{View}
+use Rattle.df_theory.specs.View.{View, boot_of}
 use Rattle.df_theory.proofs.Laws.{one_found_law}
 use Rattle.df_units.specs.Bytes.{unit_at}
 use Rattle.df_units.specs.Meaning.{layout_of}
-use Rattle.df_units.proofs.Laws.{chosen_choice, of_places}
+use Rattle.df_units.proofs.Laws.{of_places}
 use Rattle.df_model.specs.Commands.{Answer, Command}
 use Rattle.df_model.specs.Sense.{IsWork}
-use Rattle.df_model.specs.Work.{Work, kept}
-use Rattle.df_model.proofs.Laws.{found_law, next_law, sense_law}
+use Rattle.df_model.specs.Memory.{memory_of}
+use Rattle.df_model.specs.Supply.{boot_sum}
+use Rattle.df_model.specs.Work.{Work, kept, opened}
+use Rattle.df_model.proofs.Laws.{found_law, next_law, raised_law, sense_law}
 use Rattle.df_trailer.specs.Text.{parse_of}
 use Rattle.df_replica.specs.Below.{shape, spelling, DataFile}
 use Rattle.df_replica.specs.HeldBlocks.{AreInputs}
 use Rattle.df_replica.specs.Serving.{next}
 use Rattle.df_replica.specs.Session.{Act, answers_of, work_after}
-use Rattle.df_replica.proofs.Laws.{codec_of, names_none}
+use Rattle.df_replica.proofs.Laws.{codec_of, second_found}
+use Rattle.df_session.specs.Begun.{begun_work}
+use Rattle.df_session.specs.Below.{codec}
 use Rattle.df_lifetime.specs.Acknowledged.{AcknowledgedIsFound, AllThere, AreThere}
-use Rattle.df_lifetime.specs.Life.{Chapter, GoesBy, LeadsTo, MayHave, start_of}
+use Rattle.df_lifetime.specs.Life.{Chapter, GoesBy, LeadsTo, MayHave}
 use Rattle.df_lifetime.specs.There.{IsThere}
 use Rattle.df_lifetime.proofs.Done.{just_there}
+use Rattle.df_lifetime.proofs.Haves.{are_there, begun_bare}
 use Rattle.df_lifetime.proofs.Lives.{every_life_goes_on}
 use Rattle.df_lifetime.proofs.Next.{stays}
 
--- ---- a state that is found makes sense
+-- ---- a state that is found makes sense, behind its boot update
 
-pub start_makes_sense : (file : DataFile) (image : Image) (view : View) → file.version ≡ 1 → IsImage image → IsFound (shape file) (unit_at file.layout file.cluster image) view → IsWork (shape file) (spelling file) (start_of file image view)
-start_makes_sense file image view version whole found =
-    let choice = chosen_choice file.layout file.cluster image view.checkpoint.content whole found.chosen in
-    found_law (shape file) (spelling file) (unit_at file.layout file.cluster image) view (codec_of file) (record { version = version; names = names_none choice.0 view.checkpoint.content choice.1 (found.checkpoint.tests.version ∙ version) })
-    (of_places file.layout file.cluster file.named (parse_of (layout_of file.layout)) image whole) found
+begun_makes_sense : (file : DataFile) (image : Image) (view : View) → file.version ≡ 2 → IsImage image → IsFound (shape file) (unit_at file.layout file.cluster image) view → boot_of view < 2 ^ 62 → IsWork (shape file) (spelling file) (begun_work file image view)
+begun_makes_sense file image view version whole found unspent =
+    let w : Work = opened (shape file) (unit_at file.layout file.cluster image) view in
+    let before : IsWork (shape file) (spelling file) w =
+    found_law (shape file) (spelling file) (unit_at file.layout file.cluster image) view (codec_of file) (second_found file image view whole version found)
+    (of_places file.layout file.cluster file.named (parse_of (layout_of file.layout)) image whole) found in
+    (raised_law (shape file) (spelling file) w (boot_sum (codec file) (memory_of (shape file) (spelling file) w)) before unspent).sense
 
 -- ---- what was answered stays, whatever is done next
 
@@ -63,27 +70,34 @@ module _ (file : DataFile) where
 
   -- ---- a session
 
-  module _ (version : file.version ≡ 1) (c : Chapter) (acts : List Act) (v u : View) (goes : GoesBy file c acts v u) where
-    work : IsWork (shape file) (spelling file) (start_of file c.shown v)
-    work = start_makes_sense file c.shown v version goes.whole goes.found
+  module _ (version : file.version ≡ 2) (c : Chapter) (acts : List Act) (v u : View) (goes : GoesBy file c acts v u) where
+    abbrev start : Work
+    start = begun_work file c.shown v
+
+    work : IsWork (shape file) (spelling file) start
+    work = begun_makes_sense file c.shown v version goes.whole goes.found goes.unspent
 
     inputs : AreInputs (c.answered ++ goes.came.more)
     inputs =
         front_inputs (c.answered ++ goes.came.more) goes.came.rest
         (subst AreInputs (ap (λ (l : List Act). c.answered ++ l) goes.came.some ∙ sym (append_assoc c.answered goes.came.more goes.came.rest)) goes.inputs)
 
-    -- the view that it came to has what was answered in it
+    -- what is there behind the acts that came through is in the view that it came to
+    came_there : (done : List Act) (answers : List Answer) → AreThere (kept (work_after file start (c.answered ++ goes.came.more))) done answers → AreThere u done answers
+    came_there done answers there =
+        are_there (kept (work_after file start acts)) u goes.view done answers (subst (λ (l : List Act). AreThere (kept (work_after file start l)) done answers) (sym goes.came.are) there)
+
+    -- so is what was answered in it
     answered_there : AreThere u c.answered c.answers
     answered_there =
-        subst (λ (x : View). AreThere x c.answered c.answers) (sym (goes.view ∙ ap (λ (l : List Act). kept (work_after file (start_of file c.shown v) l)) goes.came.are))
-        (subst (AreThere (kept (work_after file (start_of file c.shown v) (c.answered ++ goes.came.more))) c.answered) (sym goes.answers_are)
-        (front_there c.answered goes.came.more (start_of file c.shown v) work inputs))
+        came_there c.answered c.answers
+        (subst (AreThere (kept (work_after file start (c.answered ++ goes.came.more))) c.answered) (sym goes.answers_are)
+        (front_there c.answered goes.came.more start work inputs))
 
     -- and what was answered before
     before_there : (done : List Act) (answers : List Answer) → AreThere v done answers → AreThere u done answers
     before_there done answers there =
-        subst (λ (x : View). AreThere x done answers) (sym (goes.view ∙ ap (λ (l : List Act). kept (work_after file (start_of file c.shown v) l)) goes.came.are))
-        (all_stay (c.answered ++ goes.came.more) (start_of file c.shown v) done answers work inputs there)
+        came_there done answers (all_stay (c.answered ++ goes.came.more) start done answers work inputs (are_there v (kept start) (begun_bare file c.shown v) done answers there))
 
   none_there : (view : View) (acts : List Act) (answers : List Answer) → acts ≡ [] → answers ≡ [] → AreThere view acts answers
   none_there view [] [] none no_answers = tt
@@ -91,16 +105,16 @@ module _ (file : DataFile) where
   none_there view (a ∷ acts) answers none no_answers = absurd (cc)
 
   -- what was answered in earlier sessions
-  all_before : file.version ≡ 1 → (c : Chapter) (v u : View) (chapters : List Chapter) → LeadsTo file c v u → AllThere v chapters → AllThere u chapters
+  all_before : file.version ≡ 2 → (c : Chapter) (v u : View) (chapters : List Chapter) → LeadsTo file c v u → AllThere v chapters → AllThere u chapters
   all_before version c v u [] leads there = tt
-  all_before version c v u (d ∷ chapters) (inl is) there = (subst (λ (x : View). AreThere x d.answered d.answers) (sym is.same) there.0, all_before version c v u chapters (inl is) there.1)
+  all_before version c v u (d ∷ chapters) (inl is) there = (are_there v u is.same d.answered d.answers there.0, all_before version c v u chapters (inl is) there.1)
   all_before version c v u (d ∷ chapters) (inr goes) there = (before_there version c goes.0 v u goes.1 d.answered d.answers there.0, all_before version c v u chapters (inr goes) there.1)
 
-  own_there : file.version ≡ 1 → (c : Chapter) (v u : View) → LeadsTo file c v u → AreThere u c.answered c.answers
+  own_there : file.version ≡ 2 → (c : Chapter) (v u : View) → LeadsTo file c v u → AreThere u c.answered c.answers
   own_there version c v u (inl is) = none_there u c.answered c.answers is.none is.no_answers
   own_there version c v u (inr goes) = answered_there version c goes.0 v u goes.1
 
-  all_there : file.version ≡ 1 → (chapters : List Chapter) (u : View) → MayHave file chapters u → AllThere u chapters
+  all_there : file.version ≡ 2 → (chapters : List Chapter) (u : View) → MayHave file chapters u → AllThere u chapters
   all_there version [] u had = tt
   all_there version (c ∷ chapters) u had = (own_there version c had.0 u had.2, all_before version c had.0 u chapters had.2 (all_there version chapters had.0 had.1))
 

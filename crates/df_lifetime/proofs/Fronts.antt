@@ -16,8 +16,7 @@ use Rattle.df_lines.specs.Text.{after_line, line_of as first_line, taken}
 use Rattle.df_lines.proofs.Laws.{one_said, one_script, no_line, begins_one}
 use Rattle.df_theory.specs.Shape.{Shape}
 use Rattle.df_model.specs.Supply.{Codec, Shown}
-use Rattle.df_model.specs.Work.{Work, opened}
-use Rattle.df_units.specs.Bytes.{unit_at}
+use Rattle.df_model.specs.Work.{Work}
 use Rattle.df_replica.specs.Below.{DataFile, shape, told_after}
 use Rattle.df_replica.specs.Reading.{shown_of}
 use Rattle.df_replica.proofs.Laws.{added_is_told}
@@ -26,6 +25,7 @@ use Rattle.df_model.specs.Commands.{Command}
 use Rattle.df_pace.specs.Loop.{Stand, answer_at, paced, passed, start as stand_at}
 use Rattle.df_pace.specs.declared.pace.Pace.{Pace}
 use Rattle.df_script_model.specs.Script.{answer_text}
+use Rattle.df_session.specs.Begun.{begun_work}
 use Rattle.df_session.specs.Found.{FoundFile}
 use Rattle.df_session.specs.Links.{events_made}
 use Rattle.df_top.specs.Acknowledging.{script_calls}
@@ -121,7 +121,7 @@ module _ (pace : Pace) (layout : Layout) (t : Told) (old new : Outside) (status 
   turns = serves.session.turns
 
   abbrev says_over : List Said → List ℕ
-  says_over says = text_over pace file (shown_of file t.shown) (opened (shape file) (unit_at file.layout file.cluster t.shown) s.view) says
+  says_over says = text_over pace file (shown_of file t.shown) (begun_work file t.shown s.view) says
 
   agree_self : AgreeShown file.layout (shown_of file t.shown) (shown_of file t.shown)
   agree_self = record { units = record { prepare = λ k. refl; reply = λ k. refl; block = λ k. refl }; classes = λ place read none. refl }
@@ -141,7 +141,7 @@ module _ (pace : Pace) (layout : Layout) (t : Told) (old new : Outside) (status 
   printed_front : (left : ℕ) (rest : List ℕ) → Begins (line_bound layout) script_budget s.text (all_said turns) left rest → (cut : Bool) → (cut ≡ true → IsRefused (line_bound layout) left rest) → IsFront (prints 0 turns cut) (whole_text s)
   printed_front left rest begins false refused =
       let lines = lines_front (line_bound layout) script_budget s.text (all_said turns) s.says left s.script.left rest s.script.rest begins s.script.begins s.script.ends in
-      let text = text_front pace file (shown_of file t.shown) (opened (shape file) (unit_at file.layout file.cluster t.shown) s.view) (all_said turns) s.says lines in
+      let text = text_front pace file (shown_of file t.shown) (begun_work file t.shown s.view) (all_said turns) s.says lines in
       front_on (all_text turns) (says_over s.says) (whole_text s) (subst (λ (l : List ℕ). IsFront l (says_over s.says)) (sym lines_text) text) (by_front s.script.ends (length s.says) (says_over s.says))
   printed_front left rest begins true refused =
       let cut = cut_text (line_bound layout) script_budget s.text (all_said turns) s.says s.script left rest begins (refused refl) in

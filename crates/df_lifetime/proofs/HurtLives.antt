@@ -1,5 +1,5 @@
 -- The log of a life begins where the making did, whatever happened since: so a life that began with the empty disk may be hurt.
-use Rattle.std.proofs.Common.{◌≡◌, inl, List, refl, ◌∙◌, sym, ap}
+use Rattle.std.proofs.Common.{◌≡◌, inr, List, refl, ◌∙◌, sym, ap}
 use Rattle.df_disk.specs.Told.{Told}
 use Rattle.df_replica.specs.Below.{DataFile}
 use Rattle.df_lifetime.specs.Hurt.{LifeMayBeHurt, began_with}
@@ -22,5 +22,5 @@ life_may_be_hurt file t chapters shown life began chance whole none =
     let opens : MayBeOpened file chapters t = every_life_goes_on file t chapters life chance in (
       opens.view,
       opens.had,
-      record { known = inl refl; version_is = opens.may.version; safe = opens.may.safe; empty = start_stays file t chapters life ∙ began; found = opens.may.found; whole = whole; no_chance = none },
+      record { known = inr refl; version_is = opens.may.version; safe = opens.may.safe; empty = start_stays file t chapters life ∙ began; found = opens.may.found; whole = whole; no_chance = none },
     )

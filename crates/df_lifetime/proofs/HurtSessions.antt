@@ -2,7 +2,7 @@
 use Rattle.std.proofs.Common.{◌≡◌, inl, inr, ℕ, zero, suc, List, [], ◌∷◌, ◌++◌, append_assoc, Option, Some, None, refl, sym, ◌∙◌, ap, subst}
 use Rattle.std.specs.Prelude.{take, drop}
 use Rattle.std.proofs.lemmas.List.{append-nil}
-use Rattle.df_base.specs.Image.{Image, IsImage, changed}
+use Rattle.df_base.specs.Image.{Image, changed}
 use Rattle.df_base.specs.Log.{AreLoose, Event, IsLeft, IsLog, Log, Stop, Sync, now}
 use Rattle.df_base.specs.Moments.{EachMoment, Extends, IsMoment}
 use Rattle.df_base.proofs.Laws.{extends_self, now_is_image}
@@ -12,40 +12,42 @@ use Rattle.df_theory.specs.Device.{IsSafeDisk, NoChanceOf}
 use Rattle.df_theory.specs.Found.{IsFound}
 use Rattle.df_theory.specs.Holds.{Held}
 use Rattle.df_theory.specs.Shape.{Shape}
-use Rattle.df_theory.specs.Units.{Units}
+use Rattle.df_theory.specs.Units.{Parts, Units}
 use Rattle.df_theory.specs.View.{View}
 use Rattle.df_theory.proofs.Laws.{found_law}
 use Rattle.df_units.specs.Bytes.{unit_at}
 use Rattle.df_model.specs.Commands.{Answer}
 use Rattle.df_model.specs.Sense.{IsWork}
+use Rattle.df_model.specs.Views.{KeepsView}
 use Rattle.df_model.specs.Work.{Work, kept}
 use Rattle.df_replica.specs.Below.{DataFile, State, begun, shape, spelling, told_after}
 use Rattle.df_replica.specs.Following.{MayOpen}
 use Rattle.df_replica.specs.HeldBlocks.{AreInputs}
 use Rattle.df_replica.specs.Serving.{Firm, Grade, StandsFor, Whole, format}
 use Rattle.df_replica.specs.Session.{Act, HasView, HoldsFor, IsMidway, answers_of, work_after}
-use Rattle.df_replica.proofs.Laws.{added_is_told, begun_may_open, same_goes_on, safe_is_not_refused, stopped_may_open}
+use Rattle.df_replica.proofs.Laws.{added_is_told, begun_may_open, same_goes_on, stopped_may_open}
+use Rattle.df_session.specs.Begun.{begun_work}
 use Rattle.df_session.specs.Found.{FoundFile}
 use Rattle.df_session.specs.Laws.{CallsKeep}
 use Rattle.df_session.specs.Links.{CallsMade, events_made, list_of}
 use Rattle.df_session.specs.Acknowledging.{IsUntil, KeepsAnswered}
+use Rattle.df_session.proofs.Laws.{file_there}
 use Rattle.df_top.specs.Acknowledging.{run_calls, script_calls}
 use Rattle.df_session.specs.Keeping.{KeepsFile, LeavesAll, over}
 use Rattle.df_top.specs.Outside.{Outside}
 use Rattle.df_lifetime.specs.Acknowledged.{AreThere}
 use Rattle.df_lifetime.specs.Hurt.{AreAnswered, HurtRunsKeep, HurtScriptsKeep, KeepsOn, NextFinds, RunsKeepOn, ScriptsKeepOn, at_end}
-use Rattle.df_lifetime.specs.Life.{start_of}
 use Rattle.df_lifetime.proofs.Acts.{ends_inputs, first_answers, front_and_rest, has_front, work_on}
 use Rattle.df_lifetime.proofs.Bases.{AnsweredOver, KeepsOver, told_over}
 use Rattle.df_lifetime.proofs.Files.{one_file, one_told}
-use Rattle.df_lifetime.proofs.Found.{front_inputs, front_there, start_makes_sense}
+use Rattle.df_lifetime.proofs.Found.{front_inputs, front_there}
 use Rattle.df_lifetime.proofs.Lives.{left_by}
 
 -- ---- what an image has
 
-held_for : (g : Grade) (sh : Shape) (u : Units) (v : View) → HoldsFor g sh u v → Held sh u v × StandsFor g u v
-held_for Firm sh u v has = (has, tt)
-held_for Whole sh u v has = (has.0, has.1)
+held_for : (g : Grade) (sh : Shape) (u : Units) (v : View) → HoldsFor g sh u v → (x : View) × KeepsView v x × Held sh u x × StandsFor g u v
+held_for Firm sh u v has = (has.0, has.1, has.2, tt)
+held_for Whole sh u v has = (has.0, has.1, has.2.0, λ a c is. has.2.1 a c (ap (λ (parts : Parts). parts.references a) has.1.parts ∙ is))
 
 now_left : (log : Log) → IsLog log → IsLeft log (now log)
 now_left log is = record { whole = now_is_image log.start log.events is.start is.events; kept = λ sector firm. refl }
@@ -55,7 +57,7 @@ take_inputs k acts more inputs = subst AreInputs (sym (front_and_rest k acts mor
 
 -- ---- the next open
 
-module _ (file : DataFile) (g : Grade) (w : Work) (work : IsWork (shape file) (spelling file) w) (version : file.version ≡ 1) where
+module _ (file : DataFile) (g : Grade) (w : Work) (work : IsWork (shape file) (spelling file) w) (version : file.version ≡ 2) where
   -- what was answered is in the view behind it
   answers_there : (acts : List Act) (answers : List Answer) (more rest : List Act) → answers ≡ answers_of file w acts → AreInputs (acts ++ (more ++ rest)) → AreThere (kept (work_after file w (acts ++ more))) acts answers
   answers_there acts answers more rest are inputs =
@@ -74,9 +76,9 @@ module _ (file : DataFile) (g : Grade) (w : Work) (work : IsWork (shape file) (s
           more = more;
           rest = rest;
           some = some;
-          may = record { version = version; safe = safe; honest = honest; found = (found_law (shape file) ((format file).unit_at (now n.log)) view).0 both.0; no_chance = chance };
+          may = (both.0, both.1, record { version = version; safe = safe; honest = honest; found = (found_law (shape file) ((format file).unit_at (now n.log)) both.0).0 both.2; no_chance = chance });
           there = answers_there acts answers more rest are (subst (λ (l : List Act). AreInputs (acts ++ l)) some inputs);
-          stands = subst (λ (image : Image). StandsFor g (unit_at file.layout file.cluster image) view) shows both.1;
+          stands = subst (λ (image : Image). StandsFor g (unit_at file.layout file.cluster image) view) shows both.3;
         }
 
     -- behind one
@@ -93,9 +95,9 @@ module _ (file : DataFile) (g : Grade) (w : Work) (work : IsWork (shape file) (s
           more = some.front;
           rest = some.rest;
           some = some.are;
-          may = stopped_may_open file view m changes version mid.safe honest loose chance both.0;
+          may = (both.0, both.1, stopped_may_open file both.0 m changes version mid.safe honest loose chance both.2);
           there = answers_there acts answers some.front some.rest are (subst (λ (l : List Act). AreInputs (acts ++ l)) some.are inputs);
-          stands = subst (λ (now_shown : Image). StandsFor g (unit_at file.layout file.cluster (changed changes now_shown)) view) shows both.1;
+          stands = subst (λ (now_shown : Image). StandsFor g (unit_at file.layout file.cluster (changed changes now_shown)) view) shows both.3;
         }
 
   -- at the end of a session
@@ -119,12 +121,9 @@ module _ (file : DataFile) (g : Grade) (view : View) (t base : Told) (same : bas
       subst (λ (image : Image). IsFound (shape file) (unit_at file.layout file.cluster image) view) (shows ∙ same) may.found
 
   abbrev start : Work
-  start = start_of file t.shown view
+  start = begun_work file t.shown view
 
-  work : IsWork (shape file) (spelling file) start
-  work = start_makes_sense file t.shown view may.version (subst IsImage same (safe_is_not_refused file view base may).0) found_shown
-
-  module _ (mending : List Event) (c : CallsMade) (keeps : KeepsFile file g start base c.acts c.answers c.failed (over mending (events_made c) base)) (answered : KeepsAnswered file g start (over mending [] base) c)
+  module _ (work : IsWork (shape file) (spelling file) start) (mending : List Event) (c : CallsMade) (keeps : KeepsFile file g start base c.acts c.answers c.failed (over mending (events_made c) base)) (answered : KeepsAnswered file g start (over mending [] base) c)
       (from : c.old ≡ after_all mending (Some (did Sync t))) (to : c.new ≡ after_all (events_made c) c.old) where
     inputs : AreInputs (c.acts ++ list_of c.failed)
     inputs = ends_inputs c.from c.to c.old c.new c.acts c.answers c.failed c.calls
@@ -171,10 +170,13 @@ module _ (file : DataFile) (g : Grade) (view : View) (t base : Told) (same : bas
 
 -- calls on what was found, by what they keep
 calls_keep_on : (g : Grade) (file : DataFile) (view : View) (t base : Told) (found : FoundFile file.layout t) (c : CallsMade) → CallsKeep t found.replica found.mended found.mending c → c.old ≡ found.mended → c.new ≡ after_all (events_made c) c.old → base.shown ≡ t.shown
-    → MayOpen file view base → StandsFor g (unit_at file.layout file.cluster t.shown) view → KeepsOn file g (start_of file t.shown view) base found.mending.events c
+    → MayOpen file view base → StandsFor g (unit_at file.layout file.cluster t.shown) view → KeepsOn file g (begun_work file t.shown view) base found.mending.events c
 calls_keep_on g file view t base found c calls from adds same may stands =
-    let one : found.replica.file ≡ file = one_file file file.layout t.shown view found.replica refl (found_shown file g view t base same may) found.is_opened in
-    keeps_on file g view t base same may found.mending.events c (subst (λ (f : DataFile). KeepsOver f t c.acts c.answers c.failed found.mending.events (events_made c)) one calls.keeps g view base same may stands)
+    let here = found_shown file g view t base same may in
+    let one : found.replica.file ≡ file = file_there file.layout t found ∙ one_file file file.layout t.shown view found.found here found.is_opened in
+    let there = subst (λ (f : DataFile). IsFound (shape f) (unit_at f.layout f.cluster t.shown) view) (sym one) here in
+    let work : IsWork (shape file) (spelling file) (begun_work file t.shown view) = subst (λ (f : DataFile). IsWork (shape f) (spelling f) (begun_work f t.shown view)) one (calls.stands view there).0 in
+    keeps_on file g view t base same may work found.mending.events c (subst (λ (f : DataFile). KeepsOver f t c.acts c.answers c.failed found.mending.events (events_made c)) one calls.keeps g view base same may stands)
     (subst (λ (f : DataFile). AnsweredOver f t found.mending.events c) one calls.acknowledged g view base same may stands) (from ∙ found.mending.told) adds
 
 pub scripts_keep_on : ScriptsKeepOn
@@ -184,13 +186,13 @@ pub runs_keep_on : RunsKeepOn
 runs_keep_on g file view t base old new status seed count found works same may stands = calls_keep_on g file view t base found (run_calls works.worked) works.calls refl works.calls.adds same may stands
 
 -- the file of what was opened is of its version
-of_one : (file : DataFile) (s : State) → s.file ≡ file → s.file.version ≡ 1 → file.version ≡ 1
+of_one : (file : DataFile) (s : State) → s.file ≡ file → s.file.version ≡ 2 → file.version ≡ 2
 of_one file s same version = ap (λ (f : DataFile). f.version) (sym same) ∙ version
 
 pub hurt_scripts_keep : HurtScriptsKeep
 hurt_scripts_keep g file view t old new status pace found serves had same stands =
-    scripts_keep_on g file had.found t (begun t) old new status pace found serves refl (begun_may_open file had.found t (of_one file found.replica had.of found.is_opened.of.version_is) (had.begins same)) stands
+    scripts_keep_on g file had.found t (begun t) old new status pace found serves refl (begun_may_open file had.found t (of_one file found.found had.of found.is_opened.of.version_is) (had.begins same)) stands
 
 pub hurt_runs_keep : HurtRunsKeep
 hurt_runs_keep g file view t old new status seed count found works had same stands =
-    runs_keep_on g file had.found t (begun t) old new status seed count found works refl (begun_may_open file had.found t (of_one file found.replica had.of found.is_opened.of.version_is) (had.begins same)) stands
+    runs_keep_on g file had.found t (begun t) old new status seed count found works refl (begun_may_open file had.found t (of_one file found.found had.of found.is_opened.of.version_is) (had.begins same)) stands

@@ -1,5 +1,6 @@
 mod Files
 mod Acts
+mod Haves
 mod Orders
 mod Bases
 mod Lives

@@ -1,5 +1,5 @@
 -- Each thing that happens to a file that is in order leaves it in order.
-use Rattle.std.proofs.Common.{◌≡◌, inl, inr, ℕ, zero, suc, true, false, List, [], ◌∷◌, ◌++◌, Option, Some, None, refl, sym, ◌∙◌, ap, subst, arith}
+use Rattle.std.proofs.Common.{◌≡◌, ◌<◌, ◌^◌, inl, inr, ℕ, zero, suc, true, false, List, [], ◌∷◌, ◌++◌, Option, Some, None, refl, sym, ◌∙◌, ap, subst, arith}
 use Rattle.std.specs.Prelude.{take, drop}
 use Rattle.std.proofs.lemmas.Bool.{cases_eq}
 use Rattle.std.proofs.lemmas.Bool.Decides.{nat_tests}
@@ -11,30 +11,35 @@ use Rattle.df_base.proofs.Laws.{changed_is_image, extends_self, from_before, now
 use Rattle.df_disk.specs.Adds.{AddsPart, after_all}
 use Rattle.df_disk.specs.Told.{IsHonest, Told, did}
 use Rattle.df_disk.proofs.Laws.{goes_told}
+use Rattle.df_format.specs.declared.superblock.SuperFields.{SuperFields}
 use Rattle.df_layout.specs.declared.layout.Layout.{Layout}
 use Rattle.df_theory.specs.Device.{IsSafeDisk, NoChanceOf, units_log}
 use Rattle.df_theory.specs.Found.{IsFound}
 use Rattle.df_theory.specs.Rests.{RestsOn}
-use Rattle.df_theory.specs.View.{View}
-use Rattle.df_theory.proofs.Laws.{disk_stop_law, rests_safe, safe_disk_law}
+use Rattle.df_theory.specs.Next.{IsSameBare}
+use Rattle.df_theory.specs.View.{View, boot_of}
+use Rattle.df_theory.proofs.Laws.{disk_stop_law, one_found_law, rests_safe, safe_disk_law}
 use Rattle.df_units.specs.Bytes.{unit_at}
 use Rattle.df_units.specs.Making.{first_view}
 use Rattle.df_units.proofs.Laws.{is_format}
 use Rattle.df_model.specs.Commands.{Answer}
+use Rattle.df_model.specs.Views.{KeepsView}
 use Rattle.df_model.specs.Work.{Work, kept}
 use Rattle.df_model.specs.declared.errors.OpenError.TheVariants.{NotFormatted}
-use Rattle.df_replica.specs.Below.{IsOpened, State as Replica, shape, DataFile, IsNotRefused, told_after}
+use Rattle.df_replica.specs.Below.{IsOpened, State as Replica, boot_fields, shape, DataFile, IsUnformatted, told_after}
 use Rattle.df_replica.specs.Following.{MayOpen}
 use Rattle.df_replica.specs.HeldBlocks.{AreInputs}
 use Rattle.df_replica.specs.Making.{file_of}
-use Rattle.df_replica.specs.Opened.{Mends, MendsPartly, StopsOpening}
+use Rattle.df_replica.specs.Opened.{Mends, MendsPartly, StopsOpening, begun_state}
 use Rattle.df_replica.specs.Serving.{Grade, IsGoodFor, StandsFor, Whole, format}
 use Rattle.df_replica.specs.Session.{Act, HasView, IsMidway, work_after}
-use Rattle.df_replica.proofs.Laws.{added_is_told, good_left, good_safe, layout_shown, safe_is_not_refused}
+use Rattle.df_replica.proofs.Laws.{added_is_told, found_is_usable, good_left, good_safe, keeps_on, keeps_self}
+use Rattle.df_session.specs.Begun.{begun_work}
 use Rattle.df_session.specs.Found.{FoundFile, no_calls}
 use Rattle.df_session.specs.Laws.{CallsKeep}
 use Rattle.df_session.specs.Links.{CallsMade, events_made, list_of}
 use Rattle.df_session.specs.Acknowledging.{IsUntil, KeepsAnswered}
+use Rattle.df_session.proofs.Laws.{file_there}
 use Rattle.df_top.specs.Acknowledging.{run_calls, script_calls}
 use Rattle.df_top.specs.Formats.{Formats}
 use Rattle.df_session.specs.Keeping.{KeepsFile, LeavesAll, over}
@@ -45,12 +50,13 @@ use Rattle.df_top.specs.declared.mode.Mode.{Mode}
 use Rattle.df_top.specs.declared.mode.Mode.TheVariants.{Format, Run, Recover, Inspect, Scrub, Workload, Paced}
 use Rattle.df_top.specs.declared.status.Status.{Status}
 use Rattle.df_top.specs.declared.status.Status.TheVariants.{Done, Found, Words, Script, Refused, DiskFault, ReadFault, WriteFault, Memory}
-use Rattle.df_lifetime.specs.Life.{Chapter, EveryLifeGoesOn, EveryLifeIsInOrder, FormatWord, HaveAnswers, IsInOrder, MayHave, Outcome, ToAMoment, ToItsEnd, Word, calls_in, calls_made, calls_of, calls_to, chapter_of, chapters_of, outcome_of, sessions_in, start_of, word_calls}
+use Rattle.df_lifetime.specs.Life.{Chapter, EveryLifeGoesOn, EveryLifeIsInOrder, FormatWord, HaveAnswers, IsInOrder, MayHave, Outcome, ToAMoment, ToItsEnd, Word, calls_in, calls_made, calls_of, calls_to, chapter_of, chapters_of, outcome_of, sessions_in, word_calls}
 use Rattle.df_lifetime.specs.Life.Life.{Begun, Ended, Formatted, Made, Ran, Stopped}
 use Rattle.df_lifetime.proofs.Bases.{AnsweredOver, KeepsOver, told_over}
 use Rattle.df_lifetime.proofs.Acts.{HasFront, ends_inputs, first_answers, front_and_rest, has_front, work_on}
 use Rattle.df_lifetime.proofs.Files.{one_file, one_told}
-use Rattle.df_lifetime.proofs.Orders.{Has, Order, after_barrier, goes_on, here, in_order, made_in_order, made_safe, may, none_referenced, order_of, same_moments, stands_shown, synced, synced_moments}
+use Rattle.df_lifetime.proofs.Haves.{begun_bare, had_on}
+use Rattle.df_lifetime.proofs.Orders.{Has, Order, after_barrier, goes_on, here, in_order, made_in_order, made_safe, may, none_referenced, order_of, same_moments, shows, stands_shown, synced, synced_moments}
 
 -- what a word leaves that made these calls: an honest disk, whose log began where it did, and its log in order at the end, and at each moment, by what was answered by then
 pub record Comes (file : DataFile) (chapters : List Chapter) (calls : Option CallsMade) (t n : Told) : Type 0 where
@@ -82,26 +88,39 @@ module _ (file : DataFile) (chapters : List Chapter) (t : Told) (is : IsInOrder 
   opens : MayOpen file view t
   opens = may file chapters t is chance
 
-  answers : IsImage t.shown × IsNotRefused file t.shown
-  answers = safe_is_not_refused file view t opens
-
   found_shown : IsFound (shape file) (unit_at file.layout file.cluster t.shown) view
-  found_shown = subst (λ (image : Image). IsFound (shape file) (unit_at file.layout file.cluster image) view) (λ i sector. sym (is.honest.shows sector) i) opens.found
+  found_shown = subst (λ (image : Image). IsFound (shape file) (unit_at file.layout file.cluster image) view) (shows file chapters t is chance) opens.found
+
+  whole : IsImage t.shown
+  whole = subst IsImage (shows file chapters t is chance) (now_is_image t.log.start t.log.events is.safe.is_log.start is.safe.is_log.events)
+
+  -- its superblock is there
+  formatted : IsUnformatted t.shown → ⊥
+  formatted blank = found_is_usable file t.shown view is.version whole found_shown NotFormatted blank
+
+  had : MayHave file chapters view
+  had = (here file chapters t is chance).had
 
   -- what was opened is the file, in whatever rooms
   one_opened : (layout : Layout) (s : Replica) → IsOpened layout t.shown s → s.file ≡ file
-  one_opened layout s opened =
-      let own : s.file.layout ≡ file.layout = answers.1.layout s.file.layout (layout_shown layout t.shown s opened) in
-      one_file file layout t.shown view s (sym opened.of.layout_is ∙ own) found_shown opened
+  one_opened layout s opened = one_file file layout t.shown view s found_shown opened
 
-  -- ---- the disk failed within the mending
+  -- and boots were left
+  one_unspent : (layout : Layout) (s : Replica) → IsOpened layout t.shown s → boot_of view < 2 ^ 62
+  one_unspent layout s opened =
+      let of = one_opened layout s opened in
+      let there : IsFound (shape file) (unit_at file.layout file.cluster t.shown) opened.view =
+      subst (λ (f : DataFile). IsFound (shape f) (unit_at f.layout f.cluster t.shown) opened.view) of (subst (λ (l : Layout). IsFound (shape s.file) (unit_at l s.file.cluster t.shown) opened.view) (sym opened.of.layout_is) opened.found) in
+      subst (λ (v : View). boot_of v < 2 ^ 62) (one_found_law (shape file) (unit_at file.layout file.cluster t.shown) opened.view view there found_shown) opened.unspent
 
-  good_order : (log : Log) → IsGoodFor Whole (format file) (shape file) view view log → Order file chapters log
-  good_order log good = record {
-    safe = good_safe file Whole view view log good;
-    left = λ image left no. elim (good_left file Whole view view log good image left no) [
-      | inl old ↦ record { view = view; had = (here file chapters t is chance).had; held = old.0; stands = old.1 }
-      | inr new ↦ record { view = view; had = (here file chapters t is chance).had; held = new.0; stands = new.1 }
+  -- ---- the disk failed within the mending or the boot update
+
+  good_order : (raised : View) → KeepsView view raised → (log : Log) → IsGoodFor Whole (format file) (shape file) view raised log → Order file chapters log
+  good_order raised bare log good = record {
+    safe = good_safe file Whole view raised log good;
+    left = λ image left no. elim (good_left file Whole view raised log good image left no) [
+      | inl old ↦ record { view = old.0; had = had_on file chapters view old.0 had old.1; held = old.2.0; stands = old.2.1 }
+      | inr new ↦ record { view = new.0; had = had_on file chapters view new.0 had (keeps_on view raised new.0 bare new.1); held = new.2.0; stands = new.2.1 }
     ];
   }
 
@@ -109,17 +128,20 @@ module _ (file : DataFile) (chapters : List Chapter) (t : Told) (is : IsInOrder 
   mends_comes layout new n to mends =
       let goes = goes_told (did Sync t) new (mends.mending.events, mends.mending.told) in
       let same : goes.0 ≡ n = one_told new goes.0 n goes.1 to in
-      let one : mends.state.file ≡ file = one_opened layout mends.state mends.opened in
+      let one : mends.found.file ≡ file = one_opened layout mends.found mends.opened in
       let es : List Event = mends.mending.events in
+      let d : SuperFields = boot_fields mends.found in
+      let raised : View = kept (begun_state file t view d) in
       let ends : told_after es (did Sync t) ≡ n = one_told new (told_after es (did Sync t)) n (mends.mending.told ∙ added_is_told es (did Sync t)) to in
-      let each : EachMoment (did Sync t).log n.log (IsGoodFor Whole (format file) (shape file) view view) =
-      subst (λ (x : Told). EachMoment (did Sync t).log x.log (IsGoodFor Whole (format file) (shape file) view view)) ends
-      ((subst
+      let both : EachMoment (did Sync t).log (told_after es (did Sync t)).log (IsGoodFor Whole (format file) (shape file) view raised) × IsSameBare view raised =
+      (subst
       (λ (f : DataFile). (g : Grade) (v : View) (base : Told) → base.shown ≡ t.shown → MayOpen f v base → StandsFor g (unit_at f.layout f.cluster t.shown) v
-      → EachMoment (did Sync base).log (told_after es (did Sync base)).log (IsGoodFor g (format f) (shape f) v v)) one mends.moments)
-      Whole view t refl opens (stands_shown file chapters t is chance)) in
+      → EachMoment (did Sync base).log (told_after es (did Sync base)).log (IsGoodFor g (format f) (shape f) v (kept (begun_state f base v d))) × IsSameBare v (kept (begun_state f base v d))) one mends.moments)
+      Whole view t refl opens (stands_shown file chapters t is chance) in
+      let each : EachMoment (did Sync t).log n.log (IsGoodFor Whole (format file) (shape file) view raised) =
+      subst (λ (x : Told). EachMoment (did Sync t).log x.log (IsGoodFor Whole (format file) (shape file) view raised)) ends both.0 in
       let grew : Extends n.log (did Sync t).log = subst (λ (x : Told). Extends x.log (did Sync t).log) same goes.2.grew in
-      let later : EachMoment (did Sync t).log n.log (Order file chapters) = weaker (did Sync t).log n.log (IsGoodFor Whole (format file) (shape file) view view) (Order file chapters) (λ log good. good_order log good) each in
+      let later : EachMoment (did Sync t).log n.log (Order file chapters) = weaker (did Sync t).log n.log (IsGoodFor Whole (format file) (shape file) view raised) (Order file chapters) (λ log good. good_order raised both.1 log good) each in
       record {
         honest = subst IsHonest same (goes.2.honest (record { shows = is.honest.shows }));
         start = grew.2;
@@ -138,11 +160,8 @@ module _ (file : DataFile) (chapters : List Chapter) (t : Told) (is : IsInOrder 
 
   -- ---- the file was opened, and kept
 
-  had : MayHave file chapters view
-  had = (here file chapters t is chance).had
-
   abbrev start : Work
-  start = start_of file t.shown view
+  start = begun_work file t.shown view
 
   keeps_as : (replica : Replica) (acts : List Act) (xs : List Answer) (failed : Option Act) (mending added : List Event) (n : Told) → over mending added t ≡ Some n → replica.file ≡ file
       → KeepsOver replica.file t acts xs failed mending added → KeepsFile file Whole start t acts xs failed (Some n)
@@ -177,55 +196,56 @@ module _ (file : DataFile) (chapters : List Chapter) (t : Told) (is : IsInOrder 
     abbrev ended : Chapter
     ended = record { shown = t.shown; answered = acts; answers = xs; perhaps = list_of failed }
 
-    module _ (inputs : AreInputs (acts ++ list_of failed)) where
+    module _ (unspent : boot_of view < 2 ^ 62) (inputs : AreInputs (acts ++ list_of failed)) where
       -- at the end these acts came through
       all_came : (image : Image) (came more rest : List Act) → came ≡ acts ++ more → list_of failed ≡ more ++ rest → HasView file Whole (work_after file start came) image → Has file (ended ∷ chapters) image
       all_came image came more rest are some has = record {
-        view = kept (work_after file start came);
-        had = (view, had, inr (came, record { whole = answers.0; found = found_shown; inputs = inputs; answers_are = keeps.answered; came = record { more = more; rest = rest; are = are; some = some }; view = refl }));
-        held = has.0;
-        stands = has.1;
+        view = has.0;
+        had = (view, had, inr (came, record { whole = whole; found = found_shown; unspent = unspent; inputs = inputs; answers_are = keeps.answered; came = record { more = more; rest = rest; are = are; some = some }; view = has.1 }));
+        held = has.2.0;
+        stands = has.2.1;
       }
 
-  end_order : (acts : List Act) (xs : List Answer) (failed : Option Act) (n : Told) (keeps : KeepsFile file Whole start t acts xs failed (Some n)) → AreInputs (acts ++ list_of failed)
+  end_order : (acts : List Act) (xs : List Answer) (failed : Option Act) (n : Told) (keeps : KeepsFile file Whole start t acts xs failed (Some n)) → boot_of view < 2 ^ 62 → AreInputs (acts ++ list_of failed)
       → LeavesAll file Whole start acts failed n → Order file (record { shown = t.shown; answered = acts; answers = xs; perhaps = list_of failed } ∷ chapters) n.log
-  end_order acts xs None n keeps inputs all = record {
+  end_order acts xs None n keeps unspent inputs all = record {
     safe = (last acts xs None n keeps).safe;
-    left = λ image left no. all_came acts xs None n keeps inputs image acts [] [] (sym (append-nil acts)) refl (all image left no);
+    left = λ image left no. all_came acts xs None n keeps unspent inputs image acts [] [] (sym (append-nil acts)) refl (all image left no);
   }
-  end_order acts xs (Some a) n keeps inputs all = record {
+  end_order acts xs (Some a) n keeps unspent inputs all = record {
     safe = (last acts xs (Some a) n keeps).safe;
     left = λ image left no. elim (all image left no) [
-      | inl before ↦ all_came acts xs (Some a) n keeps inputs image acts [] (a ∷ []) (sym (append-nil acts)) refl before
-      | inr after ↦ all_came acts xs (Some a) n keeps inputs image (acts ++ a ∷ []) (a ∷ []) [] refl refl after
+      | inl before ↦ all_came acts xs (Some a) n keeps unspent inputs image acts [] (a ∷ []) (sym (append-nil acts)) refl before
+      | inr after ↦ all_came acts xs (Some a) n keeps unspent inputs image (acts ++ a ∷ []) (a ∷ []) [] refl refl after
     ];
   }
 
   -- up to a moment these did
-  module _ (c : CallsMade) (n : Told) (keeps : KeepsFile file Whole start t c.acts c.answers c.failed (Some n)) (inputs : AreInputs (c.acts ++ list_of c.failed)) where
+  module _ (c : CallsMade) (n : Told) (keeps : KeepsFile file Whole start t c.acts c.answers c.failed (Some n)) (unspent : boot_of view < 2 ^ 62) (inputs : AreInputs (c.acts ++ list_of c.failed)) where
     abbrev cut : ℕ → Chapter
     cut k = chapter_of (ToAMoment k) t.shown c
 
     some_came : (k : ℕ) (image : Image) → HasFront file Whole (work_after file start (take k c.acts)) (drop k c.acts ++ list_of c.failed) image → Has file (cut k ∷ chapters) image
     some_came k image has = record {
-      view = kept (work_after file (work_after file start (take k c.acts)) has.front);
+      view = has.has.0;
       had = (
         view,
         had,
         inr (
           take k c.acts ++ has.front,
           record {
-            whole = answers.0;
+            whole = whole;
             found = found_shown;
+            unspent = unspent;
             inputs = subst AreInputs (sym (front_and_rest k c.acts (list_of c.failed))) inputs;
             answers_are = ap (take k) keeps.answered ∙ first_answers file k start c.acts;
             came = record { more = has.front; rest = has.rest; are = refl; some = has.are };
-            view = sym (ap (λ (w : Work). kept w) (work_on file start (take k c.acts) has.front));
+            view = subst (λ (w : Work). KeepsView (kept w) has.has.0) (sym (work_on file start (take k c.acts) has.front)) has.has.1;
           },
         ),
       );
-      held = has.has.0;
-      stands = has.has.1;
+      held = has.has.2.0;
+      stands = has.has.2.1;
     }
 
     mid_order : (k : ℕ) (log : Log) → IsMidway file Whole (work_after file start (take k c.acts)) (drop k c.acts ++ list_of c.failed) log → Order file (cut k ∷ chapters) log
@@ -235,7 +255,7 @@ module _ (file : DataFile) (chapters : List Chapter) (t : Told) (is : IsInOrder 
     }
 
     none_came : (image : Image) → Has file chapters image → Has file (cut 0 ∷ chapters) image
-    none_came image has = record { view = has.view; had = (has.view, has.had, inl (record { none = refl; no_answers = refl; same = refl })); held = has.held; stands = has.stands }
+    none_came image has = record { view = has.view; had = (has.view, has.had, inl (record { none = refl; no_answers = refl; same = keeps_self has.view })); held = has.held; stands = has.stands }
 
     cut_order : (log : Log) → Order file chapters log → Order file (cut 0 ∷ chapters) log
     cut_order log order = record { safe = order.safe; left = λ image left no. none_came image (order.left image left no) }
@@ -258,7 +278,7 @@ module _ (file : DataFile) (chapters : List Chapter) (t : Told) (is : IsInOrder 
       served_comes = record {
         honest = honest_end c.acts c.answers c.failed n keeps;
         start = (barrier c.acts c.answers c.failed n keeps).2;
-        at_end = end_order c.acts c.answers c.failed n keeps inputs (leaves c.acts c.answers c.failed n keeps);
+        at_end = end_order c.acts c.answers c.failed n keeps unspent inputs (leaves c.acts c.answers c.failed n keeps);
         moments = all_moments;
       }
 
@@ -270,7 +290,7 @@ module _ (file : DataFile) (chapters : List Chapter) (t : Told) (is : IsInOrder 
       safe = mid.safe;
       left = λ image left no.
           let has : HasView file Whole start image = mid.left image left no in
-          record { view = view; had = had; held = has.0; stands = has.1 };
+          record { view = has.0; had = had_on file chapters view has.0 had (keeps_on view (kept start) has.0 (begun_bare file t.shown view) has.1); held = has.2.0; stands = has.2.1 };
     }
 
     idle_moments : EachMoment (did Sync t).log n.log (Order file chapters)
@@ -288,29 +308,35 @@ module _ (file : DataFile) (chapters : List Chapter) (t : Told) (is : IsInOrder 
 
   module _ (layout : Layout) (old new : Outside) (status : Status) (n : Told) (to : new.told ≡ Some n) where
     -- calls behind an open and what it mended
-    calls_come : (replica : Replica) (c : CallsMade) (mending : Mends replica.file (Some (did Sync t)) c.old) → IsOpened layout t.shown replica → new.told ≡ after_all (events_made c) c.old
+    calls_come : (replica : Replica) (c : CallsMade) (mending : Mends replica.file (Some (did Sync t)) c.old) → replica.file ≡ file → boot_of view < 2 ^ 62 → new.told ≡ after_all (events_made c) c.old
         → KeepsOver replica.file t c.acts c.answers c.failed mending.events (events_made c) → AnsweredOver replica.file t mending.events c → Comes file chapters (Some c) t n
-    calls_come replica c mending opened adds keeps acknowledged =
-        let one : replica.file ≡ file = one_opened layout replica opened in
-        let whole : KeepsFile file Whole start t c.acts c.answers c.failed (Some n) =
+    calls_come replica c mending one unspent adds keeps acknowledged =
+        let kept_whole : KeepsFile file Whole start t c.acts c.answers c.failed (Some n) =
         keeps_as replica c.acts c.answers c.failed mending.events (events_made c) n (sym (told_over mending.events (events_made c) t c.old new.told mending.told adds) ∙ to) one keeps in
         let inputs : AreInputs (c.acts ++ list_of c.failed) = ends_inputs c.from c.to c.old c.new c.acts c.answers c.failed c.calls in
-        served_comes c n whole inputs (answered_as replica c mending.events (sym (told_over mending.events [] t c.old c.old mending.told refl)) one acknowledged) (sym adds ∙ to)
+        served_comes c n kept_whole unspent inputs (answered_as replica c mending.events (sym (told_over mending.events [] t c.old c.old mending.told refl)) one acknowledged) (sym adds ∙ to)
 
-    -- no call was made on what was found
+    -- what was found is the file
+    found_one : (found : FoundFile layout t) → found.replica.file ≡ file
+    found_one found = file_there layout t found ∙ one_opened layout found.found found.is_opened
+
+    found_unspent : (found : FoundFile layout t) → boot_of view < 2 ^ 62
+    found_unspent found = one_unspent layout found.found found.is_opened
+
+    -- no call was made on it
     idles : (found : FoundFile layout t) → new.told ≡ found.mended → CallsKeep t found.replica found.mended found.mending (no_calls found) → Comes file chapters None t n
     idles found told calls =
         idle_comes n
-        (keeps_as found.replica [] [] None found.mending.events [] n (sym (told_over found.mending.events [] t found.mended found.mended found.mending.told refl) ∙ sym told ∙ to) (one_opened layout found.replica found.is_opened) calls.keeps)
+        (keeps_as found.replica [] [] None found.mending.events [] n (sym (told_over found.mending.events [] t found.mended found.mended found.mending.told refl) ∙ sym told ∙ to) (found_one found) calls.keeps)
 
     works_come : (mode : Mode) (found : FoundFile layout t) (works : Works mode layout t found old new status) → Comes file chapters (word_calls mode layout t found old new status works) t n
     works_come (Format shape cluster) found works = absurd works
-    works_come Run found serves = calls_come found.replica (script_calls serves.session) found.mending found.is_opened serves.adds serves.calls.keeps serves.calls.acknowledged
-    works_come (Paced pace) found serves = calls_come found.replica (script_calls serves.session) found.mending found.is_opened serves.adds serves.calls.keeps serves.calls.acknowledged
+    works_come Run found serves = calls_come found.replica (script_calls serves.session) found.mending (found_one found) (found_unspent found) serves.adds serves.calls.keeps serves.calls.acknowledged
+    works_come (Paced pace) found serves = calls_come found.replica (script_calls serves.session) found.mending (found_one found) (found_unspent found) serves.adds serves.calls.keeps serves.calls.acknowledged
     works_come Recover found recovers = idles found recovers.told recovers.calls
     works_come Inspect found inspects = sync_comes n (one_told new.told (did Sync t) n inspects.barrier to)
     works_come Scrub found scrubs = idles found (scrubs.told ∙ sym scrubs.is_mended) scrubs.calls
-    works_come (Workload seed count) found works = calls_come found.replica (run_calls works.worked) found.mending found.is_opened works.calls.adds works.calls.keeps works.calls.acknowledged
+    works_come (Workload seed count) found works = calls_come found.replica (run_calls works.worked) found.mending (found_one found) (found_unspent found) works.calls.adds works.calls.keeps works.calls.acknowledged
 
     -- the disk failed before that
     before_comes : (mode : Mode) → StopsBefore mode layout t new.told → Comes file chapters None t n
@@ -333,7 +359,7 @@ module _ (file : DataFile) (chapters : List Chapter) (t : Told) (is : IsInOrder 
   outcome_comes : (mode : Mode) (old new : Outside) (status : Status) (n : Told) → old.told ≡ Some t → new.told ≡ Some n → (outcome : Outcome mode t old new status)
       → Comes file chapters (calls_in mode t old new status outcome) t n
   outcome_comes mode old new status n from to (inl nothing) = same_comes n (one_told new.told t n (nothing.without.same ∙ from) to)
-  outcome_comes mode old new status n from to (inr (inl refuses)) = absurd (answers.1.usable refuses.error refuses.is)
+  outcome_comes mode old new status n from to (inr (inl refuses)) = same_comes n (one_told new.told t n (refuses.same ∙ from) to)
   outcome_comes mode old new status n from to (inr (inr does)) = does_comes does.0 old new status n to mode does.1
 
   pub word_comes : (n : Told) (word : Word t n) → Comes file chapters (calls_made t n word) t n
@@ -342,10 +368,10 @@ module _ (file : DataFile) (chapters : List Chapter) (t : Told) (is : IsInOrder 
   -- ---- the word `format` again
 
   pub formatted_same : (layout : Layout) (cluster : ℕ) (n : Told) (old new : Option (List ℕ)) (status : Status) → Formats layout cluster (Some t) (Some n) old new status → t ≡ n
-  formatted_same layout cluster n old new Done made = absurd (answers.1.usable NotFormatted (made.0.may.blank t refl))
+  formatted_same layout cluster n old new Done made = absurd (formatted (made.0.may.blank t refl))
   formatted_same layout cluster n old new Refused refuses = one_told (Some n) t n refuses.1.same refl
-  formatted_same layout cluster n old new DiskFault part = elim part.1 [ inl none ↦ one_told (Some n) t n none refl | inr blank ↦ absurd (answers.1.usable NotFormatted blank) ]
-  formatted_same layout cluster n old new WriteFault (inl made) = absurd (answers.1.usable NotFormatted (made.0.may.blank t refl))
+  formatted_same layout cluster n old new DiskFault part = elim part.1 [ inl none ↦ one_told (Some n) t n none refl | inr blank ↦ absurd (formatted blank) ]
+  formatted_same layout cluster n old new WriteFault (inl made) = absurd (formatted (made.0.may.blank t refl))
   formatted_same layout cluster n old new WriteFault (inr refuses) = one_told (Some n) t n refuses.1.same refl
   formatted_same layout cluster n old new Memory nothing = one_told (Some n) t n nothing.0 refl
   formatted_same layout cluster n old new Found none = absurd none
@@ -373,7 +399,7 @@ left_by log changes is loose = record {
   kept = λ sector firm. changed_kept log.events changes (now log) sector loose firm;
 }
 
-module _ (file : DataFile) (chapters : List Chapter) (t : Told) (version : file.version ≡ 1) (safe : IsSafeDisk (format file) (shape file) t.log) (honest : IsHonest t) (changes : List (ℕ × List ℕ)) (loose : AreLoose t.log.events changes)
+module _ (file : DataFile) (chapters : List Chapter) (t : Told) (version : file.version ≡ 2) (safe : IsSafeDisk (format file) (shape file) t.log) (honest : IsHonest t) (changes : List (ℕ × List ℕ)) (loose : AreLoose t.log.events changes)
     (chance : NoChanceOf (format file) t.log (changed changes (now t.log))) (there : Has file chapters (changed changes (now t.log))) where
   rests : RestsOn (shape file) (units_log (format file) (did (Stop changes) t).log) there.view
   rests = disk_stop_law (format file) (shape file) there.view t.log changes safe loose chance there.held
@@ -400,7 +426,7 @@ every_life_is_in_order _ _ _ (Begun layout cluster t n m status changes makable 
     let file = file_of layout cluster makable.named in
     let safe = made_safe layout cluster t n makable honest status word wanting m.log moment in
     stopped_order file [] m refl safe there changes loose chance
-    (record { view = first_view layout cluster; had = refl; held = held; stands = none_referenced file (changed changes (now m.log)) })
+    (record { view = first_view layout cluster; had = keeps_self (first_view layout cluster); held = held; stands = none_referenced file (changed changes (now m.log)) })
 every_life_is_in_order _ _ _ (Ran file t n chapters word life chance) =
     let is = every_life_is_in_order file t chapters life in
     let comes = word_comes file chapters t is chance n word in

@@ -9,7 +9,7 @@ use Rattle.df_layout.specs.declared.layout.Layout.{Layout}
 use Rattle.df_theory.specs.Found.{IsFound}
 use Rattle.df_theory.specs.Shape.{Shape}
 use Rattle.df_theory.specs.Units.{AnyUnit, Message, Parts, Place}
-use Rattle.df_theory.specs.View.{View}
+use Rattle.df_theory.specs.View.{View, head, sequence}
 use Rattle.df_units.specs.Bytes.{unit_at}
 use Rattle.df_model.specs.After.{after_running, after_step_of, outcome, to_check, with_prepare, with_reply}
 use Rattle.df_model.specs.Changing.{appended_in, begun_in, checked_in, course_on, memory_after, replied_in, step_in, unless_refused}
@@ -17,7 +17,7 @@ use Rattle.df_model.specs.Commands.{Advance, Answer, Append, Begin, Command, Giv
 use Rattle.df_model.specs.Making.{needed_of, place_of_reply, prepare_of, reply_of}
 use Rattle.df_model.specs.Memory.{Course, Memory, course, course_of, memory_of}
 use Rattle.df_model.specs.Refusals.{append_refusals, begin_refusals, first_refusal, reply_refusals}
-use Rattle.df_model.specs.Supply.{Codec, Shown, next, result, shown_after}
+use Rattle.df_model.specs.Supply.{Codec, Shown, begun_from, next, result, shown_after}
 use Rattle.df_model.specs.Work.{Running, Work, opened}
 use Rattle.df_model.specs.declared.errors.AppendError.{AppendError}
 use Rattle.df_model.specs.declared.errors.BeginError.{BeginError}
@@ -26,27 +26,28 @@ use Rattle.df_model.specs.declared.answers.Progress.TheVariants.{Done as Ended}
 use Rattle.df_model.specs.declared.answers.Verdict.{Verdict}
 use Rattle.df_model.specs.declared.answers.Verdict.TheVariants.{Sound, Failing}
 use Rattle.df_model.proofs.Laws.{change_law}
-use Rattle.df_replica.specs.Below.{DataFile, IsOpened, State as Replica, memory, shape, spelling}
+use Rattle.df_replica.specs.Below.{DataFile, State as Replica, memory, shape, spelling}
 use Rattle.df_replica.specs.Reading.{shown_of}
 use Rattle.df_replica.specs.Serving.{Firm, Keeps, next as next_work}
 use Rattle.df_replica.specs.Session.{Act}
-use Rattle.df_replica.proofs.Laws.{found_keeps}
 use Rattle.df_session.specs.Below.{AgreeShown, codec}
 use Rattle.df_workload.specs.Asking.{asks}
 use Rattle.df_workload.specs.Following.{Follows}
 use Rattle.df_workload.specs.Hearing.{heard}
 use Rattle.df_workload.specs.Rounds.{start}
 use Rattle.df_workload.specs.declared.state.State.{State as Run}
+use Rattle.df_session.specs.Begun.{begun_work}
 use Rattle.df_session.specs.Found.{FoundFile}
 use Rattle.df_session.specs.Links.{AreCalls, EndsCalls, command_in}
+use Rattle.df_session.proofs.Laws.{file_there, layout_there, view_there}
 use Rattle.df_top.specs.Outside.{Outside}
 use Rattle.df_top.specs.Working.{WorksThrough}
 use Rattle.df_top.specs.Works.{Writes, asked_by, workload_of}
 use Rattle.df_top.specs.declared.status.Status.{Status}
 use Rattle.df_top.specs.declared.status.Status.TheVariants.{Done, Script, Words, Refused, Memory as NoMemory, DiskFault, ReadFault, WriteFault, Found}
-use Rattle.df_top.proofs.Laws.{agree_self, found_here}
+use Rattle.df_top.proofs.Laws.{agree_self}
 use Rattle.df_lifetime.specs.Printed.{HasEnded, OnFile, PrintsOne, Twice, WorkloadHasOneText}
-use Rattle.df_lifetime.proofs.Alike.{agree_there, file_alike, memory_alike, units_alike, view_alike}
+use Rattle.df_lifetime.proofs.Alike.{agree_there, file_alike, units_alike, view_alike}
 
 -- ---- one way
 
@@ -183,21 +184,21 @@ module _ (seed count : ℕ) (layout : Layout) (t : Told) (old new : Outside) (st
   asks_none = works.worked.asked ∙ ap asked_by by_end.0
 
   found : IsFound (shape opening.replica.file) (unit_at opening.replica.file.layout opening.replica.file.cluster t.shown) opening.is_opened.view
-  found = found_here layout t.shown opening.replica opening.is_opened
-
-  pub opened_here : IsOpened opening.replica.file.layout t.shown opening.replica
-  opened_here = subst (λ (l : Layout). IsOpened l t.shown opening.replica) (sym opening.is_opened.of.layout_is) opening.is_opened
+  found = view_there layout t opening
 
   pub last_numbers : numbers_in (memory works.last) ≡ after_answers works.worked.answers (numbers_in (memory opening.replica))
   last_numbers =
-      calls_count opening.replica works.last opening.mended new.told works.worked.acts works.worked.answers
-      (opened (shape opening.replica.file) (unit_at opening.replica.file.layout opening.replica.file.cluster t.shown) opening.is_opened.view)
+      calls_count opening.replica works.last opening.mended new.told works.worked.acts works.worked.answers (begun_work opening.replica.file t.shown opening.is_opened.view)
       (subst (λ (o : Option Act). EndsCalls opening.replica works.last opening.mended new.told works.worked.acts works.worked.answers o) by_end.0 works.worked.calls)
-      (found_keeps opening.replica t.shown opening.is_opened.view whole opened_here found)
+      (works.calls.stands opening.is_opened.view found)
+
+  -- the numbers that its calls begin with are those of a view that is found
+  pub first_numbers : (view : View) → IsFound (shape opening.replica.file) (unit_at opening.replica.file.layout opening.replica.file.cluster t.shown) view → numbers_in (memory opening.replica) ≡ (head view, view.replies, sequence view)
+  first_numbers view there = ap numbers_in (works.calls.stands view there).1
 
   -- its answers over what is shown
   pub answers_over : (shown : Shown) → AgreeShown opening.replica.file.layout (shown_of opening.replica.file t.shown) shown
-      → works.worked.answers ≡ result (shape opening.replica.file) (codec opening.replica.file) shown (opened (shape opening.replica.file) (unit_at opening.replica.file.layout opening.replica.file.cluster t.shown) opening.is_opened.view) (map command_in works.worked.acts)
+      → works.worked.answers ≡ result (shape opening.replica.file) (codec opening.replica.file) shown (begun_work opening.replica.file t.shown opening.is_opened.view) (map command_in works.worked.acts)
   answers_over shown agree = works.calls.result opening.is_opened.view shown found agree
 
 -- ---- two of them
@@ -227,23 +228,29 @@ module _ (seed count : ℕ) (layout : Layout) (runs : Twice layout (OnFile layou
   abbrev u : Replica
   u = there.replica
 
+  file : s.file ≡ u.file
+  file = file_there layout runs.one.told here ∙ file_alike layout a b runs.same here.found there.found here.is_opened there.is_opened ∙ sym (file_there layout runs.other.told there)
+
+  views : here.is_opened.view ≡ there.is_opened.view
+  views = view_alike layout a b runs.same here.found there.found here.is_opened there.is_opened
+
   -- what commands answer over the second image
   abbrev over : DataFile → (Place → Option AnyUnit) → View → List Command → List Answer
-  over f image v cs = result (shape f) (codec f) (shown_of f b) (opened (shape f) image v) cs
+  over f image v cs = result (shape f) (codec f) (shown_of f b) (begun_from (shape f) (codec f) (opened (shape f) image v)) cs
 
   over_alike : (cs : List Command) → over s.file (unit_at s.file.layout s.file.cluster a) here.is_opened.view cs ≡ over u.file (unit_at u.file.layout u.file.cluster b) there.is_opened.view cs
   over_alike cs =
       let alike_there : unit_at s.file.layout s.file.cluster a ≡ unit_at s.file.layout s.file.cluster b =
-      subst (λ (l : Layout). unit_at l s.file.cluster a ≡ unit_at l s.file.cluster b) (sym here.is_opened.of.layout_is) (units_alike layout a b runs.same s.file.cluster) in
+      subst (λ (l : Layout). unit_at l s.file.cluster a ≡ unit_at l s.file.cluster b) (sym (layout_there layout runs.one.told here)) (units_alike layout a b runs.same s.file.cluster) in
       ap (λ (image : Place → Option AnyUnit). over s.file image here.is_opened.view cs) alike_there
-      ∙ ap (λ (v : View). over s.file (unit_at s.file.layout s.file.cluster b) v cs) (view_alike layout a b runs.same s u here.is_opened there.is_opened)
-      ∙ ap (λ (f : DataFile). over f (unit_at f.layout f.cluster b) there.is_opened.view cs) (file_alike layout a b runs.same s u here.is_opened there.is_opened)
+      ∙ ap (λ (v : View). over s.file (unit_at s.file.layout s.file.cluster b) v cs) views
+      ∙ ap (λ (f : DataFile). over f (unit_at f.layout f.cluster b) there.is_opened.view cs) file
 
   alike : (one.run ≡ other.run) × (one.worked.answers ≡ other.worked.answers)
   alike =
-      let w : Work = opened (shape u.file) (unit_at u.file.layout u.file.cluster b) there.is_opened.view in
+      let w : Work = begun_work u.file b there.is_opened.view in
       let first =
-      answers_over seed count layout runs.one.told runs.one.old runs.one.new runs.one.status here one whole runs.ended.0 (shown_of s.file b) (agree_there layout a b runs.same s.file here.is_opened.of.layout_is)
+      answers_over seed count layout runs.one.told runs.one.old runs.one.new runs.one.status here one whole runs.ended.0 (shown_of s.file b) (agree_there layout a b runs.same s.file (layout_there layout runs.one.told here))
       ∙ over_alike (map command_in one.worked.acts) in
       let second =
       answers_over seed count layout runs.other.told runs.other.old runs.other.new runs.other.status there other entire runs.ended.1 (shown_of u.file b) (agree_self u.file.layout (shown_of u.file b)) in
@@ -251,10 +258,16 @@ module _ (seed count : ℕ) (layout : Layout) (runs : Twice layout (OnFile layou
       other.worked.follows (asks_none seed count layout runs.one.told runs.one.old runs.one.new runs.one.status here one whole runs.ended.0) (asks_none seed count layout runs.other.told runs.other.old runs.other.new runs.other.status there other entire runs.ended.1)
       first second
 
+  firsts : numbers_in (memory s) ≡ numbers_in (memory u)
+  firsts =
+      first_numbers seed count layout runs.one.told runs.one.old runs.one.new runs.one.status here one whole runs.ended.0 here.is_opened.view (view_there layout runs.one.told here)
+      ∙ ap (λ (v : View). (head v, v.replies, sequence v)) views
+      ∙ sym (first_numbers seed count layout runs.other.told runs.other.old runs.other.new runs.other.status there other entire runs.ended.1 there.is_opened.view (view_there layout runs.other.told there))
+
   numbers_alike : numbers_in (memory one.last) ≡ numbers_in (memory other.last)
   numbers_alike =
       last_numbers seed count layout runs.one.told runs.one.old runs.one.new runs.one.status here one whole runs.ended.0
-      ∙ ap (λ (m : Memory). after_answers one.worked.answers (numbers_in m)) (memory_alike layout a b runs.same s u here.is_opened there.is_opened)
+      ∙ ap (after_answers one.worked.answers) firsts
       ∙ ap (λ (xs : List Answer). after_answers xs (numbers_in (memory u))) alike.1
       ∙ sym (last_numbers seed count layout runs.other.told runs.other.old runs.other.new runs.other.status there other entire runs.ended.1)
 

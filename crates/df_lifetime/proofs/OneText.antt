@@ -15,7 +15,7 @@ use Rattle.df_top.specs.declared.status.Status.{Status}
 use Rattle.df_top.specs.declared.status.Status.TheVariants.{Done}
 use Rattle.df_top.proofs.Laws.{summary_same}
 use Rattle.df_lifetime.specs.Printed.{Carried, HasEnded, OnFile, PrintsOne, RecoverHasOneText}
-use Rattle.df_lifetime.proofs.Alike.{fields_alike, file_alike, memory_alike}
+use Rattle.df_lifetime.proofs.Alike.{fields_alike, file_alike, memory_alike, summary_there}
 
 -- ---- a text that is printed
 
@@ -42,4 +42,4 @@ recover_has_one_text layout runs =
     let first : FoundFile layout runs.one.told = runs.one.does.0 in
     let second : FoundFile layout runs.other.told = runs.other.does.0 in
     same_prints (summary_text (summary_of first.replica)) (summary_text (summary_of second.replica)) Done Done (OnFile layout (Recovers layout)) runs.one runs.other
-    (ap summary_text (summary_alike layout runs.one.told.shown runs.other.told.shown runs.same first.replica second.replica first.is_opened second.is_opened)) refl runs.ended.0 runs.ended.1 runs.one.does.1.prints runs.other.does.1.prints
+    (ap summary_text (summary_there layout runs.one.told first ∙ summary_alike layout runs.one.told.shown runs.other.told.shown runs.same first.found second.found first.is_opened second.is_opened ∙ sym (summary_there layout runs.other.told second))) refl runs.ended.0 runs.ended.1 runs.one.does.1.prints runs.other.does.1.prints

@@ -7,23 +7,25 @@ use Rattle.df_inspect.specs.Reports.{failing_texts}
 use Rattle.df_layout.specs.declared.damage.Finding.{Finding}
 use Rattle.df_layout.specs.declared.layout.Layout.{Layout}
 use Rattle.df_theory.specs.Units.{AnyUnit, BlockPlace}
-use Rattle.df_model.specs.Blocks.{entries, entry, reference_in}
-use Rattle.df_model.specs.Memory.{Memory, referenced_of}
+use Rattle.df_model.specs.Blocks.{Blocks, entries, entry, reference_in, referenced_in}
+use Rattle.df_model.specs.Memory.{Memory}
 use Rattle.df_model.specs.Reading.{failing, with_finding}
 use Rattle.df_model.specs.Supply.{Shown, block_given, check_of, class_at, class_or, verdict_of}
 use Rattle.df_model.specs.declared.answers.Scrubbed.TheVariants.{TourEnd}
-use Rattle.df_replica.specs.Below.{DataFile, State as Replica, failing_in, grid_with, memory}
+use Rattle.df_units.specs.Meaning.{layout_of}
+use Rattle.df_replica.specs.Below.{DataFile, State as Replica, failing_in, grid_with}
 use Rattle.df_replica.specs.Leaving.{SparesReads}
 use Rattle.df_replica.specs.Reading.{shown_of}
 use Rattle.df_session.specs.Below.{AgreeShown}
 use Rattle.df_script_model.specs.Texts.{scrubbed_text}
 use Rattle.df_session.specs.Found.{FoundFile}
+use Rattle.df_session.proofs.Laws.{file_there, layout_there}
 use Rattle.df_top.specs.Outside.{PrintsLine}
 use Rattle.df_top.specs.Scrubs.{PrintsTour, ScrubsFile, failing_blocks, tour_report, tour_status}
 use Rattle.df_top.specs.declared.status.Status.{Status}
 use Rattle.df_top.proofs.Laws.{unit_spared}
 use Rattle.df_lifetime.specs.Printed.{HasEnded, OnFile, PrintsOne, ScrubHasOneText, Twice}
-use Rattle.df_lifetime.proofs.Alike.{agree_there, file_alike, memory_alike}
+use Rattle.df_lifetime.proofs.Alike.{agree_there, blocks_there, file_alike, memory_alike}
 use Rattle.df_lifetime.proofs.OneText.{same_prints}
 
 -- ---- a check
@@ -75,20 +77,28 @@ module _ (layout : Layout) (runs : Twice layout (OnFile layout (ScrubsFile layou
   abbrev u : Replica
   u = there_found.replica
 
-  known : memory s ≡ memory u
-  known = memory_alike layout runs.one.told.shown runs.other.told.shown runs.same s u here_found.is_opened there_found.is_opened
+  known : s.blocks ≡ u.blocks
+  known =
+      blocks_there layout runs.one.told here_found
+      ∙ ap (λ (m : Memory). m.blocks) (memory_alike layout runs.one.told.shown runs.other.told.shown runs.same here_found.found there_found.found here_found.is_opened there_found.is_opened)
+      ∙ sym (blocks_there layout runs.other.told there_found)
+
+  file : s.file ≡ u.file
+  file =
+      file_there layout runs.one.told here_found
+      ∙ file_alike layout runs.one.told.shown runs.other.told.shown runs.same here_found.found there_found.found here_found.is_opened there_found.is_opened
+      ∙ sym (file_there layout runs.other.told there_found)
 
   here : AgreeShown s.file.layout (shown_of s.file one.after.shown) (shown_of s.file other.after.shown)
-  here = subst (λ (l : Layout). AgreeShown l (shown_of s.file one.after.shown) (shown_of s.file other.after.shown)) (sym here_found.is_opened.of.layout_is) agree
+  here = subst (λ (l : Layout). AgreeShown l (shown_of s.file one.after.shown) (shown_of s.file other.after.shown)) (sym (layout_there layout runs.one.told here_found)) agree
 
   listed : failing_blocks s one.after.shown ≡ failing_blocks u other.after.shown
   listed =
       failing_alike s.file.layout (shown_of s.file one.after.shown) (shown_of s.file other.after.shown) here (reference_in s.blocks) 1 s.file.layout.blocks (omega arith) (omega arith)
-      ∙ ap (λ (m : Memory). failing_in (grid_with s.file m.blocks) other.after.shown) known
-      ∙ ap (λ (f : DataFile). failing_in (grid_with f u.blocks) other.after.shown) (file_alike layout runs.one.told.shown runs.other.told.shown runs.same s u here_found.is_opened there_found.is_opened)
+      ∙ ap (λ (b : Blocks). failing_in (grid_with s.file s.boot b) other.after.shown) known ∙ ap (λ (f : DataFile). failing_in (grid_with f s.boot u.blocks) other.after.shown) file
 
   report : tour_report s one.after.shown ≡ tour_report u other.after.shown
-  report = λ i. failing_texts (listed i) ++ scrubbed_text (TourEnd (length (referenced_of (known i))) (length (listed i)))
+  report = λ i. failing_texts (listed i) ++ scrubbed_text (TourEnd (length (referenced_in (layout_of (file i).layout) (known i))) (length (listed i)))
 
   tours_print_one : PrintsOne runs.one runs.other
   tours_print_one =
@@ -117,8 +127,9 @@ scrub_has_one_text layout runs =
     let one : ScrubsFile layout runs.one.told here runs.one.old runs.one.new runs.one.status = runs.one.does.1 in
     let other : ScrubsFile layout runs.other.told there runs.other.old runs.other.new runs.other.status = runs.other.does.1 in
     let s : Replica = here.replica in
-    let of : s.file.layout ≡ layout = here.is_opened.of.layout_is in
-    let file : s.file ≡ there.replica.file = file_alike layout runs.one.told.shown runs.other.told.shown runs.same s there.replica here.is_opened there.is_opened in
+    let of : s.file.layout ≡ layout = layout_there layout runs.one.told here in
+    let file : s.file ≡ there.replica.file =
+    file_there layout runs.one.told here ∙ file_alike layout runs.one.told.shown runs.other.told.shown runs.same here.found there.found here.is_opened there.is_opened ∙ sym (file_there layout runs.other.told there) in
     let spared : SparesReads s.file runs.other.told.shown other.after.shown = subst (λ (f : DataFile). SparesReads f runs.other.told.shown other.after.shown) (sym file) other.spares in
     let agree = spared_agree s.file runs.one.told.shown runs.other.told.shown one.after.shown other.after.shown one.spares spared (agree_there layout runs.one.told.shown runs.other.told.shown runs.same s.file of) in
     tours_print_one layout runs (subst (λ (l : Layout). AgreeShown l (shown_of s.file one.after.shown) (shown_of s.file other.after.shown)) of agree)

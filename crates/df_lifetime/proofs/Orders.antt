@@ -20,6 +20,7 @@ use Rattle.df_replica.specs.Below.{shape, DataFile}
 use Rattle.df_replica.specs.Following.{MayOpen}
 use Rattle.df_replica.specs.Making.{MayMakeOn, file_of, making_events}
 use Rattle.df_replica.specs.Serving.{format}
+use Rattle.df_replica.proofs.Laws.{keeps_self}
 use Rattle.df_top.specs.Formats.{MakesOn}
 use Rattle.df_top.specs.declared.status.Status.{Status}
 use Rattle.df_top.specs.declared.status.Status.TheVariants.{Done, Memory}
@@ -47,7 +48,7 @@ module _ (file : DataFile) (chapters : List Chapter) where
         record { view = has.0; had = has.1; held = has.2; stands = has.3 };
   }
 
-  pub in_order : (t : Told) → file.version ≡ 1 → IsHonest t → Order t.log → IsInOrder file chapters t
+  pub in_order : (t : Told) → file.version ≡ 2 → IsHonest t → Order t.log → IsInOrder file chapters t
   in_order t version honest order = record {
     version = version;
     safe = order.safe;
@@ -69,7 +70,7 @@ module _ (file : DataFile) (chapters : List Chapter) where
     pub may : MayOpen file here.view t
     may = record { version = is.version; safe = is.safe; honest = is.honest; found = (found_law (shape file) ((format file).unit_at (now t.log)) here.view).0 here.held; no_chance = chance }
 
-    shows : now t.log ≡ t.shown
+    pub shows : now t.log ≡ t.shown
     shows = λ i sector. sym (is.honest.shows sector) i
 
     pub stands_shown : Stands (unit_at file.layout file.cluster t.shown) here.view
@@ -110,7 +111,7 @@ tidy_order file log safe tidy = record {
   safe = safe;
   left = λ image left chance. record {
     view = first_view file.layout file.cluster;
-    had = refl;
+    had = keeps_self (first_view file.layout file.cluster);
     held = rests_holds (shape file) (units_log (format file) log) (first_view file.layout file.cluster) tidy.rests ((format file).unit_at image) (firm_units (format file) (is_format file.layout file.cluster) log image left.kept) chance;
     stands = none_referenced file image;
   };

@@ -15,7 +15,7 @@ use Rattle.df_model.specs.After.{after_advance, after_begin, after_block, after_
 use Rattle.df_model.specs.Commands.{Advance, Answer, Command, ToAdvance, ToAppend, ToBegin, ToReadBlock, ToReadPrepare, ToReadReply, ToRecent, ToRelease, ToReply, ToScrub, ToWriteBlock, WriteBlock}
 use Rattle.df_model.specs.Memory.{memory_of}
 use Rattle.df_model.specs.Supply.{Codec, Shown, checksum_given, next, result, shown_after}
-use Rattle.df_model.specs.Work.{Work, opened}
+use Rattle.df_model.specs.Work.{Work}
 use Rattle.df_model.specs.declared.answers.Progress.{Progress}
 use Rattle.df_model.specs.declared.answers.Progress.TheVariants.{Done as Ended, Working}
 use Rattle.df_model.specs.declared.errors.AppendError.{AppendError}
@@ -26,7 +26,6 @@ use Rattle.df_model.specs.declared.errors.ReplyError.{ReplyError}
 use Rattle.df_model.specs.declared.errors.StepError.{StepError}
 use Rattle.df_replica.specs.Below.{DataFile, memory, shape}
 use Rattle.df_replica.specs.Reading.{shown_of}
-use Rattle.df_replica.proofs.Laws.{found_keeps}
 use Rattle.df_session.specs.Below.{codec}
 use Rattle.df_workload.specs.Asking.{asks_at, number_body}
 use Rattle.df_workload.specs.Draw.{drawn_body}
@@ -37,8 +36,10 @@ use Rattle.df_workload.specs.declared.state.Point.{Point}
 use Rattle.df_workload.specs.declared.state.Point.TheVariants.{Appending, Replying, Stepping, Writing, Releasing, Beginning, Ending}
 use Rattle.df_workload.specs.declared.state.State.{State as Run}
 use Rattle.df_workload.proofs.Laws.{asks_end}
+use Rattle.df_session.specs.Begun.{begun_work}
 use Rattle.df_session.specs.Found.{FoundFile}
 use Rattle.df_session.specs.Links.{command_in}
+use Rattle.df_session.proofs.Laws.{layout_there}
 use Rattle.df_top.specs.Outside.{Outside}
 use Rattle.df_top.specs.Working.{WorksThrough}
 use Rattle.df_top.specs.Works.{workload_of, workload_with}
@@ -46,7 +47,7 @@ use Rattle.df_top.specs.declared.status.Status.{Status}
 use Rattle.df_top.specs.declared.status.Status.TheVariants.{Done}
 use Rattle.df_top.proofs.Laws.{agree_self}
 use Rattle.df_lifetime.specs.Printed.{HasEnded, IsRun, OneRun, RunTextIsResult, run_text, workload_by}
-use Rattle.df_lifetime.proofs.OneRun.{Numbers, after_answer, after_answers, asks_none, by_end, last_numbers, numbers_in, opened_here, same_run}
+use Rattle.df_lifetime.proofs.OneRun.{Numbers, after_answer, after_answers, asks_none, by_end, first_numbers, last_numbers, numbers_in, same_run}
 
 -- ---- what is counted
 
@@ -175,8 +176,8 @@ all_added (x ∷ xs) n m = ap (after_answers xs) (one_added x n m) ∙ all_added
 
 pub one_run : OneRun
 one_run seed count file image view run other one two =
-    let by : List Command → List Answer = result (shape file) (codec file) (shown_of file image) (opened (shape file) (unit_at file.layout file.cluster image) view) in
-    (same_run (shape file) (codec file) (shown_of file image) (opened (shape file) (unit_at file.layout file.cluster image) view) (start seed count file.layout.clients) run other one.commands two.commands (by one.commands) (by two.commands)
+    let by : List Command → List Answer = result (shape file) (codec file) (shown_of file image) (begun_work file image view) in
+    (same_run (shape file) (codec file) (shown_of file image) (begun_work file image view) (start seed count file.layout.clients) run other one.commands two.commands (by one.commands) (by two.commands)
     one.follows two.follows one.ends two.ends refl refl).0
 
 module _ (seed count : ℕ) (layout : Layout) (t : Told) (old new : Outside) (status : Status) (opening : FoundFile layout t) (works : WorksThrough seed count layout t opening old new status) (view : View) (whole : IsImage t.shown)
@@ -185,13 +186,13 @@ module _ (seed count : ℕ) (layout : Layout) (t : Told) (old new : Outside) (st
   file = opening.replica.file
 
   abbrev w : Work
-  w = opened (shape file) (unit_at file.layout file.cluster t.shown) view
+  w = begun_work file t.shown view
 
   answers_are : works.worked.answers ≡ result (shape file) (codec file) (shown_of file t.shown) w (map command_in works.worked.acts)
   answers_are = works.calls.result view (shown_of file t.shown) found (agree_self file.layout (shown_of file t.shown))
 
   follows_on : Follows (start seed count file.layout.clients) (map command_in works.worked.acts) works.worked.answers works.run
-  follows_on = subst (λ (l : Layout). Follows (start seed count l.clients) (map command_in works.worked.acts) works.worked.answers works.run) (sym opening.is_opened.of.layout_is) works.worked.follows
+  follows_on = subst (λ (l : Layout). Follows (start seed count l.clients) (map command_in works.worked.acts) works.worked.answers works.run) (sym (layout_there layout t opening)) works.worked.follows
 
   is_run : IsRun seed count file t.shown view works.run
   is_run = record {
@@ -203,14 +204,10 @@ module _ (seed count : ℕ) (layout : Layout) (t : Told) (old new : Outside) (st
   run_counted : counted works.run ≡ after_answers works.worked.answers (0, 0, 0)
   run_counted = run_counts (shape file) (codec file) (shown_of file t.shown) w (start seed count file.layout.clients) works.run (map command_in works.worked.acts) works.worked.answers follows_on answers_are
 
-  -- the numbers of the state that was opened are those of the view
-  first_numbers : numbers_in (memory opening.replica) ≡ (head view, view.replies, sequence view)
-  first_numbers = ap numbers_in (found_keeps opening.replica t.shown view whole (opened_here seed count layout t old new status opening works whole ended) found).1
-
   numbers : numbers_in (memory works.last) ≡ added (head view, view.replies, sequence view) (counted works.run)
   numbers =
       let first : Numbers = (head view, view.replies, sequence view) in
-      last_numbers seed count layout t old new status opening works whole ended ∙ ap (after_answers works.worked.answers) (first_numbers ∙ none_added first) ∙ all_added works.worked.answers first (0, 0, 0) ∙ ap (added first) (sym run_counted)
+      last_numbers seed count layout t old new status opening works whole ended ∙ ap (after_answers works.worked.answers) (first_numbers seed count layout t old new status opening works whole ended view found ∙ none_added first) ∙ all_added works.worked.answers first (0, 0, 0) ∙ ap (added first) (sym run_counted)
 
   report : workload_of works.run works.last ≡ workload_by view works.run
   report = λ i. workload_with works.run (numbers i).0 (numbers i).1 (numbers i).2

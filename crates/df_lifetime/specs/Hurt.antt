@@ -9,12 +9,13 @@ use Rattle.df_theory.specs.Device.{NoChanceOf}
 use Rattle.df_theory.specs.View.{View}
 use Rattle.df_units.specs.Bytes.{unit_at}
 use Rattle.df_model.specs.Commands.{Answer}
-use Rattle.df_model.specs.Views.{KeepsCheckpoint, SomeKeeps}
+use Rattle.df_model.specs.Views.{SomeKeeps}
 use Rattle.df_model.specs.Work.{Work, kept}
 use Rattle.df_replica.specs.Below.{DataFile, FindsHad, MayBeHurt, begun, told_after}
 use Rattle.df_replica.specs.Following.{MayOpen}
 use Rattle.df_replica.specs.Serving.{Grade, StandsFor, format}
 use Rattle.df_replica.specs.Session.{Act, work_after}
+use Rattle.df_session.specs.Begun.{begun_work}
 use Rattle.df_session.specs.Found.{FoundFile}
 use Rattle.df_session.specs.Links.{CallsMade, events_made, list_of}
 use Rattle.df_session.specs.Acknowledging.{KeepsAnswered, WereAnswered}
@@ -26,7 +27,7 @@ use Rattle.df_top.specs.Run.{ServesScript}
 use Rattle.df_top.specs.Working.{WorksThrough}
 use Rattle.df_top.specs.declared.status.Status.{Status}
 use Rattle.df_lifetime.specs.Acknowledged.{AreThere}
-use Rattle.df_lifetime.specs.Life.{Chapter, Life, MayHave, start_of}
+use Rattle.df_lifetime.specs.Life.{Chapter, Life, MayHave}
 use Rattle.df_lifetime.specs.Life.Life.{Begun, Ended, Formatted, Made, Ran, Stopped}
 
 -- The next open finds the view after all of these acts, which were answered so, and perhaps some of those behind them, from the first of these on: the file may be opened by
@@ -62,23 +63,23 @@ pub record KeepsOn (file : DataFile) (g : Grade) (w : Work) (base : Told) (mendi
 abbrev pub ScriptsKeepOn : Type 0
 ScriptsKeepOn =
     (g : Grade) (file : DataFile) (view : View) (t base : Told) (old new : Outside) (status : Status) (pace : Pace) (found : FoundFile file.layout t) (serves : ServesScript pace file.layout t found old new status) → base.shown ≡ t.shown → MayOpen file view base
-    → StandsFor g (unit_at file.layout file.cluster t.shown) view → KeepsOn file g (start_of file t.shown view) base found.mending.events (script_calls serves.session)
+    → StandsFor g (unit_at file.layout file.cluster t.shown) view → KeepsOn file g (begun_work file t.shown view) base found.mending.events (script_calls serves.session)
 
 abbrev pub RunsKeepOn : Type 0
 RunsKeepOn =
     (g : Grade) (file : DataFile) (view : View) (t base : Told) (old new : Outside) (status : Status) (seed count : ℕ) (found : FoundFile file.layout t) (works : WorksThrough seed count file.layout t found old new status) → base.shown ≡ t.shown → MayOpen file view base
-    → StandsFor g (unit_at file.layout file.cluster t.shown) view → KeepsOn file g (start_of file t.shown view) base found.mending.events (run_calls works.worked)
+    → StandsFor g (unit_at file.layout file.cluster t.shown) view → KeepsOn file g (begun_work file t.shown view) base found.mending.events (run_calls works.worked)
 
 -- A session on a hurt disk keeps it by the log that is begun anew, where its open finds the file's own checkpoint, as it does at rest while two copies stand.
 abbrev pub HurtScriptsKeep : Type 0
 HurtScriptsKeep =
-    (g : Grade) (file : DataFile) (view : View) (t : Told) (old new : Outside) (status : Status) (pace : Pace) (found : FoundFile file.layout t) (serves : ServesScript pace file.layout t found old new status) (had : FindsHad file view t found.replica) → KeepsCheckpoint view had.found
-    → StandsFor g (unit_at file.layout file.cluster t.shown) had.found → KeepsOn file g (start_of file t.shown had.found) (begun t) found.mending.events (script_calls serves.session)
+    (g : Grade) (file : DataFile) (view : View) (t : Told) (old new : Outside) (status : Status) (pace : Pace) (found : FoundFile file.layout t) (serves : ServesScript pace file.layout t found old new status) (had : FindsHad file view t found.found) → (had.found.checkpoint ≡ view.checkpoint)
+    → StandsFor g (unit_at file.layout file.cluster t.shown) had.found → KeepsOn file g (begun_work file t.shown had.found) (begun t) found.mending.events (script_calls serves.session)
 
 abbrev pub HurtRunsKeep : Type 0
 HurtRunsKeep =
-    (g : Grade) (file : DataFile) (view : View) (t : Told) (old new : Outside) (status : Status) (seed count : ℕ) (found : FoundFile file.layout t) (works : WorksThrough seed count file.layout t found old new status) (had : FindsHad file view t found.replica) → KeepsCheckpoint view had.found
-    → StandsFor g (unit_at file.layout file.cluster t.shown) had.found → KeepsOn file g (start_of file t.shown had.found) (begun t) found.mending.events (run_calls works.worked)
+    (g : Grade) (file : DataFile) (view : View) (t : Told) (old new : Outside) (status : Status) (seed count : ℕ) (found : FoundFile file.layout t) (works : WorksThrough seed count file.layout t found old new status) (had : FindsHad file view t found.found) → (had.found.checkpoint ≡ view.checkpoint)
+    → StandsFor g (unit_at file.layout file.cluster t.shown) had.found → KeepsOn file g (begun_work file t.shown had.found) (begun t) found.mending.events (run_calls works.worked)
 
 -- ---- damage at any time of a life
 

@@ -1,5 +1,5 @@
 -- The life of a file: it is made, words are run over it one after the other, each to its end or up to a moment, and the machine may stop at any time.
-use Rattle.std.specs.Prelude.{◌≡◌, ◌⊎◌, ℕ, zero, suc, List, [], ◌∷◌, ◌++◌, take, drop, Option, Some, None}
+use Rattle.std.specs.Prelude.{◌≡◌, ◌⊎◌, ◌<◌, ◌^◌, ℕ, zero, suc, List, [], ◌∷◌, ◌++◌, take, drop, Option, Some, None}
 use Rattle.std.proofs.Common.{inl, inr}
 use Rattle.df_base.specs.Image.{Image, IsImage, changed}
 use Rattle.df_base.specs.Log.{AreLoose, IsLeft, Log, Stop, now}
@@ -9,19 +9,20 @@ use Rattle.df_layout.specs.declared.layout.Layout.{Layout}
 use Rattle.df_theory.specs.Device.{IsSafeDisk, NoChanceOf}
 use Rattle.df_theory.specs.Found.{IsFound}
 use Rattle.df_theory.specs.Holds.{Held, Stands}
-use Rattle.df_theory.specs.View.{View}
+use Rattle.df_theory.specs.View.{View, boot_of}
 use Rattle.df_units.specs.Bytes.{unit_at}
 use Rattle.df_units.specs.Format.{format_of}
 use Rattle.df_units.specs.Making.{first_view}
 use Rattle.df_model.specs.Commands.{Answer}
 use Rattle.df_model.specs.Views.{KeepsView}
-use Rattle.df_model.specs.Work.{Work, kept, opened}
+use Rattle.df_model.specs.Work.{kept}
 use Rattle.df_replica.specs.Below.{shape, DataFile}
 use Rattle.df_replica.specs.Following.{MayOpen}
 use Rattle.df_replica.specs.HeldBlocks.{AreInputs}
 use Rattle.df_replica.specs.Making.{MayMakeOn, file_of}
 use Rattle.df_replica.specs.Serving.{format}
 use Rattle.df_replica.specs.Session.{Act, answers_of, work_after}
+use Rattle.df_session.specs.Begun.{begun_work}
 use Rattle.df_session.specs.Found.{FoundFile}
 use Rattle.df_session.specs.Links.{CallsMade, list_of}
 use Rattle.df_session.specs.Acknowledging.{WereAnswered}
@@ -51,20 +52,17 @@ pub record CameThrough (c : Chapter) (acts : List Act) : Type 0 where
   pub are : acts ≡ c.answered ++ more
   pub some : c.perhaps ≡ more ++ rest
 
--- the state that the machine begins with where it opens this image and finds this view
-abbrev pub start_of : DataFile → Image → View → Work
-start_of file image v = opened (shape file) (unit_at file.layout file.cluster image) v
-
--- the session found view v in its image, the machine answered as it did, and came to view u by the acts that came through
+-- the session found view v in its image, and boots were left to raise it; from the state behind the boot update on the machine answered as it did, and came to view u by the acts that came through
 pub record GoesBy (file : DataFile) (c : Chapter) (acts : List Act) (v u : View) : Type 0 where
   pub whole : IsImage c.shown
   pub found : IsFound (shape file) (unit_at file.layout file.cluster c.shown) v
+  pub unspent : boot_of v < 2 ^ 62
   pub inputs : AreInputs (c.answered ++ c.perhaps)
-  pub answers_are : c.answers ≡ answers_of file (start_of file c.shown v) c.answered
+  pub answers_are : c.answers ≡ answers_of file (begun_work file c.shown v) c.answered
   pub came : CameThrough c acts
-  pub view : KeepsView (kept (work_after file (start_of file c.shown v) acts)) u
+  pub view : KeepsView (kept (work_after file (begun_work file c.shown v) acts)) u
 
--- nothing was answered, and the view is as it was
+-- nothing was answered, and the view is as it was, but for its boot
 pub record IsUntouched (c : Chapter) (v u : View) : Type 0 where
   pub none : c.answered ≡ []
   pub no_answers : c.answers ≡ []
@@ -187,10 +185,10 @@ pub data Life : DataFile → Told → List Chapter → Type 0 where
 
 -- ---- the law
 
--- The file is in order: it is of version 1, the disk is honest and its log is safe, and whatever a stop leaves now, under no chance, has a view that the file may have come to, with
+-- The file is in order: it is of version 2, the disk is honest and its log is safe, and whatever a stop leaves now, under no chance, has a view that the file may have come to, with
 -- each block that it references.
 pub record IsInOrder (file : DataFile) (chapters : List Chapter) (t : Told) : Type 0 where
-  pub version : file.version ≡ 1
+  pub version : file.version ≡ 2
   pub safe : IsSafeDisk (format file) (shape file) t.log
   pub honest : IsHonest t
   pub left : (image : Image) → IsLeft t.log image → NoChanceOf (format file) t.log image

@@ -15,9 +15,9 @@ use Rattle.df_theory.specs.View.{View, head, sequence}
 use Rattle.df_units.specs.Bytes.{unit_at}
 use Rattle.df_model.specs.Commands.{Command}
 use Rattle.df_model.specs.Supply.{result}
-use Rattle.df_model.specs.Work.{opened}
 use Rattle.df_replica.specs.Below.{DataFile, shape}
 use Rattle.df_replica.specs.Reading.{shown_of}
+use Rattle.df_session.specs.Begun.{begun_work}
 use Rattle.df_session.specs.Below.{codec}
 use Rattle.df_session.specs.Found.{FoundFile}
 use Rattle.df_workload.specs.Asking.{asks}
@@ -84,10 +84,10 @@ WorkloadHasOneText = (seed count : ℕ) (layout : Layout) (runs : Twice layout (
 
 -- ---- what a generated run prints
 
--- a run of so many rounds over an image in which this view is found: it asks, the machine answers over what is shown, and at the end nothing more is asked for
+-- a run of so many rounds over an image in which an open finds this view: it asks, the machine answers over what is shown, and at the end nothing more is asked for
 pub record IsRun (seed count : ℕ) (file : DataFile) (image : Image) (view : View) (run : Run) : Type 0 where
   pub commands : List Command
-  pub follows : Follows (start seed count file.layout.clients) commands (result (shape file) (codec file) (shown_of file image) (opened (shape file) (unit_at file.layout file.cluster image) view) commands) run
+  pub follows : Follows (start seed count file.layout.clients) commands (result (shape file) (codec file) (shown_of file image) (begun_work file image view) commands) run
   pub ends : asks run ≡ None
 
 -- there is no other

@@ -120,7 +120,7 @@ module _ (sh : Shape) (spell : Parts → List ℕ) (w : Work) (sum client reques
   pub append_keeps : client < 2 ^ 128 → IsWork sh spell (with_prepare w p)
   append_keeps fits = record {
     codec = work.codec;
-    version = record { version = work.version.version; names = work.version.names };
+    version = record { version = work.version.version; places = work.version.places; names = work.version.names };
     view = append_sound sh v (p ∷ []) work.view may_append;
     sessions = lawful fits;
     grid = work.grid;

@@ -1,14 +1,13 @@
 -- The end of a checkpoint.
-use Rattle.std.proofs.Common.{slice_index, ◌≡◌, inl, ℕ, zero, suc, ◌+◌, ◌-◌, ◌*◌, ◌<◌, ◌||◌, Bool, true, false, List, [], ◌∷◌, length, take, drop, Option, Some, refl, sym, ◌∙◌, ap, subst, arith, length-drop}
+use Rattle.std.proofs.Common.{◌≡◌, inl, ℕ, zero, suc, ◌+◌, ◌-◌, ◌*◌, ◌<◌, ◌||◌, Bool, true, false, List, [], ◌∷◌, length, drop, Option, Some, refl, sym, ◌∙◌, ap, subst, arith, length-drop}
 use Rattle.std.proofs.lemmas.List.{take_all}
 use Rattle.std.proofs.Math.Nat.{mul-add}
 use Rattle.df_theory.specs.Units.{Block, Content, Parts, Session}
 use Rattle.df_theory.specs.Sessions.{sessions_after}
-use Rattle.df_theory.specs.Trailer.{InChain, IsCount, IsReference, IsTrailer, Links, Says, piece_size, text_of}
+use Rattle.df_theory.specs.Trailer.{InChain, IsCount, IsReference, IsTrailer, Says, text_of}
 use Rattle.df_theory.specs.Shape.{Shape}
 use Rattle.df_theory.specs.View.{Checkpoint, View, head, sequence, sessions}
 use Rattle.df_theory.specs.Next.{IsFinish, MayFinish, Records, checkpointed}
-use Rattle.df_theory.specs.Tails.{last_checksum}
 use Rattle.df_theory.proofs.Laws.{checkpoint_sound, sessions-drop, in_dropped}
 use Rattle.df_model.specs.Work.{Running, Work, is_captured, is_in, is_known, is_of}
 use Rattle.df_model.specs.Codec.{AreLawful, IsCodec}
@@ -16,13 +15,9 @@ use Rattle.df_model.specs.After.{checkpoint_of, finished}
 use Rattle.df_model.specs.Sense.{IsCapture, IsSpare, IsWork, draft}
 use Rattle.df_model.proofs.Knows.{finish_knows, one_fewer}
 use Rattle.df_model.specs.Laws.{FinishExactLaw, FinishMayLaw}
-use Rattle.df_model.specs.Memory.{block_room, last_address, last_sum}
-
--- the links of a chain speak of the sequence and the size alone
-same_links : (room : ℕ) (c d : Content) (chain : List (ℕ × Block)) (address checksum : ℕ) → c.sequence ≡ d.sequence → c.trailer_size ≡ d.trailer_size → Links room c chain address checksum → Links room d chain address checksum
-same_links room c d [] address checksum sequence size links = links
-same_links room c d (x ∷ xs) address checksum sequence size links =
-    (links.0, links.1, links.2, links.3 ∙ sequence, links.4, links.5 ∙ ap (λ (n : ℕ). piece_size room n (length xs)) size, links.6, same_links room c d xs x.1.before x.1.before_checksum sequence size links.7)
+use Rattle.df_model.specs.Memory.{block_room, last_address, last_sum, memory_of}
+use Rattle.df_model.proofs.Captures.{same_links}
+use Rattle.df_model.proofs.Recording.{IsRecordable, named_count, recordable, records_now}
 
 -- the last block of a chain that isn't empty
 last_in : (chain : List (ℕ × Block)) → 0 < length chain → (b : Block) × InChain (last_address chain) b chain
@@ -38,6 +33,18 @@ widen true y z u t is = refl
 widen false true z u t is = refl
 widen false false true u t is = refl
 widen false false false u t is = absurd (cc)
+
+-- the superblock that ends a checkpoint, but for what it records
+abbrev captured : Shape → (Parts → List ℕ) → Work → Running → (sum : ℕ) → Content
+captured sh spell w r sum = record w.view.checkpoint.content {
+  checksum = sum;
+  sequence = sequence w.view + 1;
+  op = r.op;
+  op_checksum = r.op_checksum;
+  trailer = last_address r.written;
+  trailer_checksum = last_sum r.written;
+  trailer_size = length (spell r.parts);
+}
 
 module _ (sh : Shape) (spell : Parts → List ℕ) (w : Work) (r : Running) (sum : ℕ) (work : IsWork sh spell w) (is : IsCapture sh spell w.view r) (done : r.left ≡ []) where
   abbrev v : View
@@ -87,28 +94,14 @@ module _ (sh : Shape) (spell : Parts → List ℕ) (w : Work) (r : Running) (sum
     spare = λ a b at. (is.written a b at).0.unreferenced;
   }
 
-  -- version 1: boot 0, the pin is the op, and no reply is named
-  v_version : v.checkpoint.content.version ≡ 1
+  v_version : v.checkpoint.content.version ≡ 2
   v_version = work.view.checkpoint.tests.version ∙ work.version.version
 
-  abbrev before : Content
-  before = v.checkpoint.content
-
-  first : (before.boot ≡ 0) × (before.pin ≡ before.op) × (before.pin_checksum ≡ before.op_checksum) × (before.answered ≡ 0)
-  first = work.view.checkpoint.tests.of.one v_version
-
-  boot_zero : before.boot ≡ 0
-  boot_zero = first.0
+  can : IsRecordable v
+  can = recordable sh v.checkpoint.content.version v work.view work.sessions.few work.version.places
 
   records : Records v c.content
-  records = record {
-    pin_from = (omega (arith, first.1, is.op_from), omega arith);
-    pin_to = is.op_to;
-    checksum = ap (λ (n : ℕ). last_checksum r.op_checksum (take n (drop (r.op - before.op) v.tail))) (let none : r.op - r.op ≡ 0 = omega arith in none);
-    answered = (omega arith, omega (arith, first.3));
-    stored = λ k m at below. absurd (omega (arith, below, first.3));
-    spare = λ k low. ap (λ (l : List ℕ). slice_index l k) work.version.names;
-  }
+  records = records_now sh spell w can (captured sh spell w r sum) is.op_from is.op_to is.op_checksum
 
   pub is_finish : IsFinish v c
   is_finish = record {
@@ -122,11 +115,11 @@ module _ (sh : Shape) (spell : Parts → List ℕ) (w : Work) (r : Running) (sum
     head = refl;
     replies = refl;
     records = records;
-    of = record { one = λ one. (boot_zero, refl, refl, first.3); two = λ two. absurd (omega (arith, two, v_version)) };
+    of = record { one = λ one. absurd (omega (arith, one, v_version)); two = λ two. (refl, refl) };
   }
 
   pub may_finish : MayFinish sh v c
-  may_finish = record { is = is_finish; trailer = is_trailer; ends = is.ends; pin_ends = is.ends; unspent = is.unspent }
+  may_finish = record { is = is_finish; trailer = is_trailer; ends = is.ends; pin_ends = λ p at low. work.view.groups p at; unspent = is.unspent }
 
   pub same_sessions : sessions (checkpointed v c) ≡ sessions v
   same_sessions = ap (λ (l : List Session). sessions_after l (drop (r.op - v.checkpoint.content.op) v.tail)) is.sessions ∙ sessions-drop (r.op - v.checkpoint.content.op) v.checkpoint.parts.sessions v.tail
@@ -140,7 +133,7 @@ finish_keeps sh spell w r sum work at done =
     let same : head (checkpointed w.view (checkpoint_of sh spell w r sum)) ≡ head w.view = head_same sh spell w r sum work is done in
     record {
       codec = work.codec;
-      version = record { version = work.version.version; names = work.version.names };
+      version = record { version = work.version.version; places = work.version.places; names = named_count (memory_of sh spell w) };
       view = checkpoint_sound sh w.view (checkpoint_of sh spell w r sum) work.view (may_finish sh spell w r sum work is done);
       sessions = subst (AreLawful sh.layout.clients) (sym (same_sessions sh spell w r sum work is done)) work.sessions;
       grid = λ a held. work.grid a (

@@ -1,6 +1,6 @@
 -- Each command keeps the state's sense.
-use Rattle.std.proofs.Common.{◌≡◌, ◌⊎◌, inl, inr, ℕ, ◌+◌, ◌-◌, ◌<◌, ◌≤◌, ◌==◌, ◌||◌, Bool, true, false, if◌then◌else◌, List, [], ◌∷◌, map, ◌++◌, length, Option, Some, None, refl, sym, ◌∙◌, ap, subst, zero, suc, nat_lt, arith, length-drop, eqb-true}
-use Rattle.std.specs.List.{range_with_len, slice_get}
+use Rattle.std.proofs.Common.{◌≡◌, ◌⊎◌, inl, inr, ℕ, ◌+◌, ◌-◌, ◌<◌, ◌≤◌, ◌==◌, ◌||◌, Bool, true, false, if◌then◌else◌, List, [], ◌∷◌, ◌++◌, length, Option, Some, None, refl, sym, ◌∙◌, ap, subst, zero, suc, nat_lt, arith, length-drop, eqb-true}
+use Rattle.std.specs.List.{slice_get}
 use Rattle.std.proofs.lemmas.Bool.Decides.{nat_tests}
 use Rattle.std.proofs.lemmas.List.FromFn.{length-map-range_with_len}
 use Rattle.std.proofs.lemmas.Bool.{or_right, or_cases}
@@ -13,17 +13,18 @@ use Rattle.df_model.specs.Blocks.{addresses, entries, sum_at}
 use Rattle.df_model.proofs.Entries.{entry_known}
 use Rattle.df_model.proofs.Sessions.{chain_lawful}
 use Rattle.df_theory.specs.Shape.{Shape}
-use Rattle.df_theory.specs.View.{head}
+use Rattle.df_theory.specs.View.{View, head, sessions}
+use Rattle.df_theory.specs.Holds.{Sound}
 use Rattle.df_theory.specs.Next.{Append, Finish, Next, Reply, Same}
 use Rattle.df_theory.proofs.Laws.{chain_ops}
 use Rattle.df_model.specs.Work.{Running, Work, checksum_of, is_captured, is_in, is_known, is_of, opened, waiting_checksum}
-use Rattle.df_model.specs.Codec.{AreBytes, IsCodec, IsLawful}
+use Rattle.df_model.specs.Codec.{AreBytes, AreLawful, IsCodec, IsLawful}
 use Rattle.df_model.specs.Refusals.{append_refusals, begin_refusals, block_refusals, first_refusal, release_refusals, reply_refusals}
 use Rattle.df_model.specs.After.{newest, with_running, next_trailer, after_check, after_running, after_step_of, begun, checkpoint_of, outcome, to_check, with_live, with_prepare, with_reply, with_trailer_block}
 use Rattle.df_model.specs.Sense.{AtEachOf, IsCapture, IsClear, IsWork}
 use Rattle.df_model.specs.declared.answers.Verdict.{Verdict}
 use Rattle.df_model.specs.declared.answers.Verdict.TheVariants.{Sound as IsFine, Failing}
-use Rattle.df_model.specs.Laws.{NextLaw, OpenedLaw, SenseLaw}
+use Rattle.df_model.specs.Laws.{HasFields, NextLaw, OpenedLaw, SenseLaw}
 use Rattle.df_model.proofs.Grid.{IsFree, are_free, each_take, each_weaker, in_each, nowhere}
 use Rattle.df_model.proofs.Knows.{begin_knows, one_fewer, one_more, opened_one, scrub_one, trailer_knows, trailer_new}
 use Rattle.df_model.proofs.Appends.{append_keeps, may_append}
@@ -31,6 +32,7 @@ use Rattle.df_model.proofs.Replies.{may_reply, reply_keeps}
 use Rattle.df_model.proofs.Blocks.{first_small, live_keeps, next_free, release_keeps}
 use Rattle.df_model.proofs.Steps.{begin_capture, step_capture}
 use Rattle.df_model.proofs.Finishes.{finish_keeps, is_finish}
+use Rattle.df_model.proofs.Recording.{get_range}
 use Rattle.df_model.specs.Memory.{free_of, memory_of}
 use Rattle.df_model.specs.Making.{needed_of, next_address, place_of_reply, prepare_of, reply_of}
 use Rattle.df_model.specs.Commands.{Advance, Append as ToAppendOf, Begin, ReadBlock, ReadPrepare, ReadReply, Recent, Release, Reply as ToReplyOf, Scrub, WriteBlock, supplied_sum, supplied_sums, supplied_verdict}
@@ -185,11 +187,6 @@ next_law sh spell w given Recent work = Same
 
 -- ---- the start
 
-pub get_range : {X : Type 0} (f : ℕ → X) (a n i k : ℕ) → i < n → k ≡ a + i → slice_get (map f (range_with_len a n)) i ≡ Some (f k)
-get_range f a zero i k less is = absurd (omega arith)
-get_range f a (suc n) zero k less is = ap (λ (x : ℕ). Some (f x)) (let e : a ≡ k = omega arith in e)
-get_range f a (suc n) (suc i) k less is = get_range f (a + 1) n i k (omega arith) (omega arith)
-
 -- the place of a prepare in a chain
 pub chain_get : (clients op parent mark : ℕ) (ss : List Session) (ps : List Message) (p : Message) (i : ℕ) → Chain clients op parent mark ss ps → In p ps → p.header.op ≡ op + i → slice_get ps i ≡ Some p
 chain_get clients op parent mark ss [] p i chain at is = absurd at
@@ -237,12 +234,17 @@ parts_lawful sh spell codec op [] parts bytes says = subst (IsLawful sh.layout o
 })
 parts_lawful sh spell codec op (x ∷ xs) parts bytes says = codec.lawful op (text_of (x ∷ xs)) parts bytes says
 
+pub sessions_lawful : (sh : Shape) (spell : Parts → List ℕ) (v : View) → IsCodec sh spell → Sound sh v → HasFields v → AreLawful sh.layout.clients (sessions v)
+sessions_lawful sh spell v codec sound fields =
+    let parts = parts_lawful sh spell codec v.checkpoint.content.op v.checkpoint.chain v.checkpoint.parts fields.bytes sound.checkpoint.trailer.says in
+    chain_lawful sh.layout.clients (v.checkpoint.content.op + 1) v.checkpoint.content.op_checksum 0 v.checkpoint.parts.sessions v.tail parts.sessions sound.chain fields.prepares
+
 pub opened_law : OpenedLaw
 opened_law sh spell image v codec version sound fields shows = record {
   codec = codec;
   version = version;
   view = sound;
-  sessions = chain_lawful sh.layout.clients (v.checkpoint.content.op + 1) v.checkpoint.content.op_checksum 0 v.checkpoint.parts.sessions v.tail parts.sessions sound.chain fields.prepares;
+  sessions = sessions_lawful sh spell v codec sound fields;
   grid = λ a held. elim (or_cases (is_known (v.checkpoint.parts.references a)) (is_of a v.checkpoint.chain) (either_three (is_known (v.checkpoint.parts.references a)) (is_of a v.checkpoint.chain) held)) [
     | inl known ↦ let c = some_known (v.checkpoint.parts.references a) known in (parts.references a c.0 c.1).0
     | inr chained ↦

@@ -26,7 +26,8 @@ use Rattle.df_model.specs.Laws.{IsKeptBy}
 use Rattle.df_model.specs.Reading.{BlockReadLaw, PrepareReadLaw, ReplyReadLaw, ScrubLaw, shown_by}
 use Rattle.df_model.proofs.Tests.{all_pass}
 use Rattle.df_model.proofs.Entries.{entry_there, filtered_each, reference_is, within}
-use Rattle.df_model.proofs.Keeps.{chain_get, get_range}
+use Rattle.df_model.proofs.Keeps.{chain_get}
+use Rattle.df_model.proofs.Recording.{get_range}
 use Rattle.df_model.proofs.Grid.{live_held}
 use Rattle.df_model.specs.declared.reading.ReadError.TheVariants as read
 use Rattle.df_model.specs.declared.answers.Verdict.{Verdict}

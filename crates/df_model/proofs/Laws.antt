@@ -6,11 +6,15 @@ pub use Rattle.df_model.proofs.Replies.{reply_may_law}
 pub use Rattle.df_model.proofs.Exact.{append_exact_law, pass_all, reply_exact_law}
 pub use Rattle.df_model.proofs.Blocks.{block_aside_law, block_may_law}
 pub use Rattle.df_model.proofs.Finishes.{finish_exact_law, finish_may_law}
+pub use Rattle.df_model.proofs.Recording.{named_at, named_count}
 pub use Rattle.df_model.proofs.Begins.{begin_exact_law, count_le}
 -- ---- the device
 pub use Rattle.df_model.proofs.Does.{command_law}
 pub use Rattle.df_model.proofs.Runs.{first_kept_law, found_law, opened_kept_law, run_law}
 pub use Rattle.df_model.proofs.Disks.{disk_command_law}
+pub use Rattle.df_model.proofs.Boots.{boot_command_law, boot_may_law, raised_law}
+pub use Rattle.df_model.proofs.OpenLeads.{disk_open_law, open_command_law}
+pub use Rattle.df_model.proofs.Raised.{raised_kept_law}
 -- ---- what is in memory, and answers
 pub use Rattle.df_model.proofs.Answering.{answer_from, answer_is, memory_law, order_law, reply_parent_law}
 pub use Rattle.df_model.proofs.Changing.{blocks_law, entries_same}

@@ -1,4 +1,5 @@
 pub mod Tests
+pub mod Recording
 pub mod Captures
 pub mod Entries
 pub mod Sessions
@@ -15,6 +16,10 @@ pub mod Does
 pub mod Runs
 pub mod Exact
 pub mod Disks
+pub mod NoBlocks
+pub mod Boots
+pub mod OpenLeads
+pub mod Raised
 pub mod Kept
 pub mod Rising
 pub mod Tours

@@ -1,5 +1,5 @@
 -- How commands change what is in memory, the grid aside.
-use Rattle.std.proofs.Common.{◌≡◌, ℕ, zero, suc, ◌+◌, ◌-◌, ◌<◌, ◌≤◌, ◌==◌, nat_lt, Bool, true, false, if◌then◌else◌, List, [], ◌∷◌, ◌++◌, length, take, drop, map, Option, Some, None, refl, sym, ◌∙◌, ap, arith, length-append}
+use Rattle.std.proofs.Common.{◌≡◌, ℕ, zero, suc, ◌+◌, ◌-◌, ◌<◌, ◌≤◌, ◌==◌, nat_lt, Bool, true, false, if◌then◌else◌, List, [], ◌∷◌, ◌++◌, length, drop, map, Option, Some, None, refl, sym, ◌∙◌, ap, arith, length-append}
 use Rattle.std.specs.Prelude.{slice_set}
 use Rattle.std.specs.List.{range_with_len, slice_get}
 use Rattle.std.proofs.lemmas.Bool.Decides.{nat_tests}
@@ -18,6 +18,7 @@ use Rattle.df_model.specs.Refusals.{append_refusals, begin_refusals, block_refus
 use Rattle.df_model.specs.Making.{needed_of, next_address, place_of_reply, prepare_of, reply_of}
 use Rattle.df_model.specs.After.{after_check, after_running, after_step_of, begun, checkpoint_of, finished, next_trailer, outcome, to_check, with_live, with_prepare, with_reply, with_running, with_trailer_block}
 use Rattle.df_model.specs.Commands.{Advance, Append, Begin, Command, Given, ReadBlock, ReadPrepare, ReadReply, Recent, Release, Reply, Scrub, WriteBlock, after, supplied_sum, supplied_verdict}
+use Rattle.df_model.proofs.Recording.{last_split}
 use Rattle.df_model.specs.Changing.{ChangeLaw, ListsLaw, appended_in, blocks_after, checked_in, course_on, memory_after, replied_in, step_in, unless_refused, unstored}
 use Rattle.df_model.specs.Sense.{IsWork}
 use Rattle.df_model.specs.declared.answers.Verdict.{Verdict}
@@ -107,11 +108,6 @@ module _ (h : Header) (top : ℕ) (above : top < h.op) (st : ℕ → Option Mess
 last_more : (c : ℕ) (ps : List Message) (p : Message) → last_checksum c (ps ++ p ∷ []) ≡ p.header.checksum
 last_more c [] p = refl
 last_more c (x ∷ ps) p = last_more x.header.checksum ps p
-
-last_split : (n c : ℕ) (ps : List Message) → last_checksum (last_checksum c (take n ps)) (drop n ps) ≡ last_checksum c ps
-last_split zero c ps = refl
-last_split (suc n) c [] = refl
-last_split (suc n) c (x ∷ ps) = last_split n x.header.checksum ps
 
 -- ---- the commands
 

@@ -57,7 +57,7 @@ module _ (sh : Shape) (spell : Parts → List ℕ) (w : Work) (sum op : ℕ) (bo
   pub reply_keeps : IsWork sh spell (with_reply w (place_of_reply (memory_of sh spell w)) r)
   reply_keeps = record {
     codec = work.codec;
-    version = record { version = work.version.version; names = work.version.names };
+    version = record { version = work.version.version; places = work.version.places; names = work.version.names };
     view = reply_sound sh v (place_of_reply (memory_of sh spell w)) r work.view may_reply.is waits;
     sessions = work.sessions;
     grid = work.grid;

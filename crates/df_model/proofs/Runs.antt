@@ -1,22 +1,23 @@
 -- Runs of commands, and what they begin with.
-use Rattle.std.proofs.Common.{◌≡◌, ℕ, ◌%◌, List, [], ◌∷◌, Some, None, refl, sym, ap, subst, arith}
+use Rattle.std.proofs.Common.{◌≡◌, ℕ, ◌%◌, ◌≤◌, List, [], ◌∷◌, length, Some, None, refl, sym, ap, subst, arith}
 use Rattle.df_theory.specs.Units.{Block, BlockPlace, BlockUnit, Message, Parts, PreparePlace, PrepareUnit, Units}
 use Rattle.df_theory.specs.Sessions.{session_of}
 use Rattle.df_theory.specs.Tails.{In}
 use Rattle.df_theory.specs.Trailer.{InChain, no_parts, text_of}
 use Rattle.df_theory.specs.Shape.{Shape}
-use Rattle.df_theory.specs.Found.{AreOfPlaces, IsInRange}
+use Rattle.df_theory.specs.View.{View, sessions}
+use Rattle.df_theory.specs.Found.{AreOfPlaces, IsFound, IsInRange}
 use Rattle.df_theory.specs.UnitLog.{UnitLog, now}
 use Rattle.df_theory.specs.Runs.{after_steps, steps_of}
 use Rattle.df_theory.specs.TidyLaws.{KeepStanding, LeadTidily}
 use Rattle.df_theory.proofs.Laws.{after_append, found_sound, standing_run_law, text_bytes, tidy_run_law}
 use Rattle.df_model.specs.Work.{Work, kept}
-use Rattle.df_model.specs.Codec.{AreBytes, IsLawfulSession}
+use Rattle.df_model.specs.Codec.{AreBytes, IsCodec, IsLawfulSession}
 use Rattle.df_model.specs.Commands.{after}
 use Rattle.df_model.specs.Sense.{IsBacked}
-use Rattle.df_model.specs.Laws.{FoundLaw, IsKeptBy}
+use Rattle.df_model.specs.Laws.{FoundLaw, HasFields, IsKeptBy}
 use Rattle.df_model.specs.Runs.{Act, DoAll, FirstKeptLaw, OpenedKeptLaw, RunLaw, led_by, work_after}
-use Rattle.df_model.proofs.Keeps.{opened_law}
+use Rattle.df_model.proofs.Keeps.{opened_law, sessions_lawful}
 use Rattle.df_model.proofs.Does.{command_law}
 use Rattle.df_model.proofs.Writing.{Both}
 
@@ -62,11 +63,15 @@ shown_lawful sh image p places shows =
     record { client = range.client; request = range.request; op = range.op }
 
 -- whatever was done to the image: what is found in it makes sense
+found_fields : (sh : Shape) (image : Units) (v : View) → AreOfPlaces sh image → IsFound sh image v → HasFields v
+found_fields sh image v places found = record { prepares = λ p at. shown_lawful sh image p places (found.tail.takes p at).shown; bytes = text_bytes sh image v.checkpoint.chain places (λ a b at. found.chain_shown a b at) }
+
 pub found_law : FoundLaw
-found_law sh spell image v codec version places found =
-    opened_law sh spell image v codec version (found_sound sh image v places found)
-    (record { prepares = λ p at. shown_lawful sh image p places (found.tail.takes p at).shown; bytes = text_bytes sh image v.checkpoint.chain places (λ a b at. found.chain_shown a b at) })
-    (λ a b at. found.chain_shown a b at)
+found_law sh spell image v codec version places found = opened_law sh spell image v codec version (found_sound sh image v places found) (found_fields sh image v places found) (λ a b at. found.chain_shown a b at)
+
+-- and it has no more sessions than there are places
+pub found_few : (sh : Shape) (spell : Parts → List ℕ) (image : Units) (v : View) → IsCodec sh spell → AreOfPlaces sh image → IsFound sh image v → length (sessions v) ≤ sh.layout.clients
+found_few sh spell image v codec places found = (sessions_lawful sh spell v codec (found_sound sh image v places found) (found_fields sh image v places found)).few
 
 pub opened_kept_law : OpenedKeptLaw
 opened_kept_law sh spell log v codec version tidy places = (

@@ -4,6 +4,8 @@ use Rattle.df_model.specs.declared.errors.FormatError.{FormatError}
 use Rattle.df_model.specs.declared.errors.FormatError.TheVariants as formats
 use Rattle.df_model.specs.declared.errors.OpenError.{OpenError}
 use Rattle.df_model.specs.declared.errors.OpenError.TheVariants as opens
+use Rattle.df_model.specs.declared.errors.MendError.{MendError}
+use Rattle.df_model.specs.declared.errors.MendError.TheVariants as mend
 use Rattle.df_model.specs.declared.errors.AppendError.{AppendError}
 use Rattle.df_model.specs.declared.errors.AppendError.TheVariants as append
 use Rattle.df_model.specs.declared.errors.ReplyError.{ReplyError}
@@ -26,6 +28,10 @@ is_format_fault e = false
 abbrev pub is_open_fault : OpenError → Bool
 is_open_fault opens.DiskFault = true
 is_open_fault e = false
+
+abbrev pub is_mend_fault : MendError → Bool
+is_mend_fault mend.DiskFault = true
+is_mend_fault e = false
 
 abbrev pub is_append_fault : AppendError → Bool
 is_append_fault append.DiskFault = true

@@ -19,7 +19,7 @@ use Rattle.df_model.specs.Work.{Running, Work, is_held, kept, opened}
 use Rattle.df_model.specs.Codec.{AreBytes, InGrid, IsCodec, IsLawfulSession}
 use Rattle.df_model.specs.Refusals.{append_refusals, block_refusals, first_refusal, reply_refusals}
 use Rattle.df_model.specs.After.{next_trailer, checkpoint_of}
-use Rattle.df_model.specs.Sense.{IsBacked, IsVersionOne, IsWork, ShowsWritten}
+use Rattle.df_model.specs.Sense.{IsBacked, IsVersionTwo, IsWork, ShowsWritten}
 use Rattle.df_model.specs.Memory.{memory_of, message_room}
 use Rattle.df_model.specs.Making.{block_of, next_address, place_of_reply, prepare_of, reply_of}
 use Rattle.df_model.specs.Commands.{Advance, Append, Begin, Command, Given, IsInput, ReadBlock, ReadPrepare, ReadReply, Recent, Release, Reply, Scrub, WriteBlock, after, supplied_sum}
@@ -37,11 +37,11 @@ ShowsTrailer image v = (a : ℕ) (b : Block) → InChain a b v.checkpoint.chain 
 
 -- a state after an open
 abbrev pub OpenedLaw : Type 0
-OpenedLaw = (sh : Shape) (spell : Parts → List ℕ) (image : Units) (v : View) → IsCodec sh spell → IsVersionOne sh v → Sound sh v → HasFields v → ShowsTrailer image v → IsWork sh spell (opened sh image v)
+OpenedLaw = (sh : Shape) (spell : Parts → List ℕ) (image : Units) (v : View) → IsCodec sh spell → IsVersionTwo sh v → Sound sh v → HasFields v → ShowsTrailer image v → IsWork sh spell (opened sh image v)
 
 -- the state that an open finds in an image, whatever was done to it
 abbrev pub FoundLaw : Type 0
-FoundLaw = (sh : Shape) (spell : Parts → List ℕ) (image : Units) (v : View) → IsCodec sh spell → IsVersionOne sh v → AreOfPlaces sh image → IsFound sh image v → IsWork sh spell (opened sh image v)
+FoundLaw = (sh : Shape) (spell : Parts → List ℕ) (image : Units) (v : View) → IsCodec sh spell → IsVersionTwo sh v → AreOfPlaces sh image → IsFound sh image v → IsWork sh spell (opened sh image v)
 
 -- a state after a command
 abbrev pub SenseLaw : Type 0

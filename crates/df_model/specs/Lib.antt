@@ -16,5 +16,6 @@ pub mod Runs
 pub mod Reading
 pub mod Result
 pub mod OnDisk
+pub mod Boots
 pub mod Answering
 pub mod Changing

@@ -1,8 +1,8 @@
 -- The units that commands make, and what a checkpoint captures: functions of what is in memory.
-use Rattle.std.specs.Prelude.{ℕ, suc, ◌+◌, ◌-◌, ◌*◌, ◌/◌, ◌==◌, if◌then◌else◌, List, [], ◌∷◌, length, take, drop, Option, Some, None}
-use Rattle.std.specs.List.{slice_get}
+use Rattle.std.specs.Prelude.{ℕ, suc, ◌+◌, ◌-◌, ◌*◌, ◌/◌, ◌==◌, if◌then◌else◌, List, [], ◌∷◌, length, map, take, drop, Option, Some, None}
+use Rattle.std.specs.List.{range_with_len, slice_get}
 use Rattle.df_theory.specs.Units.{Block, Content, Message, Parts, Session}
-use Rattle.df_model.specs.Memory.{Course, Memory, block_room, free_of}
+use Rattle.df_model.specs.Memory.{Course, Memory, block_room, free_of, reply_sum}
 use Rattle.df_model.specs.Blocks.{sum_at}
 
 -- the next prepare, with this checksum: a group of its own
@@ -102,18 +102,43 @@ trailer_block m r sum = record {
   body = piece_of (block_room m.layout) r.count r.text;
 }
 
--- the superblock that ends the running checkpoint, with this checksum: its pin is its op
+-- ---- superblocks
+
+-- how many places for sessions a superblock has
+abbrev pub named_places : ℕ
+named_places = 64
+
+abbrev pub sum_or_zero : Option ℕ → ℕ
+sum_or_zero None = 0
+sum_or_zero (Some sum) = sum
+
+-- by place the checksum of the stored reply, or zero where none is stored
+unfoldable pub named_sums : Memory → List ℕ
+named_sums m = map (λ k. sum_or_zero (reply_sum m k)) (range_with_len 0 named_places)
+
+-- with the state as it is now: the prepares up to the head are named by the last one's checksum, and each reply that is stored by its own
+abbrev pub recorded : Memory → Content → Content
+recorded m c = record c {
+  head = m.head;
+  replies = m.replies;
+  pin = m.head;
+  pin_checksum = m.head_checksum;
+  answered = m.replies + 1;
+  reply_checksums = named_sums m;
+}
+
+-- the one that ends the running checkpoint, with this checksum: it has what was captured, and records the state as it is at its end
 abbrev pub content_of : Memory → Course → (sum : ℕ) → Content
-content_of m r sum = record m.content {
+content_of m r sum = recorded m (record m.content {
   checksum = sum;
   sequence = m.content.sequence + 1;
   op = r.op;
   op_checksum = r.op_checksum;
-  head = m.head;
-  replies = m.replies;
-  pin = r.op;
-  pin_checksum = r.op_checksum;
   trailer = r.last;
   trailer_checksum = r.last_checksum;
   trailer_size = length r.text;
-}
+})
+
+-- that of a boot update, with this checksum: of the same checkpoint, with the next boot
+abbrev pub boot_content : Memory → (sum : ℕ) → Content
+boot_content m sum = recorded m (record m.content { checksum = sum; boot = m.content.boot + 1 })

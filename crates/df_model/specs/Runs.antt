@@ -12,7 +12,7 @@ use Rattle.df_theory.specs.WholeLaws.{IsStanding}
 use Rattle.df_theory.specs.Found.{AreOfPlaces}
 use Rattle.df_model.specs.Work.{Work, kept, opened}
 use Rattle.df_model.specs.Codec.{IsCodec}
-use Rattle.df_model.specs.Sense.{IsBacked, IsVersionOne}
+use Rattle.df_model.specs.Sense.{IsBacked, IsVersionTwo}
 use Rattle.df_model.specs.Laws.{Does, IsKeptBy}
 use Rattle.df_model.specs.Commands.{Answer, Command, Given, IsInput, after}
 
@@ -60,11 +60,11 @@ RunLaw =
 -- a tidy file is kept by the state that an open makes of it
 abbrev pub OpenedKeptLaw : Type 0
 OpenedKeptLaw =
-    (sh : Shape) (spell : Parts → List ℕ) (log : UnitLog) (v : View) → IsCodec sh spell → IsVersionOne sh v → IsTidy sh log v → AreOfPlaces sh (now log)
+    (sh : Shape) (spell : Parts → List ℕ) (log : UnitLog) (v : View) → IsCodec sh spell → IsVersionTwo sh v → IsTidy sh log v → AreOfPlaces sh (now log)
     → IsKeptBy sh spell log (opened sh (now log) v) × (IsStanding log v → IsBacked log (opened sh (now log) v))
 
 -- so is a file that was just made
 abbrev pub FirstKeptLaw : Type 0
 FirstKeptLaw =
-    (sh : Shape) (spell : Parts → List ℕ) (log : UnitLog) (v : View) → IsCodec sh spell → IsVersionOne sh v → IsTidy sh log v → IsStanding log v → IsFirst sh v
+    (sh : Shape) (spell : Parts → List ℕ) (log : UnitLog) (v : View) → IsCodec sh spell → IsVersionTwo sh v → IsTidy sh log v → IsStanding log v → IsFirst sh v
     → IsKeptBy sh spell log (opened sh (now log) v) × IsBacked log (opened sh (now log) v)

@@ -13,6 +13,7 @@ use Rattle.df_theory.specs.WholeLaws.{IsStanding}
 use Rattle.df_model.specs.Work.{Running, Work, is_held}
 use Rattle.df_model.specs.Codec.{AreLawful, InGrid, IsChecksum, IsCodec, IsLawful}
 use Rattle.df_model.specs.Memory.{block_room, last_address, last_sum}
+use Rattle.df_model.specs.Making.{named_places}
 
 -- addresses that rise, from this one on
 abbrev pub RiseFrom : ℕ → List ℕ → Type 0
@@ -71,15 +72,16 @@ pub data IsKnown (w : Work) (a c : ℕ) : Type 0 where
 abbrev pub AreOne : Work → Type 0
 AreOne w = (a c d : ℕ) → IsKnown w a c → IsKnown w a d → c ≡ d
 
--- the file is of version 1: its superblock names no replies, and by its tests it has boot 0 and its op is its pin
-pub record IsVersionOne (sh : Shape) (v : View) : Type 0 where
-  pub version : sh.version ≡ 1
-  pub names : v.checkpoint.content.reply_checksums ≡ []
+-- the file is of version 2: at each place that sessions can have its superblock names a checksum, or zero
+pub record IsVersionTwo (sh : Shape) (v : View) : Type 0 where
+  pub version : sh.version ≡ 2
+  pub places : clients sh ≤ named_places
+  pub names : length v.checkpoint.content.reply_checksums ≡ named_places
 
 -- the state makes sense
 pub record IsWork (sh : Shape) (spell : Parts → List ℕ) (w : Work) : Type 0 where
   pub codec : IsCodec sh spell
-  pub version : IsVersionOne sh w.view
+  pub version : IsVersionTwo sh w.view
   pub view : Sound sh w.view
   pub sessions : AreLawful (clients sh) (sessions w.view)
   pub grid : (a : ℕ) → is_held w a ≡ true → InGrid sh.layout a

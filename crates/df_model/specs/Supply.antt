@@ -5,11 +5,11 @@ use Rattle.df_layout.specs.declared.damage.Class.TheVariants.{Blank, Stale}
 use Rattle.df_theory.specs.Units.{AnyUnit, Block, BlockPlace, BlockUnit, Content, CopyPlace, CopyUnit, Message, Parts, Place, PreparePlace, PrepareUnit, ReplyPlace, ReplyUnit, Units, overlay}
 use Rattle.df_theory.specs.Shape.{Shape}
 use Rattle.df_theory.specs.UnitLog.{put_one}
-use Rattle.df_model.specs.Work.{Work}
+use Rattle.df_model.specs.Work.{Work, raised}
 use Rattle.df_model.specs.Memory.{Course, Memory, memory_of, prepare_sum, reply_sum}
 use Rattle.df_model.specs.Blocks.{sum_at}
 use Rattle.df_model.specs.Refusals.{append_refusals, block_refusals, first_refusal, reply_refusals}
-use Rattle.df_model.specs.Making.{block_of, content_of, next_address, place_of_reply, prepare_of, reply_of, trailer_block}
+use Rattle.df_model.specs.Making.{block_of, boot_content, content_of, next_address, place_of_reply, prepare_of, reply_of, trailer_block}
 use Rattle.df_model.specs.After.{place_of_client, to_check}
 use Rattle.df_model.specs.Commands.{Advance, Answer, Append, Begin, Command, ForAdvance, ForAppend, ForBegin, ForReadBlock, ForReadPrepare, ForReadReply, ForRecent, ForRelease, ForReply, ForScrub, ForWriteBlock, Given, ReadBlock, ReadPrepare, ReadReply, Recent, Release, Reply, Scrub, WriteBlock, after}
 use Rattle.df_model.specs.declared.answers.Verdict.{Verdict}
@@ -159,6 +159,16 @@ puts_of m sum command = nothing
 
 abbrev pub shown_after : Codec → Shown → Memory → Command → Shown
 shown_after codec shown m command = record { units = overlay (puts_of m (checksum_given codec m command) command) shown.units; damage = shown.damage }
+
+-- ---- an open
+
+-- the checksum of the superblock that an open writes
+abbrev pub boot_sum : Codec → Memory → ℕ
+boot_sum codec m = codec.content (boot_content m 0)
+
+-- the state that calls begin with, behind an open that finds this one: its boot is raised, by a superblock that records the state as it is
+abbrev pub begun_from : Shape → Codec → Work → Work
+begun_from sh codec w = raised w (boot_content (memory_of sh codec.spell w) (boot_sum codec (memory_of sh codec.spell w)))
 
 -- ---- a session
 

@@ -1,15 +1,11 @@
--- When one view is another: the one relation in which what a stop leaves, what an open finds and what a life has come to are compared.
-use Rattle.std.specs.Prelude.{◌≡◌}
+-- When one view is another: the one relation in which what a stop leaves, what an open finds and what a life has come to are compared. A boot update comes between two of them.
 use Rattle.df_theory.specs.View.{View}
+use Rattle.df_theory.specs.Next.{IsSameBare}
 
--- u is the view v, as far as a promise tells views apart
+-- u is the view v, as far as a promise tells views apart: the state is the same, but for the boot and what the superblock records of the state
 abbrev pub KeepsView : (v u : View) → Type 0
-KeepsView v u = u ≡ v
+KeepsView v u = IsSameBare v u
 
--- and so far it has the checkpoint of v
-abbrev pub KeepsCheckpoint : (v u : View) → Type 0
-KeepsCheckpoint v u = u.checkpoint ≡ v.checkpoint
-
--- a view that keeps v has this property: v itself
+-- a view that keeps v has this property
 abbrev pub SomeKeeps : View → (View → Type 0) → Type 0
-SomeKeeps v P = P v
+SomeKeeps v P = (u : View) × KeepsView v u × P u

@@ -2,9 +2,10 @@
 use Rattle.std.specs.Prelude.{ℕ, ◌+◌, ◌-◌, ◌%◌, ◌==◌, Bool, true, false, ◌||◌, nat_lt, if◌then◌else◌, List, [], ◌∷◌, map, Option, Some, None}
 use Rattle.std.specs.List.{range_with_len, slice_get}
 use Rattle.df_layout.specs.declared.damage.Finding.{Finding}
-use Rattle.df_theory.specs.Units.{AnyUnit, Block, BlockUnit, CopyUnit, HeaderUnit, Message, Parts, PreparePlace, PrepareUnit, ReplyUnit, Units}
+use Rattle.df_theory.specs.Units.{AnyUnit, Block, BlockUnit, Content, CopyUnit, HeaderUnit, Message, Parts, PreparePlace, PrepareUnit, ReplyUnit, Units}
 use Rattle.df_theory.specs.Shape.{Shape, slots}
 use Rattle.df_theory.specs.View.{View, head}
+use Rattle.df_theory.specs.Next.{booted}
 
 -- a checkpoint that was begun: the op that it reaches with that prepare's checksum, what its trailer is to say, the trailer's blocks so far from the last to the first, and the addresses of those to come
 pub record Running : Type 0 where
@@ -105,3 +106,7 @@ opened sh image v = record {
   tour = first_tour;
   findings = [];
 }
+
+-- the state behind the boot update of that open, which writes this superblock
+abbrev pub raised : Work → Content → Work
+raised w d = record w { view = booted w.view d }

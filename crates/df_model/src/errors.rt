@@ -25,12 +25,21 @@ pub enum OpenError {
     BadField { field: Field, value: u128 },
     /// The file has another layout than the rooms were reserved for.
     LayoutDiffers { reserved: Layout, found: Layout },
-    /// A place doesn't show the unit that it has to.
+    /// A place doesn't show the unit that it has to; or the boot update that ends an open answered so (`MendError`).
     Damaged { place: Place, class: Class },
     /// The disk failed.
     DiskFault,
     /// The superblock has the greatest boot, so that no later open can be told apart from the one that set it. Of version 2 alone.
     BootSpent,
+}
+
+/// Why a file that was surveyed isn't mended, or its boot isn't raised.
+#[derive(Clone, Copy, Debug, PartialEq, Eq)]
+pub enum MendError {
+    /// Fewer than three copies of the superblock with the next boot were read back as written; the first that wasn't.
+    Damaged { place: Place, class: Class },
+    /// The disk failed; the file may be mended in part, and its boot may be raised or not.
+    DiskFault,
 }
 
 /// Why a prepare isn't appended; the first of these that applies.

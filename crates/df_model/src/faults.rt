@@ -1,10 +1,10 @@
 // Which error of each call blames the device.
 ghost use Rattle.std.specs.Prelude.{◌≡◌};
-ghost use Rattle.df_model.specs.Faults.{is_format_fault, is_open_fault, is_append_fault, is_reply_fault, is_block_fault, is_step_fault, is_prepare_fault, is_lookup_fault, is_read_fault};
+ghost use Rattle.df_model.specs.Faults.{is_format_fault, is_open_fault, is_mend_fault, is_append_fault, is_reply_fault, is_block_fault, is_step_fault, is_prepare_fault, is_lookup_fault, is_read_fault};
 
 use crate::{
-    AppendError, BlockError, FormatError, LookupError, OpenError, PrepareError, ReadError,
-    ReplyError, StepError,
+    AppendError, BlockError, FormatError, LookupError, MendError, OpenError, PrepareError,
+    ReadError, ReplyError, StepError,
 };
 use df_base::BlamesDisk;
 
@@ -25,6 +25,16 @@ impl BlamesDisk for OpenError {
         ensures { result ≡ is_open_fault self.now }
     {
         *self == OpenError::DiskFault
+    }
+}
+
+impl BlamesDisk for MendError {
+    ghost is_fault = { is_mend_fault };
+
+    fn is_fault(&self) -> bool
+        ensures { result ≡ is_mend_fault self.now }
+    {
+        *self == MendError::DiskFault
     }
 }
 

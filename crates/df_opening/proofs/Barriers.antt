@@ -8,7 +8,7 @@ use Rattle.df_theory.specs.Holds.{Stands}
 use Rattle.df_theory.specs.UnitLog.{Synced, UnitEvent, UnitLog, add, now, now_of}
 use Rattle.df_theory.specs.View.{View}
 use Rattle.df_units.specs.Bytes.{unit_at}
-use Rattle.df_theory.proofs.Laws.{disk_barrier_law, now_units, quiet_synced}
+use Rattle.df_theory.proofs.Laws.{disk_barrier_law, now_units}
 use Rattle.df_opening.specs.Mending.{BarrierRests}
 use Rattle.df_opening.specs.Keeping.{Firm, Grade, StandingFor, StandsFor, Whole, format}
 use Rattle.df_damage.specs.Below.{shape}
@@ -38,7 +38,7 @@ barrier_rests g file view t may stands =
       is_log = record { start = may.safe.is_log.start; events = may.safe.is_log.events };
       honest = record { shows = may.honest.shows };
       rests = disk_barrier_law fmt (shape file) view t.log may.safe may.found;
-      quiet = quiet_synced log;
+      dry = λ place. refl;
       standing = stands_on g log (unit_at file.layout file.cluster t.shown) view (ap (unit_at file.layout file.cluster) (λ i sector. may.honest.shows sector i) ∙ sym shown) stands;
       no_chance = record {
         pooled = λ p z is. inl (inl (ap (λ (u : Units.Units). u p) shown ∙ is));

@@ -1,14 +1,20 @@
 -- The superblock of a new file can be used.
-use Rattle.std.proofs.Common.{inl, ◌≡◌, ℕ, ◌<◌, None, refl, arith}
+use Rattle.std.proofs.Common.{inr, ◌≡◌, ℕ, ◌<◌, ◌+◌, drop, length-drop, None, refl, ◌∙◌, arith}
+use Rattle.std.proofs.lemmas.List.{get_or-drop}
+use Rattle.df_format.specs.Super.{AreNone, no_checksums}
 use Rattle.df_layout.specs.declared.layout.Layout.{Layout}
 use Rattle.df_format.specs.SuperRules.{IsSuper, fault_of}
 use Rattle.df_format.proofs.Laws.{faults, no_names}
 use Rattle.df_format.specs.First.{first_super}
 
+-- no place is named, from any one on
+none_from : (n : ℕ) → AreNone (drop n no_checksums)
+none_from n k past inside = get_or-drop n no_checksums k past ∙ no_names (n + k) past (omega (arith, inside, length-drop n no_checksums))
+
 pub first_is_super : (layout : Layout) (cluster : ℕ) → 0 < cluster → IsSuper (first_super layout cluster)
 unfolding first_super
 first_is_super layout cluster some = record {
-  version = inl (record { version = refl; boot = refl; named = record { head = refl; replies = no_names } });
+  version = inr (record { version = refl; boot = omega arith; no_head = λ none. refl; head_is_op = λ same. refl; spare = none_from layout.clients });
   layout = record {
     slots_within = layout.slots_within;
     message_size_within = layout.message_size_within;

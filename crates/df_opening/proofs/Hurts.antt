@@ -1,7 +1,7 @@
 -- What a survey answers of a disk that may be hurt.
 use Rattle.std.proofs.Common.{Option, Some, Result, subst}
 use Rattle.df_damage.specs.Answers.{TellsHurt}
-use Rattle.df_damage.proofs.Laws.{answer_is_of_hurt}
+use Rattle.df_damage.proofs.Laws.{answer_is_of_hurt_as}
 use Rattle.df_disk.specs.Told.{Told}
 use Rattle.df_layout.specs.declared.layout.Layout.{Layout}
 use Rattle.df_model.specs.declared.errors.OpenError.{OpenError}
@@ -9,6 +9,6 @@ use Rattle.df_damage.specs.Below.{State}
 use Rattle.df_opening.specs.Surveying.{TellsSurvey}
 
 pub tells_hurt : (layout : Layout) (told : Option Told) (result : Result State OpenError) → TellsSurvey layout told result → TellsHurt layout told result
-tells_hurt layout told result tells = λ file view t is same may.
-    answer_is_of_hurt file view t result may
+tells_hurt layout told result tells = λ file view t is same may unspent.
+    answer_is_of_hurt_as 2 file view t result may unspent
     (subst (λ (l : Layout). TellsSurvey l (Some t) result) same (subst (λ (o : Option Told). TellsSurvey layout o result) is tells) may.whole)

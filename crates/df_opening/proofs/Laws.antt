@@ -2,9 +2,13 @@
 pub use Rattle.df_opening.proofs.StepShows.{StartSynced, same_class, same_sector, shown_after, shown_by, stays_firm, stays_whole, synced_first, unit_after, unwritten}
 pub use Rattle.df_opening.proofs.Fronts.{FrontSteps, all_front, front_of}
 pub use Rattle.df_opening.proofs.KeptFiles.{firm_of, firmly, good_safe}
-pub use Rattle.df_opening.proofs.Opens.{codec_of, found_keeps, layout_shown, names_none, super_shown}
+pub use Rattle.df_opening.proofs.Opens.{codec_of, found_keeps, layout_shown, second_found, super_shown}
+pub use Rattle.df_opening.proofs.Views.{keeps_back, keeps_on, keeps_self}
+pub use Rattle.df_opening.proofs.BegunStates.{begun_keeps}
+pub use Rattle.df_opening.proofs.Refused.{adds_error, read_error, unharmed_error, unharmed_ok}
+pub use Rattle.df_opening.proofs.RaiseSteps.{raised_is, sum_of}
 pub use Rattle.df_opening.proofs.NotRefused.{safe_is_not_refused}
 pub use Rattle.df_opening.proofs.Followed.{begun_may_open, stopped_may_open}
 pub use Rattle.df_opening.proofs.FirstSuper.{first_is_super}
-pub use Rattle.df_damage.proofs.Laws.{added_is_told, answer_is_of_hurt, had_is_written, headers_may_be_hurt, honest_stays, probe_is_of_hurt, same_goes_on, stops_alike, two_copies_are_enough}
-pub use Rattle.df_damage.proofs.Laws.{asked_noted, course_on, filter_more, numbered_by, one_super, same_file}
+pub use Rattle.df_damage.proofs.Laws.{added_is_told, answer_is_of_hurt, found_is_usable, had_is_written, headers_may_be_hurt, honest_stays, probe_is_of_hurt, same_goes_on, stops_alike, two_copies_are_enough}
+pub use Rattle.df_damage.proofs.Laws.{asked_noted, boot_made, boot_may_record, course_on, filter_more, level_beyond, numbered_by, recorded_content, recorded_is_super, one_super, same_file, second_super}

@@ -1,15 +1,6 @@
 -- The device calls of a mending are the theory's steps, and what they leave is the theory's.
 use Rattle.std.proofs.Common.{◌≡◌, ◌⊎◌, inl, inr, ℕ, zero, suc, ◌+◌, ◌/◌, ◌<◌, ◌≤◌, List, [], ◌∷◌, ◌++◌, length, Bool, true, false, Option, Some, None, refl, sym, ◌∙◌, ap, subst, append_assoc, arith}
-use Rattle.std.specs.Prelude.{Result, Ok, Err, OnOk}
-use Rattle.std.proofs.lemmas.Option.{slice_get_within}
-use Rattle.df_base.specs.declared.Failed.{Failed}
 use Rattle.df_base.specs.Log.{Sync}
-use Rattle.df_base.specs.Moments.{EachMoment}
-use Rattle.df_disk.specs.Told.{Told}
-use Rattle.df_disk.specs.Adds.{Adds, AddsPart, after_all}
-use Rattle.df_disk.proofs.Laws.{all_is_part}
-use Rattle.df_damage.specs.Anew.{told_after}
-use Rattle.df_damage.proofs.Laws.{added_is_told}
 use Rattle.df_layout.specs.declared.damage.Mend.{Mend}
 use Rattle.df_layout.specs.declared.layout.Layout.{Layout}
 use Rattle.df_format.specs.declared.header.Header.{Header}
@@ -17,29 +8,22 @@ use Rattle.df_format.specs.declared.superblock.SuperFields.{SuperFields}
 use Rattle.df_format.specs.SuperRules.{IsUsable}
 use Rattle.df_theory.specs.Units
 use Rattle.df_theory.specs.Units.{AnyUnit, HeaderPlace, HeaderUnit, Place, or_else}
-use Rattle.df_theory.specs.Device.{AreSteps, units_log}
+use Rattle.df_theory.specs.Device.{AreSteps}
 use Rattle.df_theory.specs.MakingLaws.{all_puts}
 use Rattle.df_theory.specs.MendLaws.{AllPutTable, PutsTable, Reaches, copy_steps, header_steps, mend_steps}
-use Rattle.df_theory.specs.Grown.{IsClear}
-use Rattle.df_theory.specs.Rests.{RestsOn}
-use Rattle.df_theory.specs.Runs.{Command, Puts, Step, Syncs, after_steps}
-use Rattle.df_theory.specs.TidyLaws.{IsTidy, KeepsStanding, LeadsTidily}
-use Rattle.df_theory.specs.Commands.{mend_command}
-use Rattle.df_theory.specs.View.{View}
-use Rattle.df_theory.specs.WholeLaws.{IsStanding}
-use Rattle.df_theory.specs.UnitLog.{Synced, UnitLog, add, now, settled, wrote}
-use Rattle.df_theory.proofs.Laws.{clear_law, now_units, steps_join_law, tidy_mend_law}
+use Rattle.df_theory.specs.Runs.{Puts, Step, Syncs, after_steps}
+use Rattle.df_theory.specs.UnitLog.{Synced, UnitLog, add, now, wrote}
+use Rattle.df_theory.proofs.Laws.{steps_join_law}
 use Rattle.df_units.specs.Format.{format_of}
-use Rattle.df_units.specs.Calls.{IsCall}
-use Rattle.df_units.proofs.Laws.{call_ends, call_good, call_whole, headers_put, is_format}
+use Rattle.df_units.proofs.Laws.{headers_put}
 use Rattle.df_headers.specs.Ring.{IsTable, in_sector, sector_writes}
 use Rattle.df_headers.proofs.Laws.{table_written}
 use Rattle.df_superblock.specs.Events.{repair_events}
 use Rattle.df_superblock.specs.Steps.{repaired}
-use Rattle.df_damage.specs.Below.{DataFile, shape}
-use Rattle.df_damage.specs.Plan.{header_or_none, headers_in, if_wanted}
-use Rattle.df_opening.specs.Mending.{IsMended, MayMendOn, header_events, mending_events, mending_steps, needs_sector, sector_puts, sectors_of, sectors_to}
-use Rattle.df_opening.specs.Keeping.{Firm, Grade, IsGoodFor, StandingFor, Whole, format}
+use Rattle.df_damage.specs.Below.{DataFile}
+use Rattle.df_damage.specs.Plan.{if_wanted}
+use Rattle.df_opening.specs.Mending.{header_events, mending_events, mending_steps, needs_sector, sector_puts, sectors_of, sectors_to}
+use Rattle.df_opening.specs.Keeping.{format}
 use Rattle.df_superblock.proofs.Laws.{repair_from}
 use Rattle.df_opening.proofs.MendEvents.{sectors_more}
 
@@ -88,7 +72,7 @@ keep_append place x [] ts one two = two
 keep_append place x ((Puts put) ∷ ss) ts one two = (one.0, keep_append place x ss ts one.1 two)
 keep_append place x (Syncs ∷ ss) ts one two = keep_append place x ss ts one two
 
-kept : (place : Place) (x : AnyUnit) (ss : List Step) (log : UnitLog) → AllKeep place x ss → now log place ≡ Some x → now (after_steps ss log) place ≡ Some x
+pub kept : (place : Place) (x : AnyUnit) (ss : List Step) (log : UnitLog) → AllKeep place x ss → now log place ≡ Some x → now (after_steps ss log) place ≡ Some x
 kept place x [] log all is = is
 kept place x ((Puts put) ∷ ss) log all is = kept place x ss (wrote put log) all.1 (elim all.0 [
   | inl none ↦ ap (λ (o : Option AnyUnit). or_else o (now log place)) none ∙ is
@@ -123,7 +107,7 @@ keep_copies f number s x [] = tt
 keep_copies f number s x (true ∷ members) = keep_copies f (number + 1) s x members
 keep_copies f number s x (false ∷ members) = (inl refl, keep_copies f (number + 1) s x members)
 
-slot_ends : (table : ℕ → Units.Header) (puts : List Units.Units) (f : SuperFields) (members : List Bool) (log : UnitLog) (s : ℕ) → AllPutTable table puts → (now log (HeaderPlace s) ≡ Some (HeaderUnit (table s))) ⊎ Reaches puts (HeaderPlace s)
+pub slot_ends : (table : ℕ → Units.Header) (puts : List Units.Units) (f : SuperFields) (members : List Bool) (log : UnitLog) (s : ℕ) → AllPutTable table puts → (now log (HeaderPlace s) ≡ Some (HeaderUnit (table s))) ⊎ Reaches puts (HeaderPlace s)
     → now (after_steps (mend_steps puts (repaired f 0 members)) log) (HeaderPlace s) ≡ Some (HeaderUnit (table s))
 slot_ends table [] f members log s all (inl shown) = kept (HeaderPlace s) (HeaderUnit (table s)) (copy_steps (repaired f 0 members)) log (keep_copies f 0 s (HeaderUnit (table s)) members) shown
 slot_ends table [] f members log s all (inr none) = absurd none
@@ -137,77 +121,3 @@ slot_ends table (put ∷ puts) f members log s all either =
       | inl shown ↦ kept (HeaderPlace s) x (all_puts (put ∷ puts) ++ behind) log keeps shown
       | inr reaches ↦ reached (HeaderPlace s) x (put ∷ puts) behind log keeps reaches
     ])
-
--- ---- moments and end
-
--- the mending as a command of the theory
-abbrev mending_command : DataFile → List Header → List Mend → SuperFields → List Bool → View → Command
-mending_command file table mends f members v = mend_command v (sector_puts table (sectors_of file.layout mends)) (repaired f 0 members)
-
-abbrev TidilyMends : DataFile → List Header → List Mend → SuperFields → List Bool → Told → View → Type 0
-TidilyMends file table mends f members t v =
-    LeadsTidily (shape file) (units_log (format file) t.log) v (mending_command file table mends f members v)
-    × (IsStanding (units_log (format file) t.log) v → KeepsStanding (shape file) (units_log (format file) t.log) v (mending_command file table mends f members v))
-
--- what stands before it stands behind it
-stands_then : (g : Grade) (file : DataFile) (table : List Header) (mends : List Mend) (f : SuperFields) (members : List Bool) (t : Told) (v : View) → TidilyMends file table mends f members t v
-    → StandingFor g (units_log (format file) t.log) v → StandingFor g (after_steps (mending_steps file.layout table mends f members) (units_log (format file) t.log)) v
-stands_then Firm file table mends f members t v law standing = tt
-stands_then Whole file table mends f members t v law standing = (law.1 standing).standing
-
--- in a file of version 1 nothing survives above the head
-clear : (file : DataFile) (log : UnitLog) (v : View) → file.version ≡ 1 → RestsOn (shape file) log v → IsClear (settled log) v
-clear file log v first rests = let tests = rests.holds.bears.sound.checkpoint.tests in clear_law (shape file) log v rests (tests.of.one (tests.version ∙ first)).0
-
-pub mending_moments : (file : DataFile) (table : List Header) (mends : List Mend) (f : SuperFields) (members : List Bool) (before after : Told) (may : MayMendOn file table mends f members before)
-    → AreSteps (format file) (mending_events file.layout table mends f members) (mending_steps file.layout table mends f members) → AddsPart (mending_events file.layout table mends f members) (Some before) (Some after)
-    → EachMoment before.log after.log (IsGoodFor may.grade (format file) (shape file) may.view may.view)
-mending_moments file table mends f members before after may steps part = each may.grade may.standing
-  where
-    law : TidilyMends file table mends f members before may.view
-    law = tidy_mend_law (shape file) (units_log (format file) before.log) may.view (headers_in table) (sector_puts table (sectors_of file.layout mends)) (repaired f 0 members) may.may (clear file (units_log (format file) before.log) may.view may.version may.may.rests)
-
-    call : IsCall (format file) (mending_events file.layout table mends f members) (mending_steps file.layout table mends f members) before after
-    call = record { log = may.is_log; steps = steps; adds = part }
-
-    each : (g : Grade) → StandingFor g (units_log (format file) before.log) may.view → EachMoment before.log after.log (IsGoodFor g (format file) (shape file) may.view may.view)
-    each Firm standing =
-        call_good (format file) (shape file) may.view may.view (mending_events file.layout table mends f members) (mending_steps file.layout table mends f members) before after (is_format file.layout file.cluster) call law.0.leads.moments
-    each Whole standing =
-        call_whole (format file) (shape file) may.view (mending_command file table mends f members may.view) (mending_events file.layout table mends f members) before after (is_format file.layout file.cluster) call (law.1 standing)
-
-pub mending_ends : (file : DataFile) (table : List Header) (mends : List Mend) (f : SuperFields) (members : List Bool) (before after : Told) (result : Result Unit Failed) (may : MayMendOn file table mends f members before)
-    → IsTable file.layout file.cluster table → AreSteps (format file) (mending_events file.layout table mends f members) (mending_steps file.layout table mends f members) → Adds (mending_events file.layout table mends f members) (Some before) (Some after) result
-    → OnOk result (IsMended may.grade file may.view table after)
-mending_ends file table mends f members before after (Err failed) may is steps adds = tt
-mending_ends file table mends f members before after (Ok x) may is steps adds =
-    let sh = shape file in
-    let fmt = format file in
-    let log = units_log fmt before.log in
-    let puts = sector_puts table (sectors_of file.layout mends) in
-    let ss = mending_steps file.layout table mends f members in
-    let law : TidilyMends file table mends f members before may.view = tidy_mend_law sh log may.view (headers_in table) puts (repaired f 0 members) may.may (clear file log may.view may.version may.may.rests) in
-    let ends : units_log fmt after.log ≡ after_steps ss log = call_ends fmt (mending_events file.layout table mends f members) ss before after may.is_log steps adds in
-    record {
-      tidy = subst (λ (l : UnitLog). IsTidy sh l may.view) (sym ends) law.0.tidy;
-      standing = subst (λ (l : UnitLog). StandingFor may.grade l may.view) (sym ends) (stands_then may.grade file table mends f members before may.view law may.standing);
-      ring = λ s h at.
-          let below : s < file.layout.slots = omega (arith, slice_get_within table s h at, is.count) in
-          let shown = slot_ends (headers_in table) puts f members log s may.may.puts_headers (may.may.each_slot s below) in
-          ap (λ (u : Units.Units). u (HeaderPlace s)) (sym (now_units fmt after.log.start after.log.events)) ∙ ap (λ (l : UnitLog). now l (HeaderPlace s)) ends ∙ shown ∙ ap (λ (o : Option Header). Some (HeaderUnit (header_or_none o))) at;
-    }
-
--- ---- all of it, by any log
-
-module _ (file : DataFile) (table : List Header) (mends : List Mend) (f : SuperFields) (members : List Bool) (base : Told) (may : MayMendOn file table mends f members base)
-    (steps : AreSteps (format file) (mending_events file.layout table mends f members) (mending_steps file.layout table mends f members)) where
-  all_told : Some (told_after (mending_events file.layout table mends f members) base) ≡ after_all (mending_events file.layout table mends f members) (Some base)
-  all_told = sym (added_is_told (mending_events file.layout table mends f members) base)
-
-  pub all_moments : EachMoment base.log (told_after (mending_events file.layout table mends f members) base).log (IsGoodFor may.grade (format file) (shape file) may.view may.view)
-  all_moments =
-      let events = mending_events file.layout table mends f members in
-      mending_moments file table mends f members base (told_after events base) may steps (all_is_part events (Some base) (Some (told_after events base)) all_told)
-
-  pub all_mended : IsTable file.layout file.cluster table → IsMended may.grade file may.view table (told_after (mending_events file.layout table mends f members) base)
-  all_mended is = mending_ends file table mends f members base (told_after (mending_events file.layout table mends f members) base) (Ok tt) may is steps all_told

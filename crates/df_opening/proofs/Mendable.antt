@@ -1,5 +1,5 @@
 -- What is planned of a file that is found may be mended: each slot and each copy that isn't as it should be is written, and no member.
-use Rattle.std.proofs.Common.{◌≡◌, inl, inr, ℕ, zero, suc, ◌+◌, ◌*◌, ◌/◌, ◌%◌, ◌<◌, ◌==◌, List, [], ◌∷◌, ◌++◌, length, Bool, true, false, IsTrue, get_or, Some, None, refl, sym, ◌∙◌, ap, subst, arith}
+use Rattle.std.proofs.Common.{◌≡◌, ◌⊎◌, inl, inr, ℕ, zero, suc, ◌+◌, ◌*◌, ◌/◌, ◌%◌, ◌<◌, ◌==◌, List, [], ◌∷◌, ◌++◌, length, Bool, true, false, IsTrue, get_or, Some, None, refl, sym, ◌∙◌, ap, subst, arith}
 use Rattle.std.specs.List.{list_any, slice_get}
 use Rattle.std.proofs.lemmas.Bool.{cases_eq, cond-true, eq-eqb, cases_Bool, or_right, or_left}
 use Rattle.std.proofs.lemmas.List.{map-append}
@@ -21,10 +21,12 @@ use Rattle.df_theory.specs.Chance.{InPools}
 use Rattle.df_theory.specs.Copies
 use Rattle.df_theory.specs.Device.{units_log}
 use Rattle.df_theory.specs.Found.{IsFound}
-use Rattle.df_theory.specs.MendLaws.{AllPutCopy, AllPutTable, IsNumber, PutsTable, Reaches}
+use Rattle.df_theory.specs.Copies.{Agree}
+use Rattle.df_theory.specs.MendLaws.{AllPutCopy, AllPutTable, IsNumber, IsTable, PutsTable, Reaches}
+use Rattle.df_theory.specs.Shape.{Shape, slots}
 use Rattle.df_theory.specs.UnitLog.{now}
 use Rattle.df_theory.specs.View.{View}
-use Rattle.df_theory.proofs.Laws.{found_law, now_units, one_chosen_law, put_one_law}
+use Rattle.df_theory.proofs.Laws.{dry_quiet, found_law, now_units, one_chosen_law, put_one_law}
 use Rattle.df_units.specs.Bytes.{copy_unit, unit_at}
 use Rattle.df_units.specs.Meaning.{content_of, header_of}
 use Rattle.df_units.specs.Puts.{header_unit}
@@ -34,14 +36,13 @@ use Rattle.df_headers.specs.Ring.{in_sector}
 use Rattle.df_headers.proofs.Laws.{sector_at, sector_has}
 use Rattle.df_superblock.specs.Steps.{repaired}
 use Rattle.df_journal.specs.declared.table.Start.{Start}
-use Rattle.df_journal.specs.Shows.{TellsRings}
 use Rattle.df_damage.specs.Below.{DataFile, shape}
 use Rattle.df_opening.specs.Mending.{IsPlanned, PlannedMayMend, RestsOnDisk, lies_in, needs_sector, sector_put, sector_puts, sectors_of, sectors_to}
 use Rattle.df_damage.specs.Plan.{AreDistinct, IsScanOf, copy_mends, header_or_none, headers_in, if_wanted, needs_header, shown_class, slot_mend, slot_mends}
 use Rattle.df_opening.specs.Keeping.{Grade, format}
 use Rattle.df_opening.proofs.Followed.{in_pools}
 use Rattle.df_opening.proofs.MendEvents.{sectors_more}
-use Rattle.df_damage.proofs.Laws.{slot_mends_more, super_is_written, written_is}
+use Rattle.df_damage.proofs.Laws.{slot_mends_more, super_is_written_as, written_as}
 
 -- ---- copies
 
@@ -131,59 +132,48 @@ put_there table s h at =
     let has : slice_get (in_sector (s / 16) table) (s % 16) ≡ Some h = sector_has (s / 16) (s % 16) table h (omega arith) (subst (λ (k : ℕ). slice_get table k ≡ Some h) same at) in
     cond-true (s / 16 == s / 16) (header_unit (slice_get (in_sector (s / 16) table) (s % 16))) None (eq-eqb (s / 16) (s / 16) refl) ∙ ap header_unit has
 
--- ---- all of it
+-- ---- all of it, by what is shown
 
-module _ (g : Grade) (file : DataFile) (v : View) (table : List Header) (mends : List Mend) (f : SuperFields) (members : List Bool) (t : Told) (four : length members ≡ 4) (plan : IsPlanned file table mends f members t) (on : RestsOnDisk g file v t) where
-  shown_is : t.shown ≡ Log.now t.log
-  shown_is = λ i sector. on.honest.shows sector i
+-- what is planned of an image in which a view is found: the part of `MayMend` that speaks of the image alone
+pub record IsPlannedIn (sh : Shape) (image : Units.Units) (v : View) (table : ℕ → Units.Header) (headers : List Units.Units) (copies : List (ℕ × Units.Units)) : Type 0 where
+  pub tells : IsTable sh image v table
+  pub puts_headers : AllPutTable table headers
+  pub agreed : Agree image v.checkpoint.content
+  pub puts_copies : AllPutCopy v.checkpoint.content agreed.first agreed.second copies
+  pub each_slot : (s : ℕ) → s < slots sh → (image (HeaderPlace s) ≡ Some (HeaderUnit (table s))) ⊎ Reaches headers (HeaderPlace s)
+  pub each_copy : (k : ℕ) → k < 4 → (image (CopyPlace k) ≡ Some (CopyUnit v.checkpoint.content)) ⊎ IsNumber k copies
 
-  image_is : unit_at file.layout file.cluster t.shown ≡ now (units_log (format file) t.log)
-  image_is = ap (unit_at file.layout file.cluster) shown_is ∙ sym (now_units (format file) t.log.start t.log.events)
-
-  whole : IsImage t.shown
-  whole = subst IsImage (sym shown_is) (now_is_image t.log.start t.log.events on.is_log.start on.is_log.events)
-
-  tells : TellsRings file.layout (now (units_log (format file) t.log)) plan.scan
-  tells = subst (λ (image : Units.Units). TellsRings file.layout image plan.scan) image_is plan.scanned
+module _ (file : DataFile) (v : View) (table : List Header) (mends : List Mend) (f : SuperFields) (members : List Bool) (t : Told) (four : length members ≡ 4) (plan : IsPlanned file table mends f members t)
+    (whole : IsImage t.shown) (found : IsFound (shape file) (unit_at file.layout file.cluster t.shown) v) (distinct : AreDistinct (unit_at file.layout file.cluster t.shown)) where
+  abbrev image : Units.Units
+  image = unit_at file.layout file.cluster t.shown
 
   chosen : Quorum.IsChosen (content_at t.shown) (content_with f)
-  chosen = super_is_written t.shown f whole plan.super
+  chosen = super_is_written_as 2 t.shown f whole plan.super
 
-  is_chosen : Copies.IsChosen (now (units_log (format file) t.log)) (content_of (content_with f))
-  is_chosen = subst (λ (image : Units.Units). Copies.IsChosen image (content_of (content_with f))) image_is (choice_chosen file.layout file.cluster t.shown (content_with f) whole chosen)
+  is_chosen : Copies.IsChosen image (content_of (content_with f))
+  is_chosen = choice_chosen file.layout file.cluster t.shown (content_with f) whole chosen
 
-  content_is : v.checkpoint.content ≡ content_of (content_with f)
-  content_is = one_chosen_law (now (units_log (format file) t.log)) v.checkpoint.content (content_of (content_with f)) on.rests.holds.chosen is_chosen
+  pub content_is : v.checkpoint.content ≡ content_of (content_with f)
+  content_is = one_chosen_law image v.checkpoint.content (content_of (content_with f)) found.chosen is_chosen
 
-  -- it is found in what is shown
-  found : IsFound (shape file) (now (units_log (format file) t.log)) v
-  found = (found_law (shape file) (now (units_log (format file) t.log)) v).0 on.rests.holds
-
-  is_scan : IsScanOf file.layout (shape file) (now (units_log (format file) t.log)) v plan.scan plan.top
+  is_scan : IsScanOf file.layout (shape file) image v plan.scan plan.top
   is_scan = record {
     slots_are = refl;
     op = ap (λ (c : Units.Content). c.op) content_is ∙ sym (ap (λ (x : Start). x.op) plan.start);
     pin = ap (λ (c : Units.Content). c.pin) content_is ∙ sym (ap (λ (x : Start). x.head) plan.start);
     boot = ap (λ (c : Units.Content). c.boot) content_is ∙ sym (ap (λ (x : Start). x.boot) plan.start);
-    head_is = plan.top_is whole v (subst (λ (image : Units.Units). IsFound (shape file) image v) (sym image_is) found);
-    tells = tells;
+    head_is = plan.top_is whole v found;
+    tells = plan.scanned;
     found = found;
   }
 
-  distinct : AreDistinct (now (units_log (format file) t.log))
-  distinct place other x y one two =
-      let image = sym (now_units (format file) t.log.start t.log.events) in
-      let log = units_log (format file) t.log in
-      let pool : (p : Place) (z : AnyUnit) → now log p ≡ Some z → InPools log.start log.events p z = λ p z is.
-      in_pools log.start log.events p z (on.no_chance.pooled p z (ap (λ (u : Units.Units). u p) image ∙ is)) in
-      on.no_chance.distinct place other x y (pool place x one) (pool other y two)
-
   members_are : Quorum.AreMembers (content_at t.shown) (content_with f) members
-  members_are = subst (λ c. Quorum.AreMembers (content_at t.shown) c members) (written_is t.shown f whole plan.super) plan.members_are
+  members_are = subst (λ c. Quorum.AreMembers (content_at t.shown) c members) (written_as 2 t.shown f whole plan.super) plan.members_are
 
   -- a copy that shows the content
-  copy_shown : (n : ℕ) → content_at t.shown n ≡ Some (content_with f) → now (units_log (format file) t.log) (CopyPlace n) ≡ Some (CopyUnit v.checkpoint.content)
-  copy_shown n at = ap (λ (u : Units.Units). u (CopyPlace n)) (sym image_is) ∙ ap copy_unit at ∙ ap (λ (c : Units.Content). Some (CopyUnit c)) (sym content_is)
+  copy_shown : (n : ℕ) → content_at t.shown n ≡ Some (content_with f) → image (CopyPlace n) ≡ Some (CopyUnit v.checkpoint.content)
+  copy_shown n at = ap copy_unit at ∙ ap (λ (c : Units.Content). Some (CopyUnit c)) (sym content_is)
 
   member_of : (n : ℕ) → n < 4 → content_at t.shown n ≡ Some (content_with f) → IsSpared n 0 members
   member_of n below at j isnt inside same =
@@ -192,42 +182,77 @@ module _ (g : Grade) (file : DataFile) (v : View) (table : List Header) (mends :
       let no : false ≡ true = sym off ∙ is in
       cc
 
-  needed : (s : ℕ) → s < file.layout.slots → needs_header file.layout plan.scan.start plan.top (now (units_log (format file) t.log)) s ≡ true → Reaches (sector_puts table (sectors_of file.layout mends)) (HeaderPlace s)
+  needed : (s : ℕ) → s < file.layout.slots → needs_header file.layout plan.scan.start plan.top image s ≡ true → Reaches (sector_puts table (sectors_of file.layout mends)) (HeaderPlace s)
   needed s below needs =
       let start = plan.scan.start in
-      let image = now (units_log (format file) t.log) in
       let classes = shown_class plan.scan in
       let slots_list = slot_mends (needs_header file.layout start plan.top image) classes file.layout.slots in
       let inside : list_any (lies_in (s / 16)) slots_list ≡ true = listed (lies_in (s / 16)) (needs_header file.layout start plan.top image) classes s file.layout.slots below needs (lies classes s) in
       let all : needs_sector mends (s / 16) ≡ true =
-      ap (list_any (lies_in (s / 16))) (plan.planned.list image tells) ∙ list_any-append (lies_in (s / 16)) (copy_mends plan.copies members) slots_list ∙ or_right (list_any (lies_in (s / 16)) (copy_mends plan.copies members)) (list_any (lies_in (s / 16)) slots_list) inside in
+      ap (list_any (lies_in (s / 16))) (plan.planned.list image plan.scanned) ∙ list_any-append (lies_in (s / 16)) (copy_mends plan.copies members) slots_list ∙ or_right (list_any (lies_in (s / 16)) (copy_mends plan.copies members)) (list_any (lies_in (s / 16)) slots_list) inside in
       let at = slice_get-get_or table s (reserved_header file.cluster 0) (omega (arith, below, plan.planned.is_table.count)) in
       reaches_at table mends (HeaderPlace s) (s / 16) (file.layout.slots / 16) (HeaderUnit (header_of (get_or table s (reserved_header file.cluster 0)))) (omega (arith, below, file.layout.slots_within.2)) all (put_there table s (get_or table s (reserved_header file.cluster 0)) at)
 
+  pub planned_in : IsPlannedIn (shape file) image v (headers_in table) (sector_puts table (sectors_of file.layout mends)) (repaired f 0 members)
+  planned_in = record {
+    tells = plan.planned.from (shape file) image v is_scan;
+    puts_headers = all_puts_table table (sectors_of file.layout mends);
+    agreed = record {
+      first = chosen.agreed.first;
+      second = chosen.agreed.second;
+      apart = chosen.agreed.apart;
+      inside = chosen.agreed.inside;
+      at_first = copy_shown chosen.agreed.first chosen.agreed.at_first;
+      at_second = copy_shown chosen.agreed.second chosen.agreed.at_second;
+    };
+    puts_copies = subst (λ (c : Units.Content). AllPutCopy c chosen.agreed.first chosen.agreed.second (repaired f 0 members)) (sym content_is)
+        (all_put f chosen.agreed.first chosen.agreed.second 0 members (member_of chosen.agreed.first (omega (arith, chosen.agreed.apart, chosen.agreed.inside)) chosen.agreed.at_first) (member_of chosen.agreed.second chosen.agreed.inside chosen.agreed.at_second));
+    each_slot = λ s below. elim (cases_Bool (needs_header file.layout plan.scan.start plan.top image s)) [
+      | inl needs ↦ inr (needed s below needs)
+      | inr unlisted ↦ inl (plan.planned.others (shape file) image v is_scan distinct s below unlisted)
+    ];
+    each_copy = λ k below. elim (cases_Bool (get_or members k false)) [
+      | inl member ↦ inl (copy_shown k ((members_are k below).0 member))
+      | inr isnt ↦ inr (subst (λ (n : ℕ). IsNumber n (repaired f 0 members)) (let same : 0 + k ≡ k = omega arith in same) (not_member f 0 k members (omega (arith, below, four)) isnt))
+    ];
+  }
+
+-- ---- by a log on which the view rests
+
+module _ (g : Grade) (file : DataFile) (v : View) (t : Told) (on : RestsOnDisk g file v t) where
+  shown_is : t.shown ≡ Log.now t.log
+  shown_is = λ i sector. on.honest.shows sector i
+
+  pub image_is : unit_at file.layout file.cluster t.shown ≡ now (units_log (format file) t.log)
+  image_is = ap (unit_at file.layout file.cluster) shown_is ∙ sym (now_units (format file) t.log.start t.log.events)
+
+  pub rest_whole : IsImage t.shown
+  rest_whole = subst IsImage (sym shown_is) (now_is_image t.log.start t.log.events on.is_log.start on.is_log.events)
+
+  pub rest_found : IsFound (shape file) (unit_at file.layout file.cluster t.shown) v
+  rest_found = subst (λ (u : Units.Units). IsFound (shape file) u v) (sym image_is) ((found_law (shape file) (now (units_log (format file) t.log)) v).0 on.rests.holds)
+
+  pub rest_distinct : AreDistinct (unit_at file.layout file.cluster t.shown)
+  rest_distinct place other x y one two =
+      let shown = ap (unit_at file.layout file.cluster) shown_is in
+      let log = units_log (format file) t.log in
+      let pool : (p : Place) (z : AnyUnit) → unit_at file.layout file.cluster t.shown p ≡ Some z → InPools log.start log.events p z = λ p z is.
+      in_pools log.start log.events p z (on.no_chance.pooled p z (ap (λ (u : Units.Units). u p) (sym shown) ∙ is)) in
+      on.no_chance.distinct place other x y (pool place x one) (pool other y two)
+
 pub planned_may_mend : PlannedMayMend
 planned_may_mend g file v table mends f members t four plan on =
-    let agreed = (chosen g file v table mends f members t four plan on).agreed in
+    let log = units_log (format file) t.log in
+    let in_log : IsPlannedIn (shape file) (now log) v (headers_in table) (sector_puts table (sectors_of file.layout mends)) (repaired f 0 members) =
+    subst (λ (u : Units.Units). IsPlannedIn (shape file) u v (headers_in table) (sector_puts table (sectors_of file.layout mends)) (repaired f 0 members)) (image_is g file v t on)
+    (planned_in file v table mends f members t four plan (rest_whole g file v t on) (rest_found g file v t on) (rest_distinct g file v t on)) in
     record {
       rests = on.rests;
-      quiet = on.quiet;
-      tells = plan.planned.from (shape file) (now (units_log (format file) t.log)) v (is_scan g file v table mends f members t four plan on);
-      puts_headers = all_puts_table table (sectors_of file.layout mends);
-      agreed = record {
-        first = agreed.first;
-        second = agreed.second;
-        apart = agreed.apart;
-        inside = agreed.inside;
-        at_first = copy_shown g file v table mends f members t four plan on agreed.first agreed.at_first;
-        at_second = copy_shown g file v table mends f members t four plan on agreed.second agreed.at_second;
-      };
-      puts_copies = subst (λ (c : Units.Content). AllPutCopy c agreed.first agreed.second (repaired f 0 members)) (sym (content_is g file v table mends f members t four plan on))
-          (all_put f agreed.first agreed.second 0 members (member_of g file v table mends f members t four plan on agreed.first (omega (arith, agreed.apart, agreed.inside)) agreed.at_first) (member_of g file v table mends f members t four plan on agreed.second agreed.inside agreed.at_second));
-      each_slot = λ s below. elim (cases_Bool (needs_header file.layout plan.scan.start plan.top (now (units_log (format file) t.log)) s)) [
-        | inl needs ↦ inr (needed g file v table mends f members t four plan on s below needs)
-        | inr unlisted ↦ inl (plan.planned.others (shape file) (now (units_log (format file) t.log)) v (is_scan g file v table mends f members t four plan on) (distinct g file v table mends f members t four plan on) s below unlisted)
-      ];
-      each_copy = λ k below. elim (cases_Bool (get_or members k false)) [
-        | inl member ↦ inl (copy_shown g file v table mends f members t four plan on k ((members_are g file v table mends f members t four plan on k below).0 member))
-        | inr isnt ↦ inr (subst (λ (n : ℕ). IsNumber n (repaired f 0 members)) (let same : 0 + k ≡ k = omega arith in same) (not_member f 0 k members (omega (arith, below, four)) isnt))
-      ];
+      quiet = dry_quiet log on.dry;
+      tells = in_log.tells;
+      puts_headers = in_log.puts_headers;
+      agreed = in_log.agreed;
+      puts_copies = in_log.puts_copies;
+      each_slot = in_log.each_slot;
+      each_copy = in_log.each_copy;
     }

@@ -10,7 +10,7 @@ use Rattle.df_units.specs.Bytes.{unit_at}
 use Rattle.df_opening.specs.Completeness.{SafeIsNotRefused}
 
 pub safe_is_not_refused : SafeIsNotRefused
-safe_is_not_refused file view t may =
+safe_is_not_refused file view t may unspent =
     let shows : now t.log ≡ t.shown = λ i sector. sym (may.honest.shows sector) i in
     let whole : IsImage t.shown = subst IsImage shows (now_is_image t.log.start t.log.events may.safe.is_log.start may.safe.is_log.events) in
-    (whole, found_is_not_refused file t.shown view may.version whole (subst (λ (image : Image). IsFound (shape file) (unit_at file.layout file.cluster image) view) shows may.found))
+    (whole, found_is_not_refused file t.shown view may.version unspent whole (subst (λ (image : Image). IsFound (shape file) (unit_at file.layout file.cluster image) view) shows may.found))

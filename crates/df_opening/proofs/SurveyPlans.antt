@@ -11,22 +11,20 @@ use Rattle.df_journal.specs.Shows.{TellsRings}
 use Rattle.df_journal.specs.declared.table.Start.{Start}
 use Rattle.df_journal.proofs.Laws.{rings_shown}
 use Rattle.df_damage.proofs.Laws.{head_found}
-use Rattle.df_damage.specs.Below.{State}
 use Rattle.df_damage.specs.Found.{IsFound}
 use Rattle.df_damage.specs.Surveying as recovered
 use Rattle.df_damage.specs.Surveying.{IsPlannedFor, IsReadOf, TellsSurveyAs, state_found}
-use Rattle.df_damage.specs.Surveys.{IsOpened}
 use Rattle.df_damage.specs.Types.{Surveyed}
-use Rattle.df_opening.specs.Mending.{IsPlanned, live_state}
+use Rattle.df_opening.specs.Mending.{IsPlanned}
 use Rattle.df_opening.specs.Survey.{Survey}
-use Rattle.df_opening.specs.Surveying.{TellsMends, TellsSurvey, survey_found}
+use Rattle.df_opening.specs.Surveying.{TellsMends, survey_found}
 
 -- what a survey is planned from
 abbrev pub IsPlannedOn : Survey → Told → Type 0
 IsPlannedOn s t = IsPlanned s.state.file s.state.headers s.mends s.state.fields s.chosen.members t
 
 module _ (y : Surveyed) (layout : Layout) (plan : IsPlannedFor y) where
-  shown_planned : (t : Told) → IsReadOf 1 layout (Some t) y.scanned → TellsSurveyAs 1 layout (Some t) (Ok (state_found y)) → IsPlannedOn (survey_found y) (did Sync t)
+  shown_planned : (t : Told) → IsReadOf 2 layout (Some t) y.scanned → TellsSurveyAs 2 layout (Some t) (Ok (state_found y)) → IsPlannedOn (survey_found y) (did Sync t)
   shown_planned t read answer =
       let scan : Scan = y.scanned.log.slots in
       let found : IsFound t.shown y.scanned.copies.found = read.found in
@@ -42,11 +40,11 @@ module _ (y : Surveyed) (layout : Layout) (plan : IsPlannedFor y) where
             subst (λ (c : ℕ). TellsRings y.scanned.file.layout (unit_at y.scanned.file.layout c t.shown) scan) own
             (subst (λ (l : Layout). TellsRings l (unit_at l scan.start.cluster t.shown) scan) (sym read.file.layout_is) tells);
         top = y.traces.tail.op;
-        top_is = λ whole v is_found. head_found 1 layout t.shown (state_found y) (answer whole) v is_found;
+        top_is = λ whole v is_found. head_found 2 layout t.shown (state_found y) (answer whole) v is_found;
         planned = plan;
       }
 
-  pub survey_planned : (old new : Option Told) (t : Told) → new ≡ Some t → new ≡ after Sync old → IsReadOf 1 layout old y.scanned → TellsSurveyAs 1 layout old (Ok (state_found y)) → IsPlannedOn (survey_found y) t
+  pub survey_planned : (old new : Option Told) (t : Told) → new ≡ Some t → new ≡ after Sync old → IsReadOf 2 layout old y.scanned → TellsSurveyAs 2 layout old (Ok (state_found y)) → IsPlannedOn (survey_found y) t
   survey_planned None new t told barrier read answer = let no : Some t ≡ None = sym told ∙ barrier in absurd (cc)
   survey_planned (Some u) new t told barrier read answer =
       let same : did Sync u ≡ t = same_Some _ _ (sym barrier ∙ told) in
@@ -56,10 +54,3 @@ module _ (y : Surveyed) (layout : Layout) (plan : IsPlannedFor y) where
 pub told_mends : (layout : Layout) (told : Option Told) (y : Surveyed) → recovered.TellsMends layout told y → TellsMends layout told (survey_found y)
 told_mends layout None y is = tt
 told_mends layout (Some t) y is = λ image. let may = is image in record { choice = may.choice; mends = may.mends }
-
--- the state of the answer, live or not
-pub live_answers : (layout : Layout) (told : Option Told) (s r : State) → r ≡ live_state s → TellsSurvey layout told (Ok s) → TellsSurvey layout told (Ok r)
-live_answers layout None s r is answer = tt
-live_answers layout (Some t) s r is answer = λ whole.
-    let a = answer whole in
-    subst (IsOpened layout t.shown) (sym is) (record { has = a.has; of = a.of; view = a.view; found = a.found; unspent = a.unspent; stands = a.stands })

@@ -5,6 +5,7 @@ pub mod Making
 pub mod Survey
 pub mod Following
 pub mod Mending
+pub mod Raising
 pub mod Surveying
 pub mod Completeness
 pub mod Opened

@@ -53,7 +53,7 @@ abbrev pub making_steps : Layout → ℕ → List Step
 making_steps layout cluster = format_steps (header_puts 0 (sectors_in layout (reserved_table layout cluster))) (put_copies (first_super layout cluster))
 
 abbrev pub file_of : (layout : Layout) (cluster : ℕ) → 0 < cluster → DataFile
-file_of layout cluster named = record { layout = layout; cluster = cluster; version = 1; named = named }
+file_of layout cluster named = record { layout = layout; cluster = cluster; version = 2; named = named }
 
 -- a file of this layout and cluster may be made on the disk, as on one that was never written
 pub record MayMakeOn (layout : Layout) (cluster : ℕ) (t : Told) : Type 0 where

@@ -1,36 +1,45 @@
 -- The mending of a file: which sectors of the header ring are written, its device calls, what they are in the words of the theory, and what they leave.
-use Rattle.std.specs.Prelude.{◌≡◌, ◌/◌, ◌==◌, ◌&&◌, ℕ, Bool, true, false, List, [], ◌∷◌, ◌++◌, length, map}
+use Rattle.std.specs.Prelude.{◌≡◌, ◌⊎◌, ◌+◌, ◌/◌, ◌==◌, ◌&&◌, ℕ, Bool, true, false, List, [], ◌∷◌, ◌++◌, length, map, Option, Some, Result, Ok, Err}
 use Rattle.std.specs.List.{filter, list_any, range_with_len}
-use Rattle.df_base.specs.Image.{IsImage}
-use Rattle.df_base.specs.Log.{Event, IsLog, Sync, now}
+use Rattle.df_base.specs.Image.{Image, IsImage}
+use Rattle.df_base.specs.Log.{Event, IsLeft, IsLog, Log, Sync, now}
 use Rattle.df_disk.specs.Told.{IsHonest, Told, did}
+use Rattle.df_disk.specs.Adds.{AddsPart, after_all}
 use Rattle.df_layout.specs.declared.damage.Mend.{Mend}
 use Rattle.df_layout.specs.declared.layout.Layout.{Layout}
 use Rattle.df_layout.specs.declared.places.Zone.{Zone}
 use Rattle.df_layout.specs.declared.places.Zone.TheVariants.{WalHeaders}
 use Rattle.df_format.specs.declared.header.Header.{Header}
-use Rattle.df_format.specs.Copies.{content_at}
+use Rattle.df_format.specs.Copies.{content_at, content_with}
 use Rattle.df_format.specs.declared.superblock.SuperFields.{SuperFields}
 use Rattle.df_quorum.specs.declared.slot.Slot.{Slot}
 use Rattle.df_quorum.specs.Quorum.{AreMembers}
 use Rattle.df_theory.specs.Units.{Units}
 use Rattle.df_theory.specs.Found.{IsFound}
-use Rattle.df_theory.specs.Rests.{IsQuiet, RestsOn}
+use Rattle.df_theory.specs.Rests.{IsDry, RestsOn}
 use Rattle.df_theory.specs.View.{View, head}
+use Rattle.df_theory.specs.Next.{booted}
+use Rattle.df_theory.specs.Upgrades.{raise_steps}
 use Rattle.df_theory.specs.Device.{NoChanceOf, units_log}
 use Rattle.df_theory.specs.MendLaws.{MayMend, mend_steps}
 use Rattle.df_theory.specs.Runs.{Step}
 use Rattle.df_theory.specs.TidyLaws.{IsTidy}
 use Rattle.df_units.specs.Bytes.{unit_at}
-use Rattle.df_units.specs.Puts.{put_headers}
+use Rattle.df_units.specs.Meaning.{content_of}
+use Rattle.df_units.specs.Puts.{put_copies, put_headers}
 use Rattle.df_headers.specs.Ring.{in_sector, sector_writes}
 use Rattle.df_journal.specs.Scan.{Scan}
 use Rattle.df_journal.specs.Shows.{TellsRings}
 use Rattle.df_journal.specs.Append.{ShowsRing}
-use Rattle.df_superblock.specs.Events.{repair_events}
+use Rattle.df_model.specs.Work.{Work, opened, raised}
+use Rattle.df_model.specs.declared.errors.MendError.{MendError}
+use Rattle.df_model.specs.declared.errors.MendError.TheVariants.{Damaged, DiskFault}
+use Rattle.df_superblock.specs.Calls.{IsJudged}
+use Rattle.df_superblock.specs.Events.{repair_events, update_events}
+use Rattle.df_superblock.specs.declared.updates.UpdateError.TheVariants as superblock
 use Rattle.df_superblock.specs.Steps.{repaired}
-use Rattle.df_damage.specs.Below.{DataFile, State, shape}
-use Rattle.df_damage.specs.Opening.{HasSuper}
+use Rattle.df_damage.specs.Below.{DataFile, State, boot_fields, shape}
+use Rattle.df_damage.specs.Opening.{HasSuperAs}
 use Rattle.df_damage.specs.Plan.{headers_in, if_wanted}
 use Rattle.df_damage.specs.Starting.{start_of}
 use Rattle.df_damage.specs.Surveying.{ArePlannedFrom}
@@ -88,9 +97,9 @@ sector_puts table sectors = map (sector_put table) sectors
 abbrev pub mending_steps : Layout → List Header → List Mend → SuperFields → List Bool → List Step
 mending_steps layout table mends f members = mend_steps (sector_puts table (sectors_of layout mends)) (repaired f 0 members)
 
--- the file is of version 1, the log rests on a view, and with this table and this list it may be mended
+-- the file is of version 2, the log rests on a view, and with this table and this list it may be mended
 pub record MayMendOn (file : DataFile) (table : List Header) (mends : List Mend) (f : SuperFields) (members : List Bool) (t : Told) : Type 0 where
-  pub version : file.version ≡ 1
+  pub version : file.version ≡ 2
   pub grade : Grade
   pub view : View
   pub is_log : IsLog t.log
@@ -109,7 +118,7 @@ pub record IsMended (g : Grade) (file : DataFile) (view : View) (table : List He
 pub record IsPlanned (file : DataFile) (table : List Header) (mends : List Mend) (f : SuperFields) (members : List Bool) (t : Told) : Type 0 where
   pub scan : Scan
   pub copies : List Slot
-  pub super : HasSuper t.shown f
+  pub super : HasSuperAs 2 t.shown f
   pub members_are : AreMembers (content_at t.shown) super.content members
   pub start : scan.start ≡ start_of f
   pub scanned : TellsRings file.layout (unit_at file.layout file.cluster t.shown) scan
@@ -117,13 +126,13 @@ pub record IsPlanned (file : DataFile) (table : List Header) (mends : List Mend)
   pub top_is : IsImage t.shown → (v : View) → IsFound (shape file) (unit_at file.layout file.cluster t.shown) v → head v ≡ top
   pub planned : ArePlannedFrom file.layout file.cluster scan top copies members table mends
 
--- an honest disk with a file of version 1, whose log rests on a view and is quiet, where no unit came about by chance: what holds of it behind the barrier of an open
+-- an honest disk with a file of version 2, whose log rests on a view and has nothing loose, where no unit came about by chance: what holds of it behind the barrier of an open
 pub record RestsOnDisk (g : Grade) (file : DataFile) (view : View) (t : Told) : Type 0 where
-  pub version : file.version ≡ 1
+  pub version : file.version ≡ 2
   pub is_log : IsLog t.log
   pub honest : IsHonest t
   pub rests : RestsOn (shape file) (units_log (format file) t.log) view
-  pub quiet : IsQuiet (units_log (format file) t.log)
+  pub dry : IsDry (units_log (format file) t.log)
   pub no_chance : NoChanceOf (format file) t.log (now t.log)
   pub standing : StandingFor g (units_log (format file) t.log) view
 
@@ -134,9 +143,49 @@ PlannedMayMend =
     → length members ≡ 4 → IsPlanned file table mends f members t → RestsOnDisk g file view t
     → MayMend (shape file) (units_log (format file) t.log) view (headers_in table) (sector_puts table (sectors_of file.layout mends)) (repaired f 0 members)
 
--- the state once it is mended: calls may go on
-abbrev pub live_state : State → State
-live_state s = record s { live = true }
+-- ---- the boot update behind it
+
+-- the device calls of an open behind its survey: the mending, and the four copies with the next boot, a sync after each
+abbrev pub raising_events : Layout → List Header → List Mend → SuperFields → List Bool → SuperFields → List Event
+raising_events layout table mends f members d = mending_events layout table mends f members ++ update_events d
+
+-- in the words of the theory
+abbrev pub raising_steps : Layout → List Header → List Mend → SuperFields → List Bool → SuperFields → List Step
+raising_steps layout table mends f members d = raise_steps (sector_puts table (sectors_of layout mends)) (repaired f 0 members) (put_copies d)
+
+-- the state behind it: the superblock records the state as it was found, units are made in the next boot, and calls may go on
+abbrev pub raised_state : State → State
+raised_state s = record s { fields = boot_fields s; boot = s.fields.boot + 1; live = true }
+
+-- the state that the machine begins with over what was shown, where this view is found
+abbrev pub first_state : DataFile → Told → View → Work
+first_state file t view = opened (shape file) (unit_at file.layout file.cluster t.shown) view
+
+-- the state that calls begin with: the one behind the boot update that writes this superblock
+abbrev pub begun_state : DataFile → Told → View → SuperFields → Work
+begun_state file t view d = raised (first_state file t view) (content_of (content_with d))
+
+-- a mending adds all its events and those of the update, or a part of them, from the first on, where the disk failed
+abbrev pub AddsRaising : {T : Type 0} → List Event → Option Told → Option Told → Result T MendError → Type 0
+AddsRaising events old new (Ok x) = new ≡ after_all events old
+AddsRaising events old new (Err (Damaged place class)) = new ≡ after_all events old
+AddsRaising events old new (Err DiskFault) = AddsPart events old new
+
+-- what the update read back: each copy as it was written, but for one at most, where calls may go on; and else which is the first that wasn't
+abbrev pub IsReadBack : {T : Type 0} → SuperFields → Option Told → Result T MendError → Type 0
+IsReadBack {T = T} d told (Ok x) = IsJudged {T = Unit {0}} told d (Ok tt)
+IsReadBack {T = T} d told (Err (Damaged place class)) = IsJudged {T = Unit {0}} told d (Err (superblock.Damaged place class))
+IsReadBack {T = T} d told (Err DiskFault) = Unit {0}
+
+-- a disk that tells what it shows shows each copy as it was written: the update finds none damaged
+abbrev pub IsUnharmed : {T : Type 0} → Option Told → Result T MendError → Type 0
+IsUnharmed (Some t) (Err (Damaged place class)) = ⊥
+IsUnharmed told result = Unit {0}
+
+-- at this moment each image that a stop may leave, none of whose units came about by chance, has the view, by the superblock of before or by this one: the bare view is one. Nothing is asked of what the copies showed before
+pub record StaysFound (file : DataFile) (view : View) (d : SuperFields) (log : Log) : Type 0 where
+  pub left : (image : Image) → IsLeft log image → NoChanceOf (format file) log image
+      → IsFound (shape file) (unit_at file.layout file.cluster image) view ⊎ IsFound (shape file) (unit_at file.layout file.cluster image) (booted view (content_of (content_with d)))
 
 -- behind the barrier its log rests on the view
 abbrev pub BarrierRests : Type 0

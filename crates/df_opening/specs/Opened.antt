@@ -1,5 +1,5 @@
 -- What an open leaves of a file, and what it leaves where the disk failed in it.
-use Rattle.std.specs.Prelude.{◌≡◌, ◌⊎◌, List, Option, Some}
+use Rattle.std.specs.Prelude.{◌≡◌, ◌⊎◌, ◌<◌, ℕ, List, Option, Some, Result, Ok, Err}
 use Rattle.df_base.specs.Image.{Image, IsImage}
 use Rattle.df_base.specs.Log.{Event, Sync}
 use Rattle.df_base.specs.Moments.{EachMoment}
@@ -7,35 +7,51 @@ use Rattle.df_disk.specs.Told.{Told, did}
 use Rattle.df_disk.specs.Adds.{AddsPart, after_all}
 use Rattle.df_layout.specs.declared.layout.Layout.{Layout}
 use Rattle.df_quorum.specs.declared.choice.Chosen.{Chosen}
-use Rattle.df_damage.specs.Anew.{told_after}
+use Rattle.df_format.specs.Copies.{content_with}
+use Rattle.df_damage.specs.Anew.{begun, told_after}
+use Rattle.df_damage.specs.Answers.{TellsHurt}
+use Rattle.df_theory.specs.Found.{IsFound}
+use Rattle.df_theory.specs.Units.{CopyPlace, CopyUnit}
+use Rattle.df_theory.specs.Next.{IsSameBare}
 use Rattle.df_theory.specs.View.{View}
 use Rattle.df_units.specs.Bytes.{unit_at}
 use Rattle.df_units.specs.Within.{AreWithin}
-use Rattle.df_model.specs.Work.{Work, kept, opened as first_work}
-use Rattle.df_damage.specs.Below.{DataFile, State, shape}
+use Rattle.df_units.specs.Meaning.{content_of}
+use Rattle.df_model.specs.Work.{kept}
+use Rattle.df_model.specs.declared.errors.MendError.{MendError}
+use Rattle.df_model.specs.declared.errors.MendError.TheVariants as mend
+use Rattle.df_model.specs.declared.errors.OpenError.{OpenError}
+use Rattle.df_model.specs.declared.errors.OpenError.TheVariants as opens
+use Rattle.df_damage.specs.Below.{DataFile, State, boot_fields, shape}
 use Rattle.df_damage.specs.Found.{IsChoiceOf}
-use Rattle.df_damage.specs.Surveys.{IsOpened}
+use Rattle.df_damage.specs.Plan.{AreDistinct}
+use Rattle.df_damage.specs.Surveys.{IsOpenedAs}
 use Rattle.df_opening.specs.Following.{MayOpen}
 use Rattle.df_opening.specs.Sparing.{AreSettled, SparesReads, image_after}
-use Rattle.df_opening.specs.Mending.{IsMended, mending_events}
-use Rattle.df_opening.specs.Keeping.{Grade, IsGoodFor, IsKept, StandsFor, format}
-use Rattle.df_opening.specs.Surveying.{mends_of}
+use Rattle.df_opening.specs.Mending.{IsMended, StaysFound, raising_events}
+pub use Rattle.df_opening.specs.Mending.{begun_state, first_state, raised_state}
+use Rattle.df_opening.specs.Keeping.{Firm, Grade, IsGoodFor, IsKept, StandsFor, format}
+use Rattle.df_opening.specs.Surveying.{TellsSurvey, mends_of}
 
 -- what the disk tells changed by events alone
 abbrev pub ToldBy : (old new : Option Told) → Type 0
 ToldBy old new = (events : List Event) × (new ≡ after_all events old)
 
--- the state that the machine begins with over what was shown, where this view is found
-abbrev pub first_state : DataFile → Told → View → Work
-first_state file t view = first_work (shape file) (unit_at file.layout file.cluster t.shown) view
-
--- What an open leaves of a base, behind the barrier and the mending: each moment since has the view that was found or the one that the machine begins with, and at the end the
--- file is tidy with that and kept for the state that the machine begins with, and no block of its checkpoint is loose.
+-- What an open leaves of a base, behind the barrier, the mending and the boot update: each moment since has the view that was found or the raised one, whose bare view is the same, and at the end the
+-- file is tidy with that and kept for the state that calls begin with, and no block of its checkpoint is loose.
 pub record OpensOver (g : Grade) (view : View) (s : State) (base n : Told) : Type 0 where
-  pub moments : EachMoment (did Sync base).log n.log (IsGoodFor g (format s.file) (shape s.file) view (kept (first_state s.file base view)))
-  pub mended : IsMended g s.file (kept (first_state s.file base view)) s.headers n
-  pub kept_for : IsKept g s (first_state s.file base view) n.log
-  pub settled : AreSettled s.file n.log (first_state s.file base view)
+  pub moments : EachMoment (did Sync base).log n.log (IsGoodFor g (format s.file) (shape s.file) view (kept (begun_state s.file base view s.fields)))
+  pub bare : IsSameBare view (kept (begun_state s.file base view s.fields))
+  pub mended : IsMended g s.file (kept (begun_state s.file base view s.fields)) s.headers n
+  pub kept_for : IsKept g s (begun_state s.file base view s.fields) n.log
+  pub settled : AreSettled s.file n.log (begun_state s.file base view s.fields)
+
+-- What it leaves of a log that is begun anew at the barrier, whatever the copies showed: at each moment each image has the bare view that was found; and behind it calls go on
+-- from there, where a log is begun anew once more.
+pub record OpensAnew (view : View) (s : State) (base n : Told) : Type 0 where
+  pub moments : EachMoment (begun base).log n.log (StaysFound s.file view s.fields)
+  pub bare : IsSameBare view (kept (begun_state s.file base view s.fields))
+  pub kept_for : IsKept Firm s (begun_state s.file base view s.fields) (begun n).log
 
 -- A mending of a file, or as much of it as was done: what is told changed by these events alone, whose writes lie within the zones of the file, and whatever is shown they
 -- leave each place that a call reads as it was.
@@ -45,35 +61,59 @@ pub record Mends (file : DataFile) (old new : Option Told) : Type 0 where
   pub within : AreWithin file.layout events
   pub spares : (image : Image) → IsImage image → SparesReads file image (image_after events image)
 
--- These are the device calls of the mending of a file, each once and in this order: of what is to be mended of the image that was shown the header sectors, from the table in memory,
--- and a sync, where there is one; then the copies that aren't members of the choice, each with a sync.
-pub record AreMending (t : Told) (s : State) (events : List Event) : Type 0 where
+-- These are the device calls of an open behind its survey, each once and in this order: of what is to be mended of the image that was shown the header sectors, from the table
+-- in memory, and a sync, where there is one; then the copies that aren't members of the choice, each with a sync; then the four copies with the next boot, each with a sync.
+pub record AreRaising (t : Told) (found : State) (events : List Event) : Type 0 where
   pub chosen : Chosen
   pub choice : IsChoiceOf t.shown chosen
-  pub are : events ≡ mending_events s.file.layout s.headers (mends_of s.file.layout t.shown s.fields s.head chosen.members) s.fields chosen.members
+  pub are : events ≡ raising_events found.file.layout found.headers (mends_of found.file.layout t.shown found.fields found.head chosen.members) found.fields chosen.members (boot_fields found)
 
--- the mending was begun: its first device calls were made, and no others
-pub record BeginsMending (t : Told) (s : State) (later : Option Told) : Type 0 where
+-- they were begun: the first of them were made, and no others
+pub record BeginsRaising (t : Told) (found : State) (later : Option Told) : Type 0 where
   pub events : List Event
-  pub own : AreMending t s events
+  pub own : AreRaising t found events
   pub part : AddsPart events (Some (did Sync t)) later
 
--- The file was found and mended: so it is by each log that shows what the disk showed, and by which the file may be opened, the told one or one that is begun anew there.
+-- The file was found in what was shown, mended and raised, and then each copy shows the superblock that was written: so it is by each log that shows what the disk showed, and by which the file
+-- may be opened, the told one or one that is begun anew there; and whatever its copies showed, by the log that is begun anew there.
 pub record MendsAll (t : Told) (s : State) (later : Option Told) : Type 0 where
+  pub found : State
+  pub opened : IsImage t.shown → IsOpenedAs 2 found.file.layout t.shown found
+  pub raised : s ≡ raised_state found
   pub mending : Mends s.file (Some (did Sync t)) later
-  pub own : IsImage t.shown → AreMending t s mending.events
+  pub own : IsImage t.shown → AreRaising t found mending.events
+  pub copies : IsImage t.shown → (n : ℕ) → n < 4 → unit_at s.file.layout s.file.cluster (image_after mending.events t.shown) (CopyPlace n) ≡ Some (CopyUnit (content_of (content_with s.fields)))
   pub over : (g : Grade) (view : View) (base : Told) → base.shown ≡ t.shown → MayOpen s.file view base → StandsFor g (unit_at s.file.layout s.file.cluster t.shown) view
       → OpensOver g view s base (told_after mending.events (did Sync base))
+  pub anew : (view : View) → IsImage t.shown → IsFound (shape s.file) (unit_at s.file.layout s.file.cluster t.shown) view → AreDistinct (unit_at s.file.layout s.file.cluster t.shown) → OpensAnew view s t (told_after mending.events (begun t))
 
--- the file was found, and the disk failed within its mending: at each moment whatever a stop leaves has the view that was found or the one that the machine begins with, by each of these logs
+-- the file was found, and the disk failed within its mending or its boot update: at each moment whatever a stop leaves has the view that was found or the raised one, by each of these logs
 pub record MendsPartly (layout : Layout) (t : Told) (later : Option Told) : Type 0 where
-  pub state : State
-  pub opened : IsOpened layout t.shown state
-  pub mending : Mends state.file (Some (did Sync t)) later
-  pub own : IsImage t.shown → BeginsMending t state later
-  pub moments : (g : Grade) (view : View) (base : Told) → base.shown ≡ t.shown → MayOpen state.file view base → StandsFor g (unit_at state.file.layout state.file.cluster t.shown) view
-      → EachMoment (did Sync base).log (told_after mending.events (did Sync base)).log (IsGoodFor g (format state.file) (shape state.file) view (kept (first_state state.file base view)))
+  pub found : State
+  pub opened : IsOpenedAs 2 layout t.shown found
+  pub mending : Mends found.file (Some (did Sync t)) later
+  pub own : IsImage t.shown → BeginsRaising t found later
+  pub moments : (g : Grade) (view : View) (base : Told) → base.shown ≡ t.shown → MayOpen found.file view base → StandsFor g (unit_at found.file.layout found.file.cluster t.shown) view
+      → EachMoment (did Sync base).log (told_after mending.events (did Sync base)).log (IsGoodFor g (format found.file) (shape found.file) view (kept (begun_state found.file base view (boot_fields found))))
+      × IsSameBare view (kept (begun_state found.file base view (boot_fields found)))
+  pub anew : (view : View) → IsImage t.shown → IsFound (shape found.file) (unit_at found.file.layout found.file.cluster t.shown) view → AreDistinct (unit_at found.file.layout found.file.cluster t.shown)
+      → EachMoment (begun t).log (told_after mending.events (begun t)).log (StaysFound found.file view (boot_fields found))
 
 -- it failed in the barrier, which added a sync or nothing, or in a read behind it; or within the mending
 abbrev pub StopsOpening : Layout → Told → Option Told → Type 0
 StopsOpening layout t later = (later ≡ Some t) ⊎ (later ≡ Some (did Sync t)) ⊎ MendsPartly layout t later
+
+-- what an open answers where the mending or the boot update failed
+abbrev pub refusal_of : MendError → OpenError
+refusal_of (mend.Damaged place class) = opens.Damaged place class
+refusal_of mend.DiskFault = opens.DiskFault
+
+-- the answer is that of what the disk shows, where it tells that: the refusal that a survey gives, or the state behind the boot update of the one that it finds
+abbrev pub TellsOpened : Layout → Option Told → Result State OpenError → Type 0
+TellsOpened layout told (Ok s) = (found : State) × TellsSurvey layout told (Ok found) × (s ≡ raised_state found)
+TellsOpened layout told (Err e) = TellsSurvey layout told (Err e)
+
+-- and of a disk that may be hurt, so: the state behind the boot update of one that the file had, or a refusal because of what is hurt
+abbrev pub TellsHurtOpened : Layout → Option Told → Result State OpenError → Type 0
+TellsHurtOpened layout told (Ok s) = (found : State) × (s ≡ raised_state found) × TellsHurt layout told (Ok found)
+TellsHurtOpened layout told (Err e) = TellsHurt layout told (Err e)

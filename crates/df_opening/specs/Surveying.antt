@@ -32,4 +32,4 @@ state_of (Err refused) = Err refused.1
 
 -- the answer is that of what the disk shows, where it tells that and its sectors are whole
 abbrev pub TellsSurvey : Layout → Option Told → Result State OpenError → Type 0
-TellsSurvey layout told result = TellsSurveyAs 1 layout told result
+TellsSurvey layout told result = TellsSurveyAs 2 layout told result

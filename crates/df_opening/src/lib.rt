@@ -16,7 +16,7 @@ pub use df_damage::{
     one_answer, probe, read_superblock, state_is_opened, stored_is_kept, super_is_written,
     survey_superblock,
 };
-pub use df_model::{FormatError, OpenError};
+pub use df_model::{FormatError, MendError, OpenError};
 pub use df_quorum::Chosen;
 pub use following::what_is_left_may_be_opened;
 pub use making::format;

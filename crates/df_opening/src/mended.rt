@@ -1,18 +1,24 @@
-// What the rooms of a surveyed file list is mended; then calls may go on.
-ghost use Rattle.std.specs.Prelude.{◌≡◌, length, IfErr, IfOk, OnErr, OnOk};
-ghost use Rattle.df_opening.specs.Below.{HasCause, EachMoment, Told, Adds, told_after, AreSteps, View, shape};
+// What the rooms of a surveyed file list is mended, and its boot is raised; then calls may go on.
+ghost use Rattle.std.specs.Prelude.{◌≡◌, ◌<◌, ◌^◌, length, IfErr, IfOk, None, OnErr, OnOk};
+ghost use Rattle.df_format.specs.SuperRules.{fault_of};
+ghost use Rattle.df_theory.specs.Found.{IsFound};
+ghost use Rattle.df_units.specs.Bytes.{unit_at};
+ghost use Rattle.df_damage.specs.Plan.{AreDistinct};
+ghost use Rattle.df_opening.specs.Below.{HasCause, IsBlamed, IsImage, Told, Adds, AreSteps, Represents, View, begun, is_mend_fault, shape, update_events, without_rooms};
 ghost use Rattle.df_opening.specs.Held.{AreAsBefore, AreRoomsOf};
-ghost use Rattle.df_opening.specs.Keeping.{Grade, IsGoodFor, format};
-ghost use Rattle.df_opening.specs.Mending.{IsMended, IsPlanned, RestsOnDisk, live_state, mending_events, mending_steps};
-ghost use Rattle.df_opening.specs.Survey.{opened_of};
-ghost use Rattle.df_damage.specs.Below.{AreFound, AreWhole, state_in};
+ghost use Rattle.df_opening.specs.Keeping.{Grade, format};
+ghost use Rattle.df_opening.specs.Mending.{AddsRaising, IsReadBack, IsUnharmed, RestsOnDisk, first_state, mending_events, mending_steps, raised_state};
+ghost use Rattle.df_opening.specs.Raising.{IsPlannedOf, RaisesAnew, RaisesOver, opening_events, opening_steps};
+ghost use Rattle.df_opening.specs.Survey.{opened_of, survey_in};
+ghost use Rattle.df_damage.specs.Below.{AreFound, AreWhole, boot_fields, state_in};
 
 use crate::mending::{are_four, write_mends};
-use crate::{DataFile, LogRooms, Parts, Rooms, SurveyedFile};
+use crate::{DataFile, LogRooms, MendError, Parts, Rooms, SurveyedFile};
 use df_base::Failed;
 use df_disk::Disk;
-use df_format::Super;
+use df_format::{Super, SuperFields, test_fields};
 use df_quorum::Chosen;
+use df_superblock::{UpdateError, update};
 
 // Writes what the rooms list, from the table that they have.
 fn mend_rooms<D: Disk>(
@@ -49,8 +55,7 @@ fn mend_rooms<D: Disk>(
 // Mends the file of these parts, of whose superblock these copies are members.
 fn mend_parts<D: Disk>(disk: &mut D, parts: &mut Parts, members: [bool; 4]) -> Result<(), Failed>
     requires whole { AreWhole parts.old }
-    ensures state { OnOk result (state_in parts.new ≡ live_state (state_in parts.old)) }
-    ensures kept { OnErr result (state_in parts.new ≡ state_in parts.old) }
+    ensures state { state_in parts.new ≡ state_in parts.old }
     ensures whole { AreWhole parts.new }
     ensures events { Adds (mending_events parts.old.file.layout parts.old.rooms.headers parts.old.rooms.mends.items parts.old.content members) (D.told disk.old) (D.told disk.new) result }
     ensures steps { AreSteps (format parts.old.file) (mending_events parts.old.file.layout parts.old.rooms.headers parts.old.rooms.mends.items parts.old.content members)
@@ -58,34 +63,95 @@ fn mend_parts<D: Disk>(disk: &mut D, parts: &mut Parts, members: [bool; 4]) -> R
     ensures size { length members ≡ 4 }
     ensures cause { HasCause (D.faults disk.old) (D.faults disk.new) result }
 {
-    mend_rooms(disk, &parts.file, &parts.content, members, &mut parts.rooms)?;
+    mend_rooms(disk, &parts.file, &parts.content, members, &mut parts.rooms)
+}
+
+// What the superblock says that an open writes: the state of these parts as it is, with the next boot. It obeys the rules.
+fn next_fields(parts: &Parts) -> SuperFields
+    requires whole { AreWhole parts.now }
+    requires unspent { parts.now.content.boot < 2 ^ 62 }
+    ensures fields { result ≡ boot_fields (state_in parts.now) }
+    ensures rules { fault_of result ≡ None }
+{
+    // The sessions are a table of the file.
+    let _count = parts.sessions.len();
+    let fields = parts.content.fields();
+    parts.recorded(SuperFields {
+        boot: fields.boot + 1,
+        ..*fields
+    })
+}
+
+// That superblock.
+fn next_superblock(parts: &Parts) -> Super
+    requires whole { AreWhole parts.now }
+    requires unspent { parts.now.content.boot < 2 ^ 62 }
+    ensures { result ≡ boot_fields (state_in parts.now) }
+{
+    match test_fields(&next_fields(parts)) {
+        Ok(content) => content,
+        Err(_) => unreachable!(),
+    }
+}
+
+// Raises the boot of the file of these parts by this superblock; then units are made in it, and calls may go on.
+fn raise_parts<D: Disk>(disk: &mut D, parts: &mut Parts, content: Super) -> Result<(), MendError>
+    requires whole { AreWhole parts.old }
+    requires unspent { parts.old.content.boot < 2 ^ 62 }
+    requires content { content ≡ boot_fields (state_in parts.old) }
+    ensures state { OnOk result (state_in parts.new ≡ raised_state (state_in parts.old)) }
+    ensures kept { OnErr result (state_in parts.new ≡ state_in parts.old) }
+    ensures whole { AreWhole parts.new }
+    ensures events { AddsRaising (update_events content) (D.told disk.old) (D.told disk.new) result }
+    ensures read_back { IsReadBack content (D.told disk.new) result }
+    ensures unharmed { IsUnharmed (D.told disk.new) result }
+    ensures cause { IsBlamed is_mend_fault (D.faults disk.old) (D.faults disk.new) result }
+{
+    match update(disk, &mut parts.rooms.superblock, &content) {
+        Ok(()) => {}
+        Err(UpdateError::Damaged { place, class }) => {
+            return Err(MendError::Damaged { place, class });
+        }
+        Err(UpdateError::DiskFault) => return Err(MendError::DiskFault),
+    }
+    let boot = content.fields().boot;
+    parts.grid.set_boot(boot);
+    parts.content = content;
     parts.live = true;
     Ok(())
 }
 
-/// Mends what the rooms of a surveyed file list, and hands out its parts, on which calls may be made: header sectors first, each
-/// needed one once, then one sync, where there was such a sector, then the copies, each durable before the next one. A stop at
-/// any moment leaves the state that was found, by each log on which the plan rests, and so does a fault; the rooms come back
-/// with it.
-pub fn mend_file<D: Disk>(disk: &mut D, surveyed: SurveyedFile) -> Result<Parts, (Rooms, Failed)>
+/// Mends what the rooms of a surveyed file list, raises its boot, and hands out its parts, on which calls may be made: header
+/// sectors first, each needed one once, then one sync, where there was such a sector, then the copies that aren't members of the
+/// choice, each durable before the next one; and behind that the copies 0, 1, 2 and 3 of a superblock with the next boot, which
+/// records the state as it was found. A stop at any moment leaves that state with the boot of before or with the next one, and so
+/// does a fault, by each log on which the plan rests; by one that is begun anew at what is shown, whatever the copies showed. The
+/// rooms come back with an error.
+pub fn mend_file<D: Disk>(disk: &mut D, surveyed: SurveyedFile) -> Result<Parts, (Rooms, MendError)>
     requires found { AreFound surveyed.parts }
     ensures whole { IfOk result (λ parts. AreWhole parts) }
-    ensures state { IfOk (opened_of result) (λ state. state ≡ live_state (state_in surveyed.parts)) }
+    ensures state { IfOk (opened_of result) (λ state. state ≡ raised_state (state_in surveyed.parts)) }
     ensures rooms { IfErr result (λ refused. refused.0.layout ≡ surveyed.parts.file.layout) }
-    ensures events { Adds (mending_events surveyed.parts.file.layout surveyed.parts.rooms.headers surveyed.parts.rooms.mends.items surveyed.parts.content surveyed.chosen.members) (D.told disk.old) (D.told disk.new) result }
-    ensures steps { AreSteps (format surveyed.parts.file) (mending_events surveyed.parts.file.layout surveyed.parts.rooms.headers surveyed.parts.rooms.mends.items surveyed.parts.content surveyed.chosen.members)
-        (mending_steps surveyed.parts.file.layout surveyed.parts.rooms.headers surveyed.parts.rooms.mends.items surveyed.parts.content surveyed.chosen.members) }
-    ensures moments { (base : Told) (g : Grade) (view : View)
-        → IsPlanned surveyed.parts.file surveyed.parts.rooms.headers surveyed.parts.rooms.mends.items surveyed.parts.content surveyed.chosen.members base → RestsOnDisk g surveyed.parts.file view base
-        → EachMoment base.log (told_after (mending_events surveyed.parts.file.layout surveyed.parts.rooms.headers surveyed.parts.rooms.mends.items surveyed.parts.content surveyed.chosen.members) base).log (IsGoodFor g (format surveyed.parts.file) (shape surveyed.parts.file) view view) }
-    ensures mended { (base : Told) (g : Grade) (view : View)
-        → IsPlanned surveyed.parts.file surveyed.parts.rooms.headers surveyed.parts.rooms.mends.items surveyed.parts.content surveyed.chosen.members base → RestsOnDisk g surveyed.parts.file view base
-        → IsMended g surveyed.parts.file view surveyed.parts.rooms.headers (told_after (mending_events surveyed.parts.file.layout surveyed.parts.rooms.headers surveyed.parts.rooms.mends.items surveyed.parts.content surveyed.chosen.members) base) }
-    ensures cause { HasCause (D.faults disk.old) (D.faults disk.new) result }
+    ensures events { AddsRaising (opening_events (survey_in surveyed)) (D.told disk.old) (D.told disk.new) (without_rooms result) }
+    ensures steps { AreSteps (format surveyed.parts.file) (opening_events (survey_in surveyed)) (opening_steps (survey_in surveyed)) }
+    ensures read_back { IsReadBack (boot_fields (state_in surveyed.parts)) (D.told disk.new) (without_rooms result) }
+    ensures unharmed { IsUnharmed (D.told disk.new) (without_rooms result) }
+    ensures over { (base : Told) (g : Grade) (view : View) → IsPlannedOf (survey_in surveyed) base → RestsOnDisk g surveyed.parts.file view base
+        → Represents (state_in surveyed.parts) (first_state surveyed.parts.file base view) → RaisesOver g view (survey_in surveyed) base }
+    ensures anew { (base : Told) (view : View) → IsPlannedOf (survey_in surveyed) (begun base) → IsImage base.shown → IsFound (shape surveyed.parts.file) (unit_at surveyed.parts.file.layout surveyed.parts.file.cluster base.shown) view → AreDistinct (unit_at surveyed.parts.file.layout surveyed.parts.file.cluster base.shown)
+        → Represents (state_in surveyed.parts) (first_state surveyed.parts.file base view) → RaisesAnew view (survey_in surveyed) (begun base) }
+    ensures cause { IsBlamed is_mend_fault (D.faults disk.old) (D.faults disk.new) (without_rooms result) }
 {
     let SurveyedFile { mut parts, chosen } = surveyed;
+    let content = next_superblock(&parts);
+    // Its fields obey their rules.
+    let _fields = content.fields();
     match mend_parts(disk, &mut parts, chosen.members) {
+        Ok(()) => {}
+        Err(_) => return Err((parts.into_rooms(), MendError::DiskFault)),
+    }
+    match raise_parts(disk, &mut parts, content) {
         Ok(()) => Ok(parts),
-        Err(failed) => Err((parts.into_rooms(), failed)),
+        Err(error) => Err((parts.into_rooms(), error)),
     }
 }

@@ -15,7 +15,7 @@ use df_layout::ROOT;
 use df_quorum::Chosen;
 
 // The version that is opened.
-const VERSION: u32 = 1;
+const VERSION: u32 = 2;
 
 /// A file that was surveyed: its parts, on which no call may be made yet, and the choice of the superblock. What is to be mended
 /// is listed in its rooms.
@@ -32,10 +32,10 @@ fn root_fits(root: &ArrayVec<u8, ROOT>)
     let _bytes = root.as_slice();
 }
 
-// The parts of a file of version 1 whose state was found, with the tour at its start.
+// The parts of a file of version 2 whose state was found, with the tour at its start.
 fn parts_of(surveyed: Surveyed) -> SurveyedFile
     requires found { IsWellFound surveyed }
-    requires version { surveyed.scanned.file.version ≡ 1 }
+    requires version { surveyed.scanned.file.version ≡ 2 }
     requires planned { IsPlannedFor surveyed }
     ensures found { AreFound result.parts }
     ensures seen { survey_in result ≡ survey_found surveyed }
@@ -80,7 +80,7 @@ fn parts_of(surveyed: Surveyed) -> SurveyedFile
     SurveyedFile { parts, chosen }
 }
 
-/// What a file of version 1 shows: its state, and what is to be mended before calls may work on it; or the first reason of the order
+/// What a file of version 2 shows: its state, and what is to be mended before calls may work on it; or the first reason of the order
 /// of open why it isn't opened, and the rooms. It syncs once, then reads each copy of the superblock once, each block of the
 /// trailer that it names twice, and each sector of the header ring, each slot of the ring of prepares and each reply slot
 /// once, and writes nothing. Where sectors of the file were damaged, lost or swapped before, it finds a state that the file had,

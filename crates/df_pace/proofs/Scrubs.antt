@@ -5,7 +5,7 @@ use Rattle.df_theory.specs.Shape.{Shape}
 use Rattle.df_model.specs.Work.{Running, Work, first_tour}
 use Rattle.df_model.specs.Memory.{memory_of}
 use Rattle.df_model.specs.Refusals.{append_refusals, begin_refusals, block_refusals, first_refusal, is_running, release_refusals, reply_refusals, steps_left}
-use Rattle.df_model.specs.Making.{needed_of, next_address, place_of_reply, prepare_of, reply_of}
+use Rattle.df_model.specs.Making.{named_sums, needed_of, next_address, place_of_reply, prepare_of, reply_of}
 use Rattle.df_model.specs.After.{after_check, after_running, after_step_of, begun, outcome, to_check, with_live, with_prepare, with_reply, with_running}
 use Rattle.df_model.specs.Commands.{Advance, Append, Begin, Command, ReadBlock, ReadPrepare, ReadReply, Recent, Release, Reply, Scrub, WriteBlock, supplied_sum, supplied_verdict}
 use Rattle.df_model.specs.Supply.{Codec, Shown, next, shown_after, supplied}
@@ -35,6 +35,7 @@ module _ (sh : Shape) (codec : Codec) where
   spell = codec.spell
 
   running_bare : (w : Work) (sum : ℕ) (r : Running) (l : List ℕ) → bare (after_running sh spell w sum r l).0 ≡ (after_running sh spell (bare w) sum r l).0
+  unfolding named_sums
   running_bare w sum r [] = refl
   running_bare w sum r (a ∷ more) = refl
 
@@ -44,6 +45,7 @@ module _ (sh : Shape) (codec : Codec) where
 
   -- what is supplied to another command than a check is supplied to the bare state, too
   work_bare : (shown : Shown) (w : Work) (c : Command) → AsksOfOthers c → bare (next sh codec shown w c).0 ≡ (next sh codec shown (bare w) c).0
+  unfolding named_sums
   work_bare shown w (Append client request body) other =
       let m = memory_of sh spell w in
       let p = prepare_of m (codec.prepare (prepare_of m 0 client request body)) client request body in
@@ -71,6 +73,7 @@ module _ (sh : Shape) (codec : Codec) where
   both_bare : (shown : Shown) (w : Work) (c : Command) → AsksOfOthers c
       → (answer_from spell (memory_of sh spell w) (supplied codec shown (memory_of sh spell w) c) c ≡ answer_from spell (memory_of sh spell (bare w)) (supplied codec shown (memory_of sh spell (bare w)) c) c)
       × (shown_after codec shown (memory_of sh spell w) c ≡ shown_after codec shown (memory_of sh spell (bare w)) c)
+  unfolding named_sums
   both_bare shown w (Append client request body) other = (refl, refl)
   both_bare shown w (Reply op body) other = (refl, refl)
   both_bare shown w (WriteBlock kind body) other = (refl, refl)

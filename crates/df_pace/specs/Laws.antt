@@ -3,7 +3,6 @@ use Rattle.std.specs.Prelude.{◌≡◌, ℕ, Bool, true, false, List, [], ◌�
 use Rattle.df_theory.specs.Shape.{Shape}
 use Rattle.df_theory.specs.View.{head, sessions}
 use Rattle.df_model.specs.Work.{Work}
-use Rattle.df_model.specs.Views.{KeepsView}
 use Rattle.df_model.specs.Commands.{Advance, Answer, Append, Begin, Command, ReadBlock, ReadPrepare, ReadReply, Recent, Release, Reply, Scrub, ToAppend, ToReadReply, WriteBlock}
 use Rattle.df_model.specs.Supply.{Codec, Shown, last_shown, last_work}
 use Rattle.df_model.specs.declared.errors.AppendError.{AppendError}
@@ -56,7 +55,7 @@ AsksOfOthers Recent = ⊥
 pub record AreUnscrubbed (sh : Shape) (codec : Codec) (pace other : Pace) (x : Stand) (lines : List Command) : Type 0 where
   pub texts : paced sh codec pace x lines ≡ paced sh codec other x lines
   pub image : (ended sh codec pace x lines).shown ≡ (ended sh codec other x lines).shown
-  pub view : KeepsView (ended sh codec other x lines).work.view (ended sh codec pace x lines).work.view
+  pub view : (ended sh codec pace x lines).work.view ≡ (ended sh codec other x lines).work.view
 
 abbrev pub ScrubbingLaw : Type 0
 ScrubbingLaw = (sh : Shape) (codec : Codec) (pace : Pace) (scrub : ℕ) (x : Stand) (lines : List Command) → EachOf AsksOfOthers lines → AreUnscrubbed sh codec pace (record pace { scrub = scrub }) x lines

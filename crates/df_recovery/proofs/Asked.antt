@@ -1,21 +1,21 @@
--- A superblock that an open takes is of the version that is asked for and can be used, and so back; of version 1 it has no boot and names nothing.
+-- A superblock that an open takes is of the version that is asked for and can be used, and so back.
 use Rattle.std.proofs.Common.{inl, inr, ℕ, ◌≡◌, ◌==◌, Some, None, sym, ◌∙◌, subst, arith}
 use Rattle.std.proofs.lemmas.Bool.{cases_eq, cond-true, cond-false, eq-eqb, ne_eqb}
 use Rattle.df_format.specs.Copies.{content_with}
 use Rattle.df_format.specs.declared.superblock.SuperFields.{SuperFields}
 use Rattle.df_format.specs.declared.superblock.SuperFault.TheVariants.{Version as OtherVersion}
-use Rattle.df_format.specs.SuperRules.{IsFirstSuper, IsSuper, IsUsable, fault_of}
+use Rattle.df_format.specs.SuperRules.{IsSuper, IsUsable, fault_of}
 use Rattle.df_format.proofs.Laws.{faults}
 use Rattle.df_theory.specs.Trailer.{IsReference}
 use Rattle.df_theory.specs.View.{PassesTests}
 use Rattle.df_units.specs.Format.{shape_as}
 use Rattle.df_units.specs.Meaning.{content_of, layout_of}
 use Rattle.df_units.specs.Superblocks.{AreFieldsOf}
-use Rattle.df_units.proofs.Laws.{none_are, usable_passes}
+use Rattle.df_units.proofs.Laws.{usable_passes}
 use Rattle.df_trailer.specs.Text.{parse_of}
-use Rattle.df_rooms.specs.State.{IsPlain, shape}
+use Rattle.df_rooms.specs.State.{IsSecond, shape}
 use Rattle.df_rooms.specs.declared.file.DataFile.{DataFile}
-use Rattle.df_recovery.specs.Opening.{fault_as, fault_asked}
+use Rattle.df_recovery.specs.Opening.{fault_as}
 
 pub super_as : (version : ℕ) (f : SuperFields) → fault_as version f ≡ None → (f.version ≡ version) × IsSuper f
 super_as version f none = elim (cases_eq f.version version) [
@@ -23,29 +23,17 @@ super_as version f none = elim (cases_eq f.version version) [
   | inr other ↦ absurd (let some = sym (cond-false (f.version == version) (fault_of f) (Some (OtherVersion f.version)) (ne_eqb f.version version other)) ∙ none in cc)
 ]
 
-pub asked_super : (f : SuperFields) → fault_asked f ≡ None → (f.version ≡ 1) × IsSuper f
-asked_super f none = super_as 1 f none
-
 pub as_none : (version : ℕ) (f : SuperFields) → f.version ≡ version → IsSuper f → fault_as version f ≡ None
 as_none version f of is = cond-true (f.version == version) (fault_of f) (Some (OtherVersion f.version)) (eq-eqb f.version version of) ∙ (faults f).1 is
 
-pub asked_none : (f : SuperFields) → f.version ≡ 1 → IsSuper f → fault_asked f ≡ None
-asked_none f first is = as_none 1 f first is
-
--- so it has no boot, and names nothing
-pub first_rules : (f : SuperFields) → f.version ≡ 1 → IsSuper f → IsFirstSuper f
-first_rules f first is = elim is.version [ inl one ↦ one | inr two ↦ absurd (omega (arith, first, two.version)) ]
-
-pub plain_super : (f : SuperFields) → f.version ≡ 1 → IsUsable f → IsPlain f
-plain_super f first is =
-    let rules = first_rules f first is.rules in
-    record {
-      version = first;
-      boot = rules.boot;
-      head_checksum = rules.named.head;
-      reply_checksums = none_are f.reply_checksums is.fits.reply_checksums.size rules.named.replies;
-      first_nonzero = is.rules.zero;
-    }
+-- of version 2 it has a boot, and names what its file has
+pub second_super : (file : DataFile) (f : SuperFields) → f.version ≡ 2 → IsUsable f → AreFieldsOf file.layout file.cluster f → IsSecond file f
+second_super file f second is of = record {
+  rules = elim is.rules.version [ inl one ↦ absurd (omega (arith, second, one.version)) | inr two ↦ two ];
+  of = of;
+  names = is.fits.reply_checksums;
+  first_nonzero = is.rules.zero;
+}
 
 -- ---- in the theory
 

@@ -1,7 +1,8 @@
 -- How many prepares wait behind a tail that is found: by an image that shows what the tables say.
-use Rattle.std.proofs.Common.{◌≡◌, inl, inr, ℕ, ◌+◌, ◌<◌, ◌≤◌, List, [], ◌∷◌, length, Option, Some, None, refl, sym, ap, subst, arith}
+use Rattle.std.proofs.Common.{◌≡◌, ◌≢◌, ◌^◌, inl, inr, ℕ, ◌+◌, ◌<◌, ◌≤◌, List, [], ◌∷◌, length, Option, Some, None, refl, sym, ap, subst, arith}
 use Rattle.std.specs.Prelude.{Result, Ok, Err}
 use Rattle.std.specs.List.{slice_get}
+use Rattle.std.proofs.lemmas.Bool.{cases_lt}
 use Rattle.std.proofs.lemmas.Option.{slice_get_past}
 use Rattle.df_layout.specs.declared.damage.Class.{Class}
 use Rattle.df_layout.specs.declared.layout.Layout.{Layout}
@@ -131,6 +132,13 @@ asked_chain : (clients op parent mark : ℕ) (ss : List Units.Session) (ps : Lis
 asked_chain clients op parent mark ss [] chain asked = asked
 asked_chain clients op parent mark ss (p ∷ ps) chain asked =
     asked_chain clients (op + 1) p.header.checksum p.header.mark (noted p.header ss) ps chain.1 (asked_noted p.header ss asked (may_ask_some clients p.header ss chain.0.asks))
+
+-- a usable superblock's boot that isn't the greatest can be raised
+pub boot_unspent : (f : SuperFields) → IsSuper f → f.boot ≢ 2 ^ 62 → f.boot < 2 ^ 62
+boot_unspent f is other = elim is.version [
+  | inl first ↦ omega (arith, first.boot)
+  | inr second ↦ elim (cases_lt f.boot (2 ^ 62)) [ inl less ↦ less | inr from ↦ absurd (other (omega (arith, second.boot, from))) ]
+]
 
 module _ (sh : Shape) (image : Units.Units) (f : SuperFields) (ss after : List Session) (reach : Reach) (n : ℕ) (rules : IsSuper f) (found : IsReached sh image (any_base f ss) reach after) (replies : IsReplies image (any_base f ss).content found.tail n) where
   abbrev end : Tail

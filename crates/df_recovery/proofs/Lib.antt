@@ -1,7 +1,7 @@
 pub mod Asked
 pub mod OneAnswer
 pub mod Written
-pub mod Firsts
+pub mod Seconds
 pub mod Places
 pub mod Usable
 pub mod Synced

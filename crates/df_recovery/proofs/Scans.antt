@@ -104,4 +104,4 @@ scanned_as version t layout s whole found scan =
     }
 
 pub scanned_of_file : (t : Told) (layout : Layout) (s : Scanned) → IsImage t.shown → IsFound t.shown s.copies.found → IsScan layout (Some t) s → IsOfFile t s.file (read_of s) (base_scanned s)
-scanned_of_file t layout s whole found scan = scanned_as 1 t layout s whole found scan
+scanned_of_file t layout s whole found scan = scanned_as 2 t layout s whole found scan

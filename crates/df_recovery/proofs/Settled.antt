@@ -58,6 +58,14 @@ lawful version layout told x scan =
       named = read.file.cluster_is;
       version = read.file.version_is;
       size = sym scan.served.layout_is.slots ∙ ap (λ (l : Layout). l.slots) (sym read.file.layout_is);
+      fields = record {
+        slots = sym scan.served.layout_is.slots ∙ ap (λ (l : Layout). l.slots) (sym read.file.layout_is);
+        message_size = sym scan.served.layout_is.message_size ∙ ap (λ (l : Layout). l.message_size) (sym read.file.layout_is);
+        clients = sym scan.served.layout_is.clients ∙ ap (λ (l : Layout). l.clients) (sym read.file.layout_is);
+        block_size = sym scan.served.layout_is.block_size ∙ ap (λ (l : Layout). l.block_size) (sym read.file.layout_is);
+        blocks = sym scan.served.layout_is.blocks ∙ ap (λ (l : Layout). l.blocks) (sym read.file.layout_is);
+        cluster_is = sym read.file.cluster_is;
+      };
       start = read.start;
       slots = subst (λ (l : Layout). AreSlots l x.file.cluster x.log.slots.slots) (sym read.file.layout_is) (subst (λ (n : ℕ). AreSlots layout n x.log.slots.slots) cluster read.tables.rings.is_table);
       places = read.places ∙ ap (λ (l : Layout). l.clients) (sym read.file.layout_is);

@@ -96,16 +96,16 @@ abbrev pub Syncs : {T : Type 0} → Option Told → Option Told → Result T Ope
 Syncs old new (Err DiskFault) = AddsPart (Sync ∷ []) old new
 Syncs old new result = new ≡ after Sync old
 
--- ---- where version 1 is asked for, as an open does
+-- ---- where version 2 is asked for, as an open does
 
 abbrev pub IsFound : Image → Found → Type 0
-IsFound image found = IsFoundAs 1 image found
+IsFound image found = IsFoundAs 2 image found
 
 abbrev pub IsLayoutShown : Image → Layout → Type 0
-IsLayoutShown image layout = IsLayoutShownAs 1 image layout
+IsLayoutShown image layout = IsLayoutShownAs 2 image layout
 
 abbrev pub TellsFound : Option Told → Result Found OpenError → Type 0
-TellsFound told result = TellsFoundAs 1 told result
+TellsFound told result = TellsFoundAs 2 told result
 
 abbrev pub TellsLayout : Option Told → Result Layout OpenError → Type 0
-TellsLayout told result = TellsLayoutAs 1 told result
+TellsLayout told result = TellsLayoutAs 2 told result

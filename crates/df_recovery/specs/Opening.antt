@@ -56,16 +56,13 @@ pub record IsLayoutOf (layout : Layout) (f : SuperFields) : Type 0 where
   pub block_size : layout.block_size ≡ f.block_size
   pub blocks : layout.blocks ≡ f.blocks
 
--- ---- where version 1 is asked for, as an open does
-
-abbrev pub fault_asked : SuperFields → Option SuperFault
-fault_asked f = fault_as 1 f
+-- ---- where version 2 is asked for, as an open does
 
 abbrev pub HasFault : Image → SuperFault → Type 0
-HasFault image fault = HasFaultAs 1 image fault
+HasFault image fault = HasFaultAs 2 image fault
 
 abbrev pub HasSuper : Image → SuperFields → Type 0
-HasSuper image f = HasSuperAs 1 image f
+HasSuper image f = HasSuperAs 2 image f
 
 abbrev pub Refuses : Image → OpenError → Type 0
-Refuses image e = RefusesAs 1 image e
+Refuses image e = RefusesAs 2 image e

@@ -59,7 +59,7 @@ pub record AreScanned (layout : Layout) (cluster : ℕ) (told : Option Told) (sl
   pub replies_are : Shown.IsScanned layout cluster told replies
 
 -- the answer without the rooms that come back with a refusal
-abbrev pub without_rooms : {T R : Type 0} → Result T (R × OpenError) → Result T OpenError
+abbrev pub without_rooms : {T R E : Type 0} → Result T (R × E) → Result T E
 without_rooms (Ok x) = Ok x
 without_rooms (Err refused) = Err refused.1
 
@@ -177,10 +177,10 @@ pub record IsScanAs (version : ℕ) (layout : Layout) (told : Option Told) (s : 
   -- and so was what stands behind the superblock
   pub behind : IsReadBehind layout told s
 
--- ---- where version 1 is asked for, as an open does
+-- ---- where version 2 is asked for, as an open does
 
 abbrev pub TellsRead : {T : Type 0} → (T → Found) → Layout → Option Told → Result T OpenError → Type 0
-TellsRead found layout told result = TellsReadAs 1 found layout told result
+TellsRead found layout told result = TellsReadAs 2 found layout told result
 
 abbrev pub IsScan : Layout → Option Told → Scanned → Type 0
-IsScan layout told s = IsScanAs 1 layout told s
+IsScan layout told s = IsScanAs 2 layout told s

@@ -1,5 +1,5 @@
 -- What a survey of a file answers where a version is asked for, and what is to be mended.
-use Rattle.std.specs.Prelude.{◌≡◌, ◌≤◌, ◌+◌, ◌^◌, ℕ, Bool, false, not, List, [], ◌++◌, length, map, get_or, Option, Some, None, Result, Ok, Err}
+use Rattle.std.specs.Prelude.{◌≡◌, ◌<◌, ◌≤◌, ◌+◌, ◌^◌, ℕ, Bool, false, not, List, [], ◌++◌, length, map, get_or, Option, Some, None, Result, Ok, Err}
 use Rattle.std.specs.List.{filter, range_with_len}
 use Rattle.df_base.specs.Image.{Image, IsImage}
 use Rattle.df_disk.specs.Told.{Told}
@@ -29,6 +29,7 @@ use Rattle.df_theory.specs.Shape.{Shape}
 use Rattle.df_theory.specs.Units.{Units}
 use Rattle.df_theory.specs.View.{View}
 use Rattle.df_units.specs.Bytes.{unit_at}
+use Rattle.df_units.specs.Superblocks.{AreFieldsOf}
 use Rattle.df_rooms.specs.State.{AreAsked, State}
 use Rattle.df_recovery.specs.Found.{IsChoiceOf, TellsFoundAs}
 use Rattle.df_recovery.specs.Plan.{AreDistinct, IsScanOf, OthersAreShown, class_of_slot, headers_in, mend_list, needs_header, slot_mends}
@@ -47,6 +48,8 @@ pub record IsLawful (s : Scanned) : Type 0 where
   pub version : s.file.version ≡ s.copies.found.content.version
   -- it has the superblock's slots
   pub size : s.copies.found.content.slots ≡ s.file.layout.slots
+  -- and all else that the superblock says of its layout
+  pub fields : AreFieldsOf s.file.layout s.file.cluster s.copies.found.content
   -- the scan started behind the superblock
   pub start : s.log.slots.start ≡ start_of s.copies.found.content
   -- each slot has units that may stand there
@@ -72,6 +75,8 @@ pub record EndsBehind (layout : Layout) (f : SuperFields) (traces : Traces) : Ty
   pub order : traces.replies ≤ traces.tail.op
   -- at most eight prepares wait for their replies
   pub few : traces.tail.op ≤ traces.replies + 8
+  -- the superblock's boot can be raised
+  pub unspent : f.boot < 2 ^ 62
 
 -- the sessions after the tail make sense by themselves
 pub record AreAfter (traces : Traces) (sessions : List Session) : Type 0 where
@@ -135,6 +140,7 @@ state_found s = record {
   running = None;
   tour = first_tour;
   findings = [];
+  boot = 0;
   live = false;
 }
 

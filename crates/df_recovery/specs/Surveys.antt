@@ -101,9 +101,9 @@ SurveysAs version layout image (Err (Damaged place class)) = IsDamaged version l
 SurveysAs version layout image (Err BootSpent) = IsSpent version layout image
 SurveysAs version layout image (Err DiskFault) = Unit {0}
 
--- where version 1 is asked for, as an open does
+-- where version 2 is asked for, as an open does
 abbrev pub IsOpened : Layout → Image → State → Type 0
-IsOpened layout image s = IsOpenedAs 1 layout image s
+IsOpened layout image s = IsOpenedAs 2 layout image s
 
 abbrev pub Surveys : Layout → Image → Result State OpenError → Type 0
-Surveys layout image result = SurveysAs 1 layout image result
+Surveys layout image result = SurveysAs 2 layout image result

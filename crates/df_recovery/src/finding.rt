@@ -123,6 +123,7 @@ pub fn find_state(
     ensures order { IfOk result (λ traces. traces.replies ≤ traces.tail.op) }
     ensures asked { IfOk result (λ _. AreAsked (sessions_of sessions.old.sessions) → AreAsked (sessions_of sessions.new.sessions)) }
     ensures tracks { IfOk result (λ traces. Tracks found.now.content.replies found.now.content.op (sessions_of sessions.old.sessions) → Tracks traces.replies traces.tail.op (sessions_of sessions.new.sessions)) }
+    ensures unspent { IfOk result (λ _. found.now.content.boot < 2 ^ 62) }
     ensures damage { IfErr result IsDamage }
     ensures unstored { AreUnstored sessions.old.sessions → AreUnstored sessions.new.sessions }
     ensures numbered { AreNumbered sessions.old.sessions → AreNumbered sessions.new.sessions }

@@ -47,14 +47,14 @@ pub fn probe_version<D: Disk>(
     }
 }
 
-/// The same, where version 1 is asked for, as an open does.
+/// The same, where version 2 is asked for, as an open does.
 pub fn probe<D: Disk>(disk: &mut D, room: &mut ProbeRoom) -> Result<Layout, OpenError>
     ensures answer { TellsLayout (D.told disk.old) result }
     ensures same { D.told disk.new ≡ D.told disk.old }
     ensures of_copies { IfErr result IsOfCopies }
     ensures cause { IsBlamed is_open_fault (D.faults disk.old) (D.faults disk.new) result }
 {
-    probe_version(disk, room, 1)
+    probe_version(disk, room, 2)
 }
 
 /// Makes durable whatever an earlier call left loose, and then finds the superblock, where this version is asked for. A sync is no

@@ -75,7 +75,7 @@ module _ (s : State) (client request : ℕ) (body : List ℕ) (given : Given) (i
 
   module _ (table : IsTable s.table) (none : first_refusal (append_refusals (memory s) client request body) ≡ None) (own : IsInOwnSlot s.file.layout u) where
     room : s.head + 1 ≤ s.fields.op + s.file.layout.slots
-    room = (may_next s client request body is table none).note.room
+    room = (may_next s client request body is table live none).note.room
 
     slot_inside : (s.head + 1) % s.file.layout.slots < length s.headers
     slot_inside = omega (arith, mod-lt (s.head + 1) (let some : 0 < s.file.layout.slots = omega (arith, s.file.layout.slots_within.0) in some), is.ring.count)

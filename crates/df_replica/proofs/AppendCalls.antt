@@ -1,6 +1,6 @@
 -- What an append does to the disk is the machine's append, and behind it the header ring shows the table.
-use Rattle.std.specs.Prelude.{Ok, slice_get}
-use Rattle.std.proofs.Common.{◌≡◌, inl, inr, ℕ, ◌+◌, ◌/◌, ◌%◌, ◌==◌, List, [], ◌∷◌, Option, Some, None, refl, sym, ◌∙◌, ap, subst}
+use Rattle.std.specs.Prelude.{Ok, if◌then◌else◌, slice_get}
+use Rattle.std.proofs.Common.{◌≡◌, inl, inr, ℕ, ◌+◌, ◌/◌, ◌%◌, ◌==◌, Bool, true, false, List, [], ◌∷◌, Option, Some, None, refl, sym, ◌∙◌, ap, subst}
 use Rattle.std.proofs.lemmas.Bool.{cond-true, eq-eqb}
 use Rattle.std.proofs.lemmas.Option.{same_Some}
 use Rattle.df_base.specs.Image.{Image}
@@ -29,7 +29,7 @@ use Rattle.df_theory.specs.WriterLaws.{IsHeaderSector}
 use Rattle.df_theory.proofs.Laws.{put_one_law}
 use Rattle.df_trailer.specs.Text.{parse_of}
 use Rattle.df_units.specs.Bytes.{unit_at}
-use Rattle.df_units.specs.Meaning.{header_of, layout_of, message_of, number_of}
+use Rattle.df_units.specs.Meaning.{header_of, layout_of, message_of, number_of, number_or}
 use Rattle.df_units.specs.Puts.{IsNextSector, header_unit, put_headers}
 use Rattle.df_units.proofs.Laws.{sector_puts}
 use Rattle.df_model.specs.Commands.{Append, Command, ForAppend, Given, supplied_sum}
@@ -78,6 +78,14 @@ module _ (layout : Layout) (cluster : ℕ) (sh : Shape) (u : Message) (sector : 
 
 -- ---- an append
 
+-- a group that is told is that
+own_number : (n : ℕ) → number_or n n ≡ n
+own_number n = go (n == 0)
+  where
+    go : (b : Bool) → (if b then n else n) ≡ n
+    go true = refl
+    go false = refl
+
 module _ (s : State) (client request : ℕ) (body : List ℕ) (given : Given) (is : IsState s) (sum : given ≡ ForAppend (number_of (next_unit s client request body).header.checksum ∷ [])) where
   abbrev u : Message
   u = next_unit s client request body
@@ -85,16 +93,16 @@ module _ (s : State) (client request : ℕ) (body : List ℕ) (given : Given) (i
   abbrev command : Command
   command = Append client request body
 
-  -- the prepare that the machine makes has the superblock's boot, which is none
-  unbooted : prepare_of (memory s) (number_of u.header.checksum) client request body ≡ message_of u
-  unbooted = ap (λ (boot : ℕ). record { header = record (message_of u).header { boot = boot }; body = body }) is.plain.boot
+  -- the prepare that the machine makes: a group of its own
+  made_is : prepare_of (memory s) (number_of u.header.checksum) client request body ≡ message_of u
+  made_is = λ i. record { header = record (message_of u).header { group = sym (own_number (s.head + 1)) i; group_last = sym (own_number (s.head + 1)) i }; body = body }
 
   module _ (w : Work) (rep : Represents s w) where
     pub test_is : (o : Option AppendError) → first_refusal (append_refusals (memory s) client request body) ≡ o → first_refusal (append_refusals (memory_of (shape s.file) (spelling s.file) w) client request body) ≡ o
     test_is o there = ap (λ (x : Memory). first_refusal (append_refusals x client request body)) (sym rep) ∙ there
 
     pub prepare_is : prepare_of (memory_of (shape s.file) (spelling s.file) w) (supplied_sum given) client request body ≡ message_of u
-    prepare_is = (λ i. prepare_of (sym rep i) (supplied_sum (sum i)) client request body) ∙ unbooted
+    prepare_is = (λ i. prepare_of (sym rep i) (supplied_sum (sum i)) client request body) ∙ made_is
 
   -- what is refused does nothing
   pub refused_does : (e : AppendError) → first_refusal (append_refusals (memory s) client request body) ≡ Some e → AreCalls given command s []
@@ -142,7 +150,7 @@ module _ (s : State) (client request : ℕ) (body : List ℕ) (given : Given) (i
     put_is place =
         let m = memory s in
         let p : theory.Message = prepare_of m (supplied_sum given) client request body in
-        let same : p ≡ message_of u = (λ i. prepare_of m (supplied_sum (sum i)) client request body) ∙ unbooted in
+        let same : p ≡ message_of u = (λ i. prepare_of m (supplied_sum (sum i)) client request body) ∙ made_is in
         ap (λ (x : theory.Message). put_one (PreparePlace u.header.slot) (PrepareUnit x) place) (sym same)
         ∙ ap (λ (o : Option AppendError). unless o (put_one (PreparePlace ((m.head + 1) % m.layout.slots)) (PrepareUnit p)) place) (sym none)
 
@@ -157,9 +165,9 @@ module _ (s : State) (client request : ℕ) (body : List ℕ) (given : Given) (i
       last = λ no. absurd no;
     }
 
-    -- of version 1, as its superblock is
+    -- of version 2, as its superblock is
     first_shape : shape s.file ≡ shape_of s.file.layout s.file.cluster s.file.named (parse_of (layout_of s.file.layout))
-    first_shape = ap (λ (version : ℕ). shape_as version s.file.layout s.file.cluster s.file.named (parse_of (layout_of s.file.layout))) (sym is.version ∙ is.plain.version)
+    first_shape = ap (λ (version : ℕ). shape_as version s.file.layout s.file.cluster s.file.named (parse_of (layout_of s.file.layout))) (sym is.version ∙ is.second.rules.version)
 
     module _ (g : Grade) (w : Work) (t : Told) (k : IsKept g s w t.log) where
       next_is : IsNextSector s.file.layout s.file.cluster (now t.log) u.header (u.header.slot / 16) (new_sector u s.headers)

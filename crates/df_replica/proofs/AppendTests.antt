@@ -75,12 +75,13 @@ may_ask room client request replies h ss None at few places answered next named 
 may_ask room client request replies h ss (Some s) at few places answered next named asked mark =
     known_asks room h ss s (subst (λ (n : ℕ). session_of_client n ss ≡ Some s) (sym named) at) few (asked ∙ next) (omega (arith, answered, mark))
 
-pub may_next : (s : State) (client request : ℕ) (body : List ℕ) → IsState s → IsTable s.table → first_refusal (append_refusals (memory s) client request body) ≡ None → MayNext s client request (length body)
-may_next s client request body is table none =
+pub may_next : (s : State) (client request : ℕ) (body : List ℕ) → IsState s → IsTable s.table → s.live ≡ true → first_refusal (append_refusals (memory s) client request body) ≡ None → MayNext s client request (length body)
+may_next s client request body is table live none =
     let tests = all_pass (append_refusals (memory s) client request body) none in
     let last = or_parts _ _ tests.1.1.1.1.1.1.1.1.0 in
     let asked = eqb-true _ _ (not-false _ tests.1.1.1.1.1.0) in
     record {
+      live = live;
       note = record {
         named = (let named = eqb-false _ _ tests.0 in omega arith);
         request = (omega (arith, asked, some_request (session_of_client client (map session_of s.table.sessions))), ltb-false _ _ last.1);

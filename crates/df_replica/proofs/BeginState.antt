@@ -5,17 +5,18 @@ use Rattle.df_sessions.specs.Table.{IsTable}
 use Rattle.df_theory.specs.Trailer.{IsCount}
 use Rattle.df_model.specs.Blocks.{Blocks}
 use Rattle.df_model.specs.Memory.{free_of}
-use Rattle.df_opening.specs.Below.{RunningState, IsCourse, IsRunning, IsState, State, memory}
+use Rattle.df_opening.specs.Below.{RunningState, IsCourse, IsLevel, IsRunning, IsState, State, memory}
 use Rattle.df_replica.specs.declared.begin.Plan.{Plan}
 use Rattle.df_replica.specs.Beginning.{MayBegin, begun, captured, needed}
 
 -- a state makes sense with other blocks and another course, where those do
-pub with_course : (s : State) (b : Blocks) (r : Option RunningState) → IsState s → IsCourse s.file s.fields s.head b r → IsState (record s { blocks = b; running = r })
-with_course s b r is course = record {
+pub with_course : (s : State) (b : Blocks) (r : Option RunningState) → IsState s → IsCourse s.file s.fields s.head b r → IsLevel s.head s.head_checksum r → IsState (record s { blocks = b; running = r })
+with_course s b r is course level = record {
   cluster = is.cluster;
   parent = is.parent;
   version = is.version;
-  plain = is.plain;
+  second = is.second;
+  booted = is.booted;
   sequence = is.sequence;
   root = is.root;
   order = is.order;
@@ -25,6 +26,8 @@ with_course s b r is course = record {
   few = is.few;
   places = is.places;
   first = is.first;
+  level = is.level;
+  captured = level;
   requests = is.requests;
   asked = is.asked;
   tracks = is.tracks;

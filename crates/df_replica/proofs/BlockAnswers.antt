@@ -107,12 +107,11 @@ module _ (s : State) (kind : ℕ) (body : List ℕ) (given : Given) (is : IsStat
     wrote : AreSteps (format_of s.file.layout s.file.cluster) (block_events s u) (block_steps u)
     wrote = (block_put s.file.layout s.file.cluster u.header.op u (sectors_of u) (made_brings s.file.layout s.file.cluster (place_in Grid u.header.op) u (λ same. cc) own), tt)
 
-    -- the block that the machine makes has the superblock's boot, which is none
+    -- the block that the machine makes
     block_is : block_of (memory s).content.boot (supplied_sum given) kind body ≡ meaning.block_of u
     block_is =
-        ap (λ (boot : ℕ). block_of boot (supplied_sum given) kind body) is.plain.boot
-        ∙ ap (λ (g : Given). block_of 0 (supplied_sum g) kind body) sum
-        ∙ ap (λ (n : ℕ). record (block_of 0 (number_of u.header.checksum) kind body) { before_checksum = n }) (sym no_number)
+        ap (λ (g : Given). block_of s.fields.boot (supplied_sum g) kind body) sum
+        ∙ ap (λ (n : ℕ). record (block_of s.fields.boot (number_of u.header.checksum) kind body) { before_checksum = n }) (sym no_number)
 
     module _ (w : Work) (rep : Represents s w) where
       block_there : block_of (memory_of (shape s.file) (spelling s.file) w).content.boot (supplied_sum given) kind body ≡ meaning.block_of u

@@ -44,7 +44,7 @@ course_live file f head b live (Some r) is = record {
 }
 
 pub live_state : (s : State) (live : List (ℕ × ℕ)) → IsState s → IsState (with_blocks s (lives s.blocks live))
-live_state s live is = with_course s (lives s.blocks live) s.running is (course_live s.file s.fields s.head s.blocks live s.running is.course)
+live_state s live is = with_course s (lives s.blocks live) s.running is (course_live s.file s.fields s.head s.blocks live s.running is.course) is.captured
 
 -- ---- an address that isn't live
 

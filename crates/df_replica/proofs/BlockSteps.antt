@@ -34,7 +34,7 @@ use Rattle.df_replica.proofs.StepAnswers.{does_step, fault_call, makes_step, nex
 use Rattle.df_replica.proofs.StepMemory.{block_memory, step_memory}
 use Rattle.df_replica.proofs.WritesOn.{StandsIn, steps_stand}
 
-module _ (s : State) (r : RunningState) (a : ℕ) (more : List ℕ) (given : Given) (is : IsRunning s.file s.fields s.head s.blocks r) (none : s.fields.boot ≡ 0) (running : s.running ≡ Some r) (left : s.blocks.left ≡ a ∷ more)
+module _ (s : State) (r : RunningState) (a : ℕ) (more : List ℕ) (given : Given) (is : IsRunning s.file s.fields s.head s.blocks r) (booted : s.boot ≡ s.fields.boot) (running : s.running ≡ Some r) (left : s.blocks.left ≡ a ∷ more)
     (unit : block_of (trailer_unit s r) ≡ block_to_write s r (block_sum s r)) (steps : AreSteps (format_of s.file.layout s.file.cluster) (block_events s r) (block_steps (trailer_unit s r)))
     (sum : given ≡ ForAdvance (made_by s s.running ∷ [])) where
   abbrev given_steps : List Step
@@ -49,7 +49,7 @@ module _ (s : State) (r : RunningState) (a : ℕ) (more : List ℕ) (given : Giv
       let c : Course = course_of s.file s.blocks r in
       unit
       ∙ ap (λ (n : ℕ). record (block_to_write s r (block_sum s r)) { sequence = n }) is.sequence.0
-      ∙ ap (λ (n : ℕ). record (block_to_write s r (block_sum s r)) { sequence = s.fields.sequence + 1; boot = n }) (sym none)
+      ∙ ap (λ (n : ℕ). record (block_to_write s r (block_sum s r)) { sequence = s.fields.sequence + 1; boot = n }) booted
       ∙ ap (λ (n : ℕ). record (trailer_block (memory s) c (block_sum s r)) { body = piece_of (block_room (memory s).layout) n c.text }) is.written
       ∙ (λ i. trailer_block (rep i) (sym (runs s r given running sum w rep).course i) (sym sum_here i))
 
@@ -84,7 +84,7 @@ module _ (s : State) (r : RunningState) (a : ℕ) (more : List ℕ) (given : Giv
       let c : Course = course_of s.file s.blocks r in
       unit
       ∙ ap (λ (n : ℕ). record (block_to_write s r (block_sum s r)) { sequence = n }) is.sequence.0
-      ∙ ap (λ (n : ℕ). record (block_to_write s r (block_sum s r)) { sequence = s.fields.sequence + 1; boot = n }) (sym none)
+      ∙ ap (λ (n : ℕ). record (block_to_write s r (block_sum s r)) { sequence = s.fields.sequence + 1; boot = n }) booted
       ∙ ap (λ (n : ℕ). record (trailer_block (memory s) c (block_sum s r)) { body = piece_of (block_room (memory s).layout) n c.text }) is.written
       ∙ ap (trailer_block (memory s) c) (sym sum_here)
 
@@ -151,7 +151,7 @@ module _ (s : State) (is : IsState s) (live : s.live ≡ true) (some : s.blocks.
           let first = first_in s.blocks.left some in
           subst (λ (x : State). IsCall given Advance s x old new (Some (ToAdvance (Ok (Working left))))) (sym next_is)
           (subst (λ (n : ℕ). IsCall given Advance s (advanced s r) old new (Some (ToAdvance (Ok (Working n))))) (sym count)
-          (block_call s r first.0 first.1 given course is.plain.boot running first.2 unit_is steps_are supplied live old new all_are))
+          (block_call s r first.0 first.1 given course (is.booted live).boot running first.2 unit_is steps_are supplied live old new all_are))
 
   pub block_fault_serves : (t : State) (old new : Option Told) → t.live ≡ false → OfRunning s.running (λ r. AddsPart (block_events s r) old new) → Serves Advance s t old new None
   block_fault_serves t old new dead part = go s.running refl is.course unit steps part
@@ -160,4 +160,4 @@ module _ (s : State) (is : IsState s) (live : s.live ≡ true) (some : s.blocks.
       go None running course unit_is steps_are part_is = absurd unit_is
       go (Some r) running course unit_is steps_are part_is = λ given supplied.
           let first = first_in s.blocks.left some in
-          block_fault s r first.0 first.1 given course is.plain.boot running first.2 unit_is steps_are supplied old new t dead part_is
+          block_fault s r first.0 first.1 given course (is.booted live).boot running first.2 unit_is steps_are supplied old new t dead part_is

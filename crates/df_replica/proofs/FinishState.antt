@@ -1,12 +1,18 @@
--- What the superblock says that ends a checkpoint obeys the rules.
-use Rattle.std.proofs.Common.{inl, ◌≡◌, ℕ, ◌≤◌, List, [], ◌∷◌, Some, None, refl, sym, ap, arith}
+-- What the superblock says that ends a checkpoint obeys the rules, and the state behind it makes sense.
+use Rattle.std.proofs.Common.{◌≡◌, ℕ, ◌+◌, ◌*◌, ◌/◌, ◌≤◌, List, [], ◌∷◌, Some, None, refl, sym, ap, subst, arith}
 use Rattle.std.proofs.lemmas.Option.{same_Some}
-use Rattle.df_format.proofs.Laws.{faults, no_names}
-use Rattle.df_format.specs.SuperRules.{IsSuper, fault_of}
+use Rattle.df_base.specs.Fields.{spelled}
+use Rattle.df_format.proofs.Laws.{faults}
+use Rattle.df_format.specs.SuperRules.{IsSuper, IsUsable, fault_of}
+use Rattle.df_format.specs.declared.superblock.SuperFields.{SuperFields}
+use Rattle.df_sessions.specs.Table.{IsTable}
+use Rattle.df_theory.specs.Trailer.{greatest_trailer}
+use Rattle.df_units.specs.Meaning.{layout_of}
 use Rattle.df_grid.specs.Table.{last_of}
 use Rattle.df_grid.specs.Writes.{first_address, first_sum}
-use Rattle.df_opening.specs.Below.{RunningState, IsRunning, IsState, State}
-use Rattle.df_replica.specs.Stepping.{next_fields}
+use Rattle.df_opening.specs.Below.{IsLevel, IsRunning, IsState, MayRecord, RunningState, State}
+use Rattle.df_opening.proofs.Laws.{recorded_is_super, second_super}
+use Rattle.df_replica.specs.Stepping.{captured_fields, finished, next_fields}
 
 -- the last trailer block is the first of those that are listed
 pub first_pair : (written : List (ℕ × ℕ)) (left : List ℕ) (address sum : ℕ) → left ≡ [] → Some (address, sum) ≡ last_of left written → (first_address written ≡ address) × (first_sum written ≡ sum)
@@ -16,29 +22,69 @@ first_pair (x ∷ xs) [] address sum done is =
     let same : (address, sum) ≡ x = same_Some _ _ is in
     (ap (λ (y : ℕ × ℕ). y.0) (sym same), ap (λ (y : ℕ × ℕ). y.1) (sym same))
 
-module _ (s : State) (r : RunningState) (is : IsState s) (runs : IsRunning s.file s.fields s.head s.blocks r) (some : 1 ≤ first_address s.blocks.written) (inside : first_address s.blocks.written ≤ s.file.layout.blocks) where
-  is_super : IsSuper (next_fields s r)
-  is_super = record {
-    version = inl (record { version = refl; boot = refl; named = record { head = refl; replies = no_names } });
-    layout = record {
-      slots_within = s.file.layout.slots_within;
-      message_size_within = s.file.layout.message_size_within;
-      clients_within = s.file.layout.clients_within;
-      block_size_within = s.file.layout.block_size_within;
-      blocks_within = s.file.layout.blocks_within;
-    };
-    cluster = s.file.named;
+-- ---- what the superblock says
+
+module _ (s : State) (r : RunningState) (is : IsState s) (table : IsTable s.table) (super : IsSuper s.fields) (runs : IsRunning s.file s.fields s.head s.blocks r) (level : IsLevel s.head s.head_checksum (Some r))
+    (some : 1 ≤ first_address s.blocks.written) (inside : first_address s.blocks.written ≤ s.file.layout.blocks) where
+  abbrev f : SuperFields
+  f = captured_fields s.fields r (first_address s.blocks.written) (spelled 16 (first_sum s.blocks.written))
+
+  -- the longest trailer of the layout is that of the superblock
+  longest : greatest_trailer (layout_of s.file.layout) ≡ 4 + 1024 + 4 + 32 * s.fields.clients + (s.fields.blocks + 7) / 8 + 16 * s.fields.blocks
+  longest = λ i. 4 + 1024 + 4 + 32 * sym is.second.of.clients i + (sym is.second.of.blocks i + 7) / 8 + 16 * sym is.second.of.blocks i
+
+  may : MayRecord s f
+  may = record {
+    version = is.second.rules.version;
+    boot = is.second.rules.boot;
+    layout = super.layout;
+    places = is.second.of.clients;
+    cluster = super.cluster;
     sequence = (omega (arith, runs.sequence.0), runs.sequence.1);
-    op = omega (arith, runs.op_to, is.head_to);
+    op = runs.op_to;
+    room = omega (arith, is.room, runs.op_from, is.second.of.slots);
     op_checksum = runs.first;
-    head = (runs.op_to, omega (arith, is.room, runs.op_from), is.head_to);
-    replies = (omega (arith, is.waiting), omega (arith, is.waiting, is.few));
-    trailer = (inside, λ other none. omega (arith, some, none));
+    level = level;
+    trailer = (omega (arith, inside, is.second.of.blocks), λ other none. omega (arith, some, none));
     trailer_checksum = λ none. absurd (omega (arith, some, none));
     no_trailer = λ none. absurd (omega (arith, some, none));
-    trailer_size = λ other. runs.fits;
-    zero = refl;
+    trailer_size = λ other. (runs.fits.0, subst (λ (n : ℕ). r.size ≤ n) longest runs.fits.1);
+    zero = is.second.first_nonzero;
   }
 
   pub no_fault : fault_of (next_fields s r) ≡ None
-  no_fault = (faults (next_fields s r)).1 is_super
+  no_fault = (faults (next_fields s r)).1 (recorded_is_super s f is table may)
+
+-- ---- the state in which the checkpoint is the durable one
+
+pub finished_sense : (s : State) (r : RunningState) → IsState s → IsRunning s.file s.fields s.head s.blocks r → IsLevel s.head s.head_checksum (Some r) → IsUsable (next_fields s r) → IsState (finished s r)
+finished_sense s r is runs level usable = record {
+  cluster = is.cluster;
+  parent = is.parent;
+  version = is.version;
+  second = second_super s.file (next_fields s r) is.second.rules.version usable (record {
+    slots = is.second.of.slots;
+    message_size = is.second.of.message_size;
+    clients = is.second.of.clients;
+    block_size = is.second.of.block_size;
+    blocks = is.second.of.blocks;
+    cluster_is = is.second.of.cluster_is;
+  });
+  booted = is.booted;
+  sequence = (omega (arith, runs.sequence.0), runs.sequence.1);
+  root = runs.root;
+  order = runs.op_to;
+  room = omega (arith, is.room, runs.op_from);
+  head_to = is.head_to;
+  waiting = is.waiting;
+  few = is.few;
+  places = is.places;
+  first = is.first;
+  level = level;
+  captured = tt;
+  requests = is.requests;
+  asked = is.asked;
+  tracks = is.tracks;
+  ring = is.ring;
+  course = record { captured = refl; written = refl; left = refl };
+}

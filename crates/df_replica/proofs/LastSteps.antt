@@ -33,9 +33,9 @@ use Rattle.df_model.specs.declared.errors.StepError.TheVariants as step
 use Rattle.df_opening.specs.Below.{RunningState, IsCourse, IsRunning, IsState, Represents, State, course_of, memory, shape, spelling}
 use Rattle.df_replica.specs.Answering.{Serves, answer_of, is_step_unanswered}
 use Rattle.df_replica.specs.Serving.{Grade, IsCall, IsKept, format, next}
-use Rattle.df_replica.specs.Stepping.{IsMade, OfRunning, finished, last_events, made_by, made_for, next_fields}
+use Rattle.df_replica.specs.Stepping.{IsMade, OfRunning, captured_fields, finished, last_events, made_by, made_for, next_fields}
 use Rattle.df_replica.proofs.Calls.{AreCalls}
-use Rattle.df_opening.proofs.Laws.{firmly}
+use Rattle.df_opening.proofs.Laws.{firmly, recorded_content}
 use Rattle.df_replica.proofs.Leaves.{Makes, copies_made, copies_over}
 use Rattle.df_replica.proofs.RingSpared.{ring_spared}
 use Rattle.df_replica.proofs.Makes.{OfStep}
@@ -59,47 +59,11 @@ module _ (s : State) (r : RunningState) (given : Given) (is : IsState s) (course
   sum_here = sum_is s r given running sum ∙ ap (made_for s r) left
 
   module _ (w : Work) (work : IsWork (shape s.file) (spelling s.file) w) (rep : Represents s w) where
-    tests : PassesTests (shape s.file) (memory s).content
-    tests = subst (PassesTests (shape s.file)) (sym (ap (λ (m : Memory). m.content) rep)) work.view.checkpoint.tests
-
-    -- what version 1 leaves empty stays as it is
-    answered : 0 ≡ answered_of s.fields
-    answered i = answered_of (record s.fields { version = sym is.plain.version i })
-
-    names : [] ≡ reply_checksums_of s.fields
-    names i = reply_checksums_of (record s.fields { version = sym is.plain.version i })
-
-    rest : rest_of f ≡ rest_of s.fields
-    rest i =
-        rest_of (record s.fields {
-          version = sym is.plain.version i;
-          head_checksum = sym is.plain.head_checksum i;
-          reply_checksums = sym is.plain.reply_checksums i;
-          first_nonzero = sym is.plain.first_nonzero i;
-        })
-
     -- the superblock is the machine's
     content_is : content_of (content_with f) ≡ making.content_of (memory s) (course_of s.file s.blocks r) made
-    content_is = λ i. record {
-      checksum = made;
-      version = sym is.plain.version i;
-      cluster = sym tests.cluster i;
-      layout = sym tests.layout i;
-      sequence = course.sequence.0 i;
-      boot = sym is.plain.boot i;
-      op = r.op;
-      op_checksum = number_of r.op_checksum;
-      head = s.head;
-      replies = s.replies;
-      pin = r.op;
-      pin_checksum = number_of r.op_checksum;
-      answered = answered i;
-      reply_checksums = names i;
-      trailer = first_address s.blocks.written;
-      trailer_checksum = number i;
-      trailer_size = course.size i;
-      rest = rest i;
-    }
+    content_is =
+        recorded_content s (captured_fields s.fields r (first_address s.blocks.written) (spelled 16 (first_sum s.blocks.written))) is.second.rules.version
+        ∙ (λ i. record (making.content_of (memory s) (course_of s.file s.blocks r) made) { sequence = course.sequence.0 i; trailer_checksum = number i; trailer_size = course.size i })
 
     content_there : content_of (content_with f) ≡ (checkpoint_of (shape s.file) (spelling s.file) w (runs s r given running sum w rep).on (supplied_sum given)).content
     content_there = content_is ∙ (λ i. making.content_of (rep i) (sym (runs s r given running sum w rep).course i) (sym sum_here i))

@@ -1,14 +1,16 @@
 -- What a state has was written, where a file is kept for it, and where an open found it on a disk that may be hurt.
 use Rattle.std.proofs.Common.{◌≡◌, Some, None, sym, subst}
 use Rattle.df_base.specs.Log.{Sync, add}
-use Rattle.df_opening.specs.Below.{IsWritten, DataFile, shape, spelling}
+use Rattle.df_opening.specs.Below.{DataFile, IsWritten, WasWritten, shape, spelling}
 use Rattle.df_opening.proofs.Laws.{had_is_written, firm_of}
-use Rattle.df_model.specs.Work.{opened}
 use Rattle.df_theory.specs.Device.{units_log}
+use Rattle.df_theory.specs.Next.{booted}
+use Rattle.df_theory.specs.Shape.{Shape}
+use Rattle.df_theory.specs.Shows.{Needs}
 use Rattle.df_theory.specs.UnitLog.{now}
-use Rattle.df_theory.specs.Units.{AnyUnit, BlockPlace, BlockUnit, Place}
+use Rattle.df_theory.specs.Units.{AnyUnit, BlockPlace, BlockUnit, Content, CopyPlace, HeaderPlace, Place, PreparePlace, ReplyPlace}
+use Rattle.df_theory.specs.View.{View}
 use Rattle.df_theory.proofs.Laws.{pool_pools}
-use Rattle.df_units.specs.Bytes.{unit_at}
 use Rattle.df_replica.specs.Lending.{KeptIsWritten, OpenedIsWrittenFor}
 use Rattle.df_replica.specs.Serving.{format}
 use Rattle.df_replica.specs.WrittenFor.{IsWrittenFor}
@@ -23,10 +25,18 @@ kept_is_written g s w log is =
       trailer = λ r running a b at. shown (BlockPlace a) (BlockUnit b) (by.written r running a b at);
     }
 
+-- what a view needs it needs with another content of the same checkpoint
+needs_alike : (sh : Shape) (v : View) (d : Content) (place : Place) (x : AnyUnit) → Needs sh (booted v d) place x → Needs sh v place x
+needs_alike sh v d (CopyPlace n) x need = need
+needs_alike sh v d (HeaderPlace k) x need = need
+needs_alike sh v d (PreparePlace k) x need = need
+needs_alike sh v d (ReplyPlace k) x need = need
+needs_alike sh v d (BlockPlace a) x need = need
+
 pub opened_is_written_for : OpenedIsWrittenFor
-opened_is_written_for file view t s later finds grew =
-    let w = opened (shape file) (unit_at file.layout file.cluster t.shown) finds.found in
-    subst (λ (x : DataFile). IsWrittenFor x later w) (sym finds.of) (record {
-      view = had_is_written file (add Sync t.log) later finds.found finds.had grew;
+opened_is_written_for file view t s later d finds grew work =
+    let was : WasWritten s.file later finds.found = subst (λ (x : DataFile). WasWritten x later finds.found) (sym finds.of) (had_is_written file (add Sync t.log) later finds.found finds.had grew) in
+    record {
+      view = record { sound = work.view; needs = λ place x need. was.needs place x (needs_alike (shape s.file) finds.found d place x need) };
       trailer = λ r none a b at. absurd (let no : None ≡ Some r = none in cc);
-    })
+    }

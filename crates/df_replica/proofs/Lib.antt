@@ -31,6 +31,7 @@ pub mod LastSteps
 pub mod BeginPlan
 pub mod BeginAnswers
 pub mod BeginState
+pub mod StoppedState
 pub mod AppendMemory
 pub mod AppendAnswers
 pub mod HeldBlocks

@@ -49,7 +49,7 @@ use Rattle.df_replica.proofs.Leaves.{Makes, makes_nothing}
 use Rattle.df_replica.proofs.Makes.{OfMade, Unless}
 use Rattle.df_replica.proofs.WritesOn.{StandsIn, steps_stand}
 use Rattle.df_replica.proofs.ReplyMemory.{replied_memory}
-use Rattle.df_replica.proofs.ReplyTests.{may_reply}
+use Rattle.df_replica.proofs.ReplyTests.{reply_waits}
 use Rattle.df_replica.proofs.Unblamed.{refused_answer, reply_unblamed}
 
 -- the checksum that waits the longest, as a number
@@ -117,13 +117,12 @@ module _ (s : State) (op : ℕ) (body : List ℕ) (given : Given) (is : IsState 
     put = reply_put s.file.layout s.file.cluster u.header.slot u (sectors_of u) (made_brings s.file.layout s.file.cluster (place_in ClientReplies u.header.slot) u (λ same. cc) own)
 
     waits : 0 < length s.waiting
-    waits = omega (arith, (may_reply s op body is none).waits, is.waiting)
+    waits = omega (arith, reply_waits s op body is none, is.waiting)
 
-    -- the reply that the machine makes has the superblock's boot, which is none, and names the prepare that waits the longest
+    -- the reply that the machine makes names the prepare that waits the longest
     made_is : reply_of (memory s) (number_of u.header.checksum) body ≡ message_of u
     made_is =
-        ap (λ (boot : ℕ). record { header = record (message_of u).header { parent = first_of (map number_of s.waiting); boot = boot }; body = body }) is.plain.boot
-        ∙ ap (λ (parent : ℕ). record { header = record (message_of u).header { parent = parent }; body = body }) (first_number s.waiting waits)
+        ap (λ (parent : ℕ). record { header = record (message_of u).header { parent = parent }; body = body }) (first_number s.waiting waits)
 
     module _ (w : Work) (rep : Represents s w) where
       reply_is : reply_of (memory_of (shape s.file) (spelling s.file) w) (supplied_sum given) body ≡ message_of u

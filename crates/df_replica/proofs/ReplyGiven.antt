@@ -10,7 +10,8 @@ use Rattle.df_format.specs.Making.{blank_header, for_body}
 use Rattle.df_format.specs.Own.{own_place}
 use Rattle.df_format.specs.Rules.{ObeysRules}
 use Rattle.df_format.specs.Spelling.{IsCheck}
-use Rattle.df_format.proofs.Laws.{given_obeys, of_first}
+use Rattle.df_opening.proofs.Laws.{boot_made}
+use Rattle.df_format.proofs.Laws.{given_obeys, of_second}
 use Rattle.df_sessions.specs.declared.session.Session as told
 use Rattle.df_sessions.specs.Requests.{session_of}
 use Rattle.df_sessions.specs.Table.{IsTable}
@@ -20,10 +21,10 @@ use Rattle.df_replica.specs.Replying.{MayReplyNext, first_check, place_waiting, 
 use Rattle.df_replica.proofs.ReplyTests.{client_named, place_inside, session_told, waiting_told}
 
 -- the header of these parts, over a blank one
-pub header_is : (s : State) (blank : Header) (parent : List ℕ) (client place sequence : ℕ) (r : told.Session) → blank ≡ blank_header AsReply s.file.cluster → client ≡ r.client → parent ≡ first_check s.waiting → place ≡ place_waiting s → slice_get s.table.sessions place ≡ Some r → sequence ≡ s.fields.sequence
-    → record blank { parent = parent; client = client; op = s.replies + 1; request = r.request; mark = s.head; checkpoint = sequence; slot = place }
+pub header_is : (s : State) (blank : Header) (parent : List ℕ) (client place sequence boot : ℕ) (r : told.Session) → blank ≡ blank_header AsReply s.file.cluster → client ≡ r.client → parent ≡ first_check s.waiting → place ≡ place_waiting s → slice_get s.table.sessions place ≡ Some r → sequence ≡ s.fields.sequence → boot ≡ s.fields.boot
+    → record blank { parent = parent; client = client; op = s.replies + 1; request = r.request; mark = s.head; checkpoint = sequence; slot = place; version = 2; boot = boot }
     ≡ reply_given s
-header_is s blank parent client place sequence r blank_is client_here parent_is place_is at sequence_is =
+header_is s blank parent client place sequence boot r blank_is client_here parent_is place_is at sequence_is boot_is =
     let there : session_waiting s ≡ Some (session_of r) = session_told s.table.sessions (place_waiting s) r (subst (λ (k : ℕ). slice_get s.table.sessions k ≡ Some r) place_is at) in
     let client_is : client ≡ client_of (session_waiting s) = client_here ∙ ap client_of (sym there) in
     let request_is : r.request ≡ request_of (session_waiting s) = ap request_of (sym there) in
@@ -35,6 +36,8 @@ header_is s blank parent client place sequence r blank_is client_here parent_is 
       mark = s.head;
       checkpoint = sequence_is i;
       slot = place_is i;
+      version = 2;
+      boot = boot_is i;
     }
 
 module _ (s : State) (is : IsState s) (table : IsTable s.table) (waits : s.replies < s.head) where
@@ -56,7 +59,7 @@ module _ (s : State) (is : IsState s) (table : IsTable s.table) (waits : s.repli
       let named = client_named s.table.sessions (place_waiting s) there.0 table.named there.1 in
       let most = is.requests (place_waiting s) there.0 there.1 in
       let asked = is.asked (place_waiting s) (session_of there.0) there.2 in
-      given_obeys s.file.cluster (s.file.named, is.cluster) (reply_given s) body AsReply (of_first AsReply (reply_given s) refl refl refl refl) (
+      given_obeys s.file.cluster (s.file.named, is.cluster) (reply_given s) body AsReply (of_second AsReply (reply_given s) refl (boot_made s (is.booted may.live), is.second.rules.boot) (record { none_first = refl; none_last = refl })) (
         record {
           parent = parent;
           client = (omega (arith, client, named), small);

@@ -65,10 +65,17 @@ client_named (x ∷ ss) (suc k) s all at = client_named ss k s all.1 at
 
 -- ---- what isn't refused
 
-pub may_reply : (s : State) (op : ℕ) (body : List ℕ) → IsState s → first_refusal (reply_refusals (memory s) op body) ≡ None → MayReplyNext s (length body)
-may_reply s op body is none =
+pub reply_waits : (s : State) (op : ℕ) (body : List ℕ) → IsState s → first_refusal (reply_refusals (memory s) op body) ≡ None → s.replies < s.head
+reply_waits s op body is none =
+    let tests = all_pass (reply_refusals (memory s) op body) none in
+    let some = eqb-false _ _ tests.0 in
+    omega (arith, is.waiting)
+
+pub may_reply : (s : State) (op : ℕ) (body : List ℕ) → IsState s → s.live ≡ true → first_refusal (reply_refusals (memory s) op body) ≡ None → MayReplyNext s (length body)
+may_reply s op body is live none =
     let tests = all_pass (reply_refusals (memory s) op body) none in
     record {
-      waits = (let some = eqb-false _ _ tests.0 in omega (arith, is.waiting));
+      live = live;
+      waits = reply_waits s op body is none;
       fits = (let fits = ltb-false _ _ tests.1.1.0 in omega (arith, s.file.layout.message_size_within.0));
     }

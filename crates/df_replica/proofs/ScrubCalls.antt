@@ -32,7 +32,7 @@ blocks_kept m Sound (x ∷ more) = refl
 blocks_kept m (Failing kind) (x ∷ more) = refl
 
 -- the verdict that a check was supplied with is the one that it found
-verdict_is : (s : State) (told : Option Told) (answer : Scrubbed) (after : ScrubState) → IsMachineStep (grid_with s.file s.blocks) after told answer (memory s) → (given : Given) → IsSupplied s told Scrub given → GivesVerdict told (Ok answer) given
+verdict_is : (s : State) (told : Option Told) (answer : Scrubbed) (after : ScrubState) → IsMachineStep (grid_with s.file s.boot s.blocks) after told answer (memory s) → (given : Given) → IsSupplied s told Scrub given → GivesVerdict told (Ok answer) given
     → supplied_verdict given ≡ verdict_in answer
 verdict_is s None answer after of given supplied gives = gives
 verdict_is s (Some t) answer after of given supplied gives = supplied.1 ∙ sym of.verdict
@@ -44,7 +44,7 @@ module _ (s : State) (live : s.live ≡ true) where
   input : (told : Option Told) (given : Given) → IsSupplied s told Scrub given → IsInput given Scrub
   input told given supplied = record { checksums = no_sums given (ForScrub (supplied_verdict given)) supplied.0 refl; fields = tt }
 
-  module _ (told : Option Told) (answer : Scrubbed) (scrub : ScrubState) (of : IsMachineStep (grid_with s.file s.blocks) scrub told answer (memory s)) (given : Given) (same : supplied_verdict given ≡ verdict_in answer) where
+  module _ (told : Option Told) (answer : Scrubbed) (scrub : ScrubState) (of : IsMachineStep (grid_with s.file s.boot s.blocks) scrub told answer (memory s)) (given : Given) (same : supplied_verdict given ≡ verdict_in answer) where
     module _ (w : Work) (work : IsWork (shape s.file) (spelling s.file) w) (rep : Represents s w) where
       answers : ToScrub answer ≡ (next s.file w given Scrub).1
       answers =
@@ -71,7 +71,7 @@ module _ (s : State) (live : s.live ≡ true) where
     }
 
   -- a step
-  pub scrub_serves : (told : Option Told) (answer : Scrubbed) (scrub : ScrubState) → IsMachines (grid_with s.file s.blocks) (scrub_of s) scrub told answer → ServesScrub s (with_scrub s scrub) told (Ok answer)
+  pub scrub_serves : (told : Option Told) (answer : Scrubbed) (scrub : ScrubState) → IsMachines (grid_with s.file s.boot s.blocks) (scrub_of s) scrub told answer → ServesScrub s (with_scrub s scrub) told (Ok answer)
   scrub_serves told answer scrub machines given supplied gives =
       let of = machines (memory s) (record { layout = refl; blocks = refl; tour = refl; findings = refl }) in
       answered_call given Scrub s [] (input told given supplied) (calls given) (makes_nothing given Scrub s (λ place. refl) (λ no. no)) (with_scrub s scrub) (ToScrub answer) (answered told answer scrub of given (verdict_is s told answer scrub of given supplied gives)) told told supplied refl

@@ -7,9 +7,12 @@ use Rattle.df_base.proofs.Laws.{extends_add, extends_self, more, weaker, same_lo
 use Rattle.df_disk.specs.Told.{Told}
 use Rattle.df_disk.specs.Adds.{after_all}
 use Rattle.df_disk.proofs.Laws.{after_append}
+use Rattle.df_theory.specs.Shape.{Shape}
+use Rattle.df_theory.specs.Units.{Units}
 use Rattle.df_theory.specs.View.{View}
 use Rattle.df_theory.specs.Device.{NoChanceOf}
 use Rattle.df_model.specs.Commands.{Answer, ForRecent, Recent}
+use Rattle.df_model.specs.Views.{KeepsView}
 use Rattle.df_model.specs.Work.{Work, kept}
 use Rattle.df_opening.specs.Below.{DataFile, State, shape}
 use Rattle.df_replica.specs.Leaving.{AreSettled}
@@ -17,7 +20,7 @@ use Rattle.df_replica.specs.Serving.{EachIsGood, Firm, Grade, IsGoodFor, IsKept,
 use Rattle.df_replica.specs.Session.{Act, AnsweredIsThere, EachIsMidway, FaultStopsThem, HasView, HoldsFor, HoldsSome, IsMidway, LeavesEither, LeavesView, NothingIsServed, OneMoreIsServed, answers_of, work_after}
 use Rattle.df_replica.specs.WrittenFor.{IsWrittenIn}
 use Rattle.df_replica.proofs.Calls.{moments}
-use Rattle.df_opening.proofs.Laws.{good_safe, firmly}
+use Rattle.df_opening.proofs.Laws.{firmly, good_safe, keeps_back, keeps_on, keeps_self}
 
 -- ---- the acts with one more
 
@@ -33,8 +36,13 @@ module _ (file : DataFile) where
   -- what a good log leaves
   pub good_left : (g : Grade) (v u : View) (log : Log) → IsGoodFor g (format file) (shape file) v u log → (image : Image) → IsLeft log image → NoChanceOf (format file) log image
       → HoldsFor g (shape file) ((format file).unit_at image) v ⊎ HoldsFor g (shape file) ((format file).unit_at image) u
-  good_left Firm v u log good image left chance = good.left image left chance
-  good_left Whole v u log good image left chance = good.left image left chance
+  good_left Firm v u log good image left chance = elim (good.left image left chance) [ inl old ↦ inl (v, keeps_self v, old) | inr new ↦ inr (u, keeps_self u, new) ]
+  good_left Whole v u log good image left chance = elim (good.left image left chance) [ inl old ↦ inl (v, keeps_self v, old) | inr new ↦ inr (u, keeps_self u, new) ]
+
+-- what keeps a view keeps one that is kept by it
+pub holds_on : (g : Grade) (sh : Shape) (image : Units) (v u : View) → KeepsView v u → HoldsFor g sh image v → HoldsFor g sh image u
+holds_on Firm sh image v u keeps has = (has.0, keeps_on u v has.0 (keeps_back v u keeps) has.1, has.2)
+holds_on Whole sh image v u keeps has = (has.0, keeps_on u v has.0 (keeps_back v u keeps) has.1, has.2)
 
 module _ (file : DataFile) (g : Grade) where
   some_last : (w : Work) (acts : List Act) (image : Image) → HasView file g (work_after file w acts) image → HoldsSome file g w acts image

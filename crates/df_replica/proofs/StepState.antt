@@ -4,7 +4,7 @@ use Rattle.df_format.specs.declared.superblock.SuperFields.{SuperFields}
 use Rattle.df_model.specs.Blocks.{Blocks}
 use Rattle.df_grid.specs.Grid.{GridState}
 use Rattle.df_grid.specs.Table.{next_written, written_of}
-use Rattle.df_opening.specs.Below.{RunningCheckpoint, DataFile, running_state, running_of, RunningState, IsCourse, IsRunning, State, grid_with}
+use Rattle.df_opening.specs.Below.{RunningCheckpoint, DataFile, running_state, running_of, RunningState, IsCourse, IsLevel, IsRunning, State, grid_with}
 use Rattle.df_replica.specs.Stepping.{OfRunning}
 
 -- the checkpoint that runs is the one that was taken
@@ -16,9 +16,13 @@ of_running P s x o running at of same is =
 pub taken_runs : (file : DataFile) (f : SuperFields) (head : ℕ) (b : Blocks) (o : Option RunningCheckpoint) (running : RunningCheckpoint) → o ≡ Some running → IsCourse file f head b (running_of o) → IsRunning file f head b (running_state running)
 taken_runs file f head b o running at is = subst (λ (q : Option RunningCheckpoint). IsCourse file f head b (running_of q)) at is
 
+-- what it captured goes with the head
+pub taken_level : (head : ℕ) (checksum : List ℕ) (o : Option RunningCheckpoint) (running : RunningCheckpoint) → o ≡ Some running → IsLevel head checksum (running_of o) → IsLevel head checksum (Some (running_state running))
+taken_level head checksum o running at is = subst (λ (q : Option RunningCheckpoint). IsLevel head checksum (running_of q)) at is
+
 -- the grid of the file
-pub grid_is : (file : DataFile) (grid : GridState) → grid.layout ≡ file.layout → grid.cluster ≡ file.cluster → grid.boot ≡ 0 → grid ≡ grid_with file grid.blocks
-grid_is file grid layout cluster boot = λ i. record { layout = layout i; cluster = cluster i; boot = boot i; blocks = grid.blocks }
+pub grid_is : (file : DataFile) (grid : GridState) → grid.layout ≡ file.layout → grid.cluster ≡ file.cluster → grid ≡ grid_with file grid.boot grid.blocks
+grid_is file grid layout cluster = λ i. record { layout = layout i; cluster = cluster i; boot = grid.boot; blocks = grid.blocks }
 
 -- a trailer block more
 pub running_on : (file : DataFile) (f : SuperFields) (head : ℕ) (b : Blocks) (r : RunningState) (sum : ℕ) → IsRunning file f head b r → (b.left ≡ [] → ⊥) → IsRunning file f head (next_written b sum) (record r { written = r.written + 1 })

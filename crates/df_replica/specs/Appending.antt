@@ -1,5 +1,5 @@
 -- An append of a replica: what it makes, what it asks of the disk, and the state that it leads to. No state of the machine is in sight.
-use Rattle.std.specs.Prelude.{◌≡◌, ◌⊎◌, ◌<◌, ◌≤◌, ◌+◌, ◌/◌, ◌%◌, ◌^◌, ℕ, List, [], ◌∷◌, ◌++◌, length, Option, Some, None, IsSome, Result, Ok, Err, IfOk}
+use Rattle.std.specs.Prelude.{◌≡◌, ◌⊎◌, ◌<◌, ◌≤◌, ◌+◌, ◌/◌, ◌%◌, ◌^◌, ℕ, List, [], ◌∷◌, ◌++◌, length, Option, Some, None, IsSome, Result, Ok, Err, IfOk, true}
 use Rattle.df_base.specs.Log.{Event}
 use Rattle.df_base.specs.declared.Failed.{Failed}
 use Rattle.df_layout.specs.declared.layout.Layout.{Layout}
@@ -66,6 +66,10 @@ header_given s client request = record (blank_header AsPrepare s.file.cluster) {
   mark = s.replies;
   checkpoint = s.fields.sequence;
   slot = (s.head + 1) % s.file.layout.slots;
+  version = 2;
+  boot = s.fields.boot;
+  group = s.head + 1;
+  group_last = s.head + 1;
 }
 
 -- the next prepare
@@ -111,6 +115,7 @@ pub record MayNote (s : State) (client asked : ℕ) : Type 0 where
 
 -- an append that isn't refused, as far as the code needs it
 pub record MayNext (s : State) (client asked size : ℕ) : Type 0 where
+  pub live : s.live ≡ true
   pub note : MayNote s client asked
   pub fits : 256 + size ≤ s.file.layout.message_size
   pub first : s.head ≡ 0 → s.head_checksum ≡ no_checksum

@@ -4,15 +4,16 @@ use Rattle.std.specs.List.{slice_get}
 use Rattle.df_base.specs.Log.{Log, Sync, add}
 use Rattle.df_base.specs.Moments.{Extends}
 use Rattle.df_disk.specs.Told.{Told}
-use Rattle.df_opening.specs.Below.{FindsHad, IsTheOne, WasWritten, DataFile, Represents, State, memory, shape}
+use Rattle.df_opening.specs.Below.{FindsHad, IsTheOne, WasWritten, DataFile, Represents, State, memory, shape, spelling}
 use Rattle.df_model.specs.Blocks.{sum_at}
 use Rattle.df_model.specs.Commands.{Answer, Command, Given, ReadBlock, ReadPrepare, ReadReply, ToReadBlock, ToReadPrepare, ToReadReply}
 use Rattle.df_model.specs.Memory.{prepare_sum, reply_sum}
-use Rattle.df_model.specs.Work.{Work, kept, opened}
+use Rattle.df_model.specs.Sense.{IsWork}
+use Rattle.df_model.specs.Work.{Work, kept, opened, raised}
 use Rattle.df_theory.specs.Device.{NoChanceOf, units_log}
 use Rattle.df_theory.specs.Sessions.{Answers}
 use Rattle.df_theory.specs.Tails.{In}
-use Rattle.df_theory.specs.Units.{Block, BlockPlace, BlockUnit, Message, PreparePlace, PrepareUnit, ReplyPlace, ReplyUnit, Session}
+use Rattle.df_theory.specs.Units.{Block, BlockPlace, BlockUnit, Content, Message, PreparePlace, PrepareUnit, ReplyPlace, ReplyUnit, Session}
 use Rattle.df_theory.specs.View.{View, sessions}
 use Rattle.df_units.specs.Bytes.{unit_at}
 use Rattle.df_replica.specs.BlockReads.{IsReadBlock}
@@ -63,11 +64,12 @@ CallIsTheOne =
 abbrev pub KeptIsWritten : Type 0
 KeptIsWritten = (g : Grade) (s : State) (w : Work) (log : Log) → IsKept g s w log → IsWrittenFor s.file log w
 
--- that which an open found on a disk that may be hurt, however the log goes on behind its barrier
+-- that behind the boot update of what an open found on a disk that may be hurt, with a superblock with which it makes sense, however the log goes on behind its barrier
 abbrev pub OpenedIsWrittenFor : Type 0
 OpenedIsWrittenFor =
-    (file : DataFile) (view : View) (t : Told) (s : State) (later : Log) → (finds : FindsHad file view t s) → Extends later (add Sync t.log)
-    → IsWrittenFor s.file later (opened (shape file) (unit_at file.layout file.cluster t.shown) finds.found)
+    (file : DataFile) (view : View) (t : Told) (s : State) (later : Log) (d : Content) → (finds : FindsHad file view t s) → Extends later (add Sync t.log)
+    → IsWork (shape s.file) (spelling s.file) (raised (opened (shape file) (unit_at file.layout file.cluster t.shown) finds.found) d)
+    → IsWrittenFor s.file later (raised (opened (shape file) (unit_at file.layout file.cluster t.shown) finds.found) d)
 
 -- ---- so what a read gives is the view's own
 

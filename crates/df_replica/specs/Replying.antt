@@ -1,5 +1,5 @@
 -- A reply of a replica: what it makes, what it asks of the disk, and the state that it leads to. No state of the machine is in sight.
-use Rattle.std.specs.Prelude.{◌≡◌, ◌<◌, ◌≤◌, ◌+◌, ℕ, List, [], ◌∷◌, drop, Option, Some, None, Result, Ok, Err}
+use Rattle.std.specs.Prelude.{◌≡◌, ◌<◌, ◌≤◌, ◌+◌, ℕ, List, [], ◌∷◌, drop, Option, Some, None, Result, Ok, Err, true}
 use Rattle.std.specs.List.{slice_get}
 use Rattle.df_base.specs.Log.{Event, Sync, Write}
 use Rattle.df_layout.specs.Spans.{span_of}
@@ -46,6 +46,8 @@ reply_given s = record (blank_header AsReply s.file.cluster) {
   mark = s.head;
   checkpoint = s.fields.sequence;
   slot = place_waiting s;
+  version = 2;
+  boot = s.fields.boot;
 }
 
 -- the next reply
@@ -69,6 +71,7 @@ replied s h = record s {
 
 -- a reply that isn't refused, as far as the code needs it
 pub record MayReplyNext (s : State) (size : ℕ) : Type 0 where
+  pub live : s.live ≡ true
   pub waits : s.replies < s.head
   pub fits : 256 + size ≤ s.file.layout.message_size
 

@@ -36,7 +36,7 @@ with_scrub s scrub = record s { tour = scrub.tour; findings = scrub.findings }
 
 -- what a step answers, with the state after it: the scrubber's step over the grid, and nothing else moved; after a fault the replica isn't live, and that alone changed
 abbrev pub IsScrub : (s t : State) → Option Told → Result Scrubbed Failed → Type 0
-IsScrub s t told (Ok answer) = (t ≡ with_scrub s (scrub_of t)) × IsStep (grid_with s.file s.blocks) (scrub_of s) (scrub_of t) told answer
+IsScrub s t told (Ok answer) = (t ≡ with_scrub s (scrub_of t)) × IsStep (grid_with s.file s.boot s.blocks) (scrub_of s) (scrub_of t) told answer
 IsScrub s t told (Err e) = t ≡ stopped s
 
 -- ---- a whole tour

@@ -8,7 +8,6 @@ use Rattle.df_layout.specs.declared.damage.Class.{Class}
 use Rattle.df_layout.specs.declared.places.Place.{Place}
 use Rattle.df_format.specs.declared.superblock.SuperFields.{SuperFields}
 use Rattle.df_format.specs.Copies.{content_with}
-use Rattle.df_format.specs.First.{blank_super}
 use Rattle.df_format.specs.Message.{Message}
 use Rattle.df_theory.specs.Units
 use Rattle.df_units.specs.Meaning.{number_of}
@@ -23,7 +22,7 @@ use Rattle.df_model.specs.declared.answers.Progress.{Progress}
 use Rattle.df_model.specs.declared.answers.Progress.TheVariants.{Working, Done}
 use Rattle.df_model.specs.declared.errors.StepError.{StepError}
 use Rattle.df_model.specs.declared.errors.StepError.TheVariants as step
-use Rattle.df_opening.specs.Below.{DataFile, RunningState, State, captured_text, grid_with}
+use Rattle.df_opening.specs.Below.{RunningState, State, captured_text, grid_with, recorded}
 use Rattle.df_replica.specs.Stopping.{stopped}
 
 -- a fact of the running checkpoint
@@ -35,7 +34,7 @@ OfRunning (Some r) P = P r
 
 -- the next one, over the next piece of the text
 abbrev pub trailer_unit : State → RunningState → Message
-trailer_unit s r = next_unit (grid_with s.file s.blocks) r.sequence (piece_of (s.file.layout.block_size - 256) r.written (captured_text s.file s.blocks r))
+trailer_unit s r = next_unit (grid_with s.file s.boot s.blocks) r.sequence (piece_of (s.file.layout.block_size - 256) r.written (captured_text s.file s.blocks r))
 
 -- it is written, without a sync
 abbrev pub block_events : State → RunningState → List Event
@@ -46,7 +45,7 @@ block_sum s r = number_of (trailer_unit s r).header.checksum
 
 -- in the machine's words, with this checksum
 abbrev pub block_to_write : State → RunningState → (sum : ℕ) → Units.Block
-block_to_write s r sum = next_block (grid_with s.file s.blocks) r.sequence (piece_of (s.file.layout.block_size - 256) r.written (captured_text s.file s.blocks r)) sum
+block_to_write s r sum = next_block (grid_with s.file s.boot s.blocks) r.sequence (piece_of (s.file.layout.block_size - 256) r.written (captured_text s.file s.blocks r)) sum
 
 -- the state with a trailer block more
 abbrev pub advanced : State → RunningState → State
@@ -54,22 +53,20 @@ advanced s r = record s { blocks = next_written s.blocks (block_sum s r); runnin
 
 -- ---- the last step
 
--- what a superblock says of a checkpoint, where its trailer ends with this block
-abbrev pub fields_for : DataFile → RunningState → (head replies address : ℕ) → List ℕ → SuperFields
-fields_for file r head replies address checksum = record (blank_super file.layout file.cluster) {
+-- a superblock with what a checkpoint captured, where its trailer ends with this block
+abbrev pub captured_fields : SuperFields → RunningState → (address : ℕ) → List ℕ → SuperFields
+captured_fields f r address checksum = record f {
   sequence = r.sequence;
   op = r.op;
   op_checksum = r.op_checksum;
-  head = head;
-  replies = replies;
   trailer_address = address;
   trailer_checksum = checksum;
   trailer_size = r.size;
 }
 
--- what the one that ends it says: the checkpoint reaches the op that was captured, and the head and the replies are those of the moment
+-- what the one that ends it says: the checkpoint reaches the op that was captured, and the state is that of the moment
 abbrev pub next_fields : State → RunningState → SuperFields
-next_fields s r = fields_for s.file r s.head s.replies (first_address s.blocks.written) (spelled 16 (first_sum s.blocks.written))
+next_fields s r = recorded s (captured_fields s.fields r (first_address s.blocks.written) (spelled 16 (first_sum s.blocks.written)))
 
 -- a sync, which makes all that was written durable, and then the four copies
 abbrev pub last_events : State → RunningState → List Event

@@ -67,6 +67,10 @@ impl Replica {
             mark: self.parts.replies,
             checkpoint: self.parts.content.fields().sequence,
             slot: ((self.parts.head + 1) % u64::from(self.parts.file.layout.slots)) as u32,
+            version: 2,
+            boot: self.parts.content.fields().boot,
+            group: self.parts.head + 1,
+            group_last: self.parts.head + 1,
             ..Header::of(Kind::Prepare, self.parts.file.cluster)
         }
     }

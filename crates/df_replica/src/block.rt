@@ -75,7 +75,7 @@ impl Replica {
     // The address of the next block, or why none is written.
     fn address_for(&self, kind: u8, size: u64) -> Result<u64, BlockError>
         ensures why { (body : List ℕ) → size ≡ length body → result ≡ address_or (first_refusal (block_refusals (memory self.now) kind body)) (next_address (memory self.now)) }
-        ensures free { IfOk result (IsUnheld (grid_with self.now.file self.now.blocks)) }
+        ensures free { IfOk result (IsUnheld (grid_with self.now.file self.now.boot self.now.blocks)) }
         ensures state { IsState self.now }
     {
         let layout = &self.parts.file.layout;
@@ -96,6 +96,8 @@ impl Replica {
         Header {
             op: address,
             block_kind: kind,
+            version: 2,
+            boot: self.parts.content.fields().boot,
             ..Header::of(Kind::Block, self.parts.file.cluster)
         }
     }

@@ -21,7 +21,7 @@ mod surveyed;
 pub use block_laws::held_blocks_are_shown;
 pub use df_layout::Finding;
 pub use df_model::{
-    AppendError, BeginError, BlockError, FormatError, LookupError, NotLive, OpenError,
+    AppendError, BeginError, BlockError, FormatError, LookupError, MendError, NotLive, OpenError,
     PrepareError, Progress, ReadError, Receipt, ReplyError, Scrubbed, StepError, Verdict,
 };
 pub use df_opening::{

@@ -120,6 +120,8 @@ impl Replica {
             mark: self.parts.head,
             checkpoint: self.parts.content.fields().sequence,
             slot: place as u32,
+            version: 2,
+            boot: self.parts.content.fields().boot,
             ..Header::of(Kind::Reply, self.parts.file.cluster)
         }
     }

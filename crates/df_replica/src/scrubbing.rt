@@ -41,7 +41,7 @@ impl Replica {
     pub fn scrub<D: Disk>(&mut self, disk: &mut D) -> Result<&[Finding], Failed>
         requires live { self.old.live ≡ true }
         ensures* after { sem 𝓛 (Rests the_row self.entry (λ s. LeavesTour (λ list. list.now) self.entry.now s result)) }
-        ensures exact { IfOk result (λ list. ListsFailing (grid_with self.old.file self.old.blocks) (D.told disk.old) list.now) }
+        ensures exact { IfOk result (λ list. ListsFailing (grid_with self.old.file self.old.boot self.old.blocks) (D.told disk.old) list.now) }
         ensures call { IfOk result (λ list. ServesTour self.old (D.told disk.old) list.now) }
         ensures same { D.told disk.new ≡ D.told disk.old }
         ensures cause { HasCause (D.faults disk.old) (D.faults disk.new) result }

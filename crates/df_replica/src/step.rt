@@ -3,7 +3,7 @@
 ghost use Rattle.std.specs.Prelude.{◌≡◌, true, length, OnErr, OnOk};
 ghost use Rattle.df_replica.specs.Below.{HasCause, IsBlamed, spelled, Adds, IsCheck, fault_of, update_events, AreStepsOfCopies, update_steps, AreSteps, block_steps, first_sum, format_of, block_of, number_of, put_copies, Advance, ToAdvance, is_step_fault, running_state, IsState};
 ghost use Rattle.df_replica.specs.Answering.{Serves, answer_of, is_step_unanswered};
-ghost use Rattle.df_replica.specs.Stepping.{IsMade, IsStep, MayAdvance, MayFinish, OfRunning, advanced, block_events, block_sum, block_to_write, fields_for, finished, trailer_unit, next_fields, pending};
+ghost use Rattle.df_replica.specs.Stepping.{IsMade, IsStep, MayAdvance, MayFinish, OfRunning, advanced, block_events, block_sum, block_to_write, finished, trailer_unit, captured_fields, next_fields, pending};
 
 use crate::Replica;
 use crate::reply::as_check;
@@ -16,15 +16,13 @@ use df_model::{Progress, StepError};
 use df_opening::{DataFile, RunningCheckpoint};
 use df_superblock::{UpdateError, update};
 
-// What a superblock says of a checkpoint whose trailer ends with a block.
-fn fields_for(
-    file: &DataFile,
+// A superblock with what a checkpoint captured whose trailer ends with a block.
+fn captured_fields(
+    fields: &SuperFields,
     running: &RunningCheckpoint,
     last: Reference,
-    head: u64,
-    replies: u64,
 ) -> SuperFields
-    ensures fields { result ≡ fields_for file.now (running_state running.now) head replies last.address last.checksum }
+    ensures fields { result ≡ captured_fields fields.now (running_state running.now) last.address last.checksum }
     ensures check { IsCheck last.checksum }
 {
     let trailer_checksum = as_check(last.checksum);
@@ -32,12 +30,10 @@ fn fields_for(
         sequence: running.capture.sequence,
         op: running.op,
         op_checksum: running.op_checksum,
-        head,
-        replies,
         trailer_address: last.address,
         trailer_checksum,
         trailer_size: running.size,
-        ..SuperFields::of(&file.layout, file.cluster)
+        ..*fields
     }
 }
 
@@ -142,13 +138,10 @@ impl Replica {
         let Some(last) = self.parts.grid.trailer() else {
             unreachable!()
         };
-        fields_for(
-            &self.parts.file,
-            running,
-            last,
-            self.parts.head,
-            self.parts.replies,
-        )
+        // The sessions are a table of the file.
+        let _count = self.parts.sessions.len();
+        let fields = captured_fields(self.parts.content.fields(), running, last);
+        self.parts.recorded(fields)
     }
 
     // The superblock that ends the checkpoint.
@@ -184,6 +177,8 @@ impl Replica {
         };
         let RunningCheckpoint { capture, .. } = running;
         let Capture { root, .. } = capture;
+        // Its fields obey their rules.
+        let _fields = content.fields();
         self.parts.root = root;
         self.parts.content = content;
         self.parts.grid.finish();

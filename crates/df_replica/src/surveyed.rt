@@ -1,13 +1,15 @@
 // A file that was surveyed: its state, and what is to be mended before calls may work on it.
 ghost use Rattle.std.specs.Prelude.{◌≡◌, IfOk, IfErr, Some, slice_get};
-ghost use Rattle.df_replica.specs.Below.{HasCause, EachMoment, IsBlamed, Syncs, TellsHurt, Told, Adds, is_open_fault, told_after, AreSteps, View, shape};
+ghost use Rattle.df_theory.specs.Found.{IsFound};
+ghost use Rattle.df_units.specs.Bytes.{unit_at};
+ghost use Rattle.df_replica.specs.Below.{AreDistinct, AreSteps, IsBlamed, IsImage, Represents, Syncs, TellsHurt, Told, View, begun, boot_fields, is_mend_fault, is_open_fault, shape, without_rooms};
 ghost use Rattle.df_replica.specs.Replica.{summary_of};
-ghost use Rattle.df_opening.specs.Mending.{IsMended, IsPlanned, RestsOnDisk, live_state, mending_events, mending_steps};
-ghost use Rattle.df_opening.specs.Keeping.{Grade, IsGoodFor, format};
+ghost use Rattle.df_opening.specs.Mending.{AddsRaising, IsPlanned, IsReadBack, IsUnharmed, RestsOnDisk, first_state, raised_state};
+ghost use Rattle.df_opening.specs.Raising.{IsPlannedOf, RaisesAnew, RaisesOver, opening_events, opening_steps};
+ghost use Rattle.df_opening.specs.Keeping.{Grade, format};
 ghost use Rattle.df_opening.specs.Surveying.{TellsMends, TellsSurvey, state_of};
 
-use crate::{OpenError, Replica, Rooms};
-use df_base::Failed;
+use crate::{MendError, OpenError, Replica, Rooms};
 use df_disk::Disk;
 use df_layout::Mend;
 use df_model::Summary;
@@ -79,22 +81,23 @@ impl Surveyed {
         parts.into_rooms()
     }
 
-    /// Mends what `to_mend` lists, and hands out the replica: header sectors first, each needed one once, then one sync,
-    /// where there was such a sector, then the copies, each durable before the next one. A stop at any moment leaves the
-    /// state that was found, by each log on which the plan rests, and so does a fault; the rooms come back with it.
-    pub fn mend<D: Disk>(self, disk: &mut D) -> Result<Replica, (Rooms, Failed)>
-        ensures state { IfOk result (λ replica. replica ≡ live_state self.state) }
+    /// Mends what `to_mend` lists, raises the boot, and hands out the replica: header sectors first, each needed one once, then one
+    /// sync, where there was such a sector, then the copies that aren't members of the choice, each durable before the next one; and
+    /// behind that the copies 0, 1, 2 and 3 of a superblock with the next boot, which records the state as it was found. A stop at any
+    /// moment leaves that state with the boot of before or with the next one, and so does a fault, by each log on which the plan
+    /// rests; by one that is begun anew at what is shown, whatever the copies showed. The rooms come back with an error.
+    pub fn mend<D: Disk>(self, disk: &mut D) -> Result<Replica, (Rooms, MendError)>
+        ensures state { IfOk result (λ replica. replica ≡ raised_state self.state) }
         ensures rooms { IfErr result (λ refused. refused.0.layout ≡ self.state.file.layout) }
-        ensures events { Adds (mending_events self.state.file.layout self.state.headers self.mends self.state.fields self.chosen.members) (D.told disk.old) (D.told disk.new) result }
-        ensures steps { AreSteps (format self.state.file) (mending_events self.state.file.layout self.state.headers self.mends self.state.fields self.chosen.members)
-            (mending_steps self.state.file.layout self.state.headers self.mends self.state.fields self.chosen.members) }
-        ensures moments { (base : Told) (g : Grade) (view : View)
-            → IsPlanned self.state.file self.state.headers self.mends self.state.fields self.chosen.members base → RestsOnDisk g self.state.file view base
-            → EachMoment base.log (told_after (mending_events self.state.file.layout self.state.headers self.mends self.state.fields self.chosen.members) base).log (IsGoodFor g (format self.state.file) (shape self.state.file) view view) }
-        ensures mended { (base : Told) (g : Grade) (view : View)
-            → IsPlanned self.state.file self.state.headers self.mends self.state.fields self.chosen.members base → RestsOnDisk g self.state.file view base
-            → IsMended g self.state.file view self.state.headers (told_after (mending_events self.state.file.layout self.state.headers self.mends self.state.fields self.chosen.members) base) }
-        ensures cause { HasCause (D.faults disk.old) (D.faults disk.new) result }
+        ensures events { AddsRaising (opening_events self) (D.told disk.old) (D.told disk.new) (without_rooms result) }
+        ensures steps { AreSteps (format self.state.file) (opening_events self) (opening_steps self) }
+        ensures read_back { IsReadBack (boot_fields self.state) (D.told disk.new) (without_rooms result) }
+        ensures unharmed { IsUnharmed (D.told disk.new) (without_rooms result) }
+        ensures over { (base : Told) (g : Grade) (view : View) → IsPlannedOf self base → RestsOnDisk g self.state.file view base
+            → Represents self.state (first_state self.state.file base view) → RaisesOver g view self base }
+        ensures anew { (base : Told) (view : View) → IsPlannedOf self (begun base) → IsImage base.shown → IsFound (shape self.state.file) (unit_at self.state.file.layout self.state.file.cluster base.shown) view
+            → AreDistinct (unit_at self.state.file.layout self.state.file.cluster base.shown) → Represents self.state (first_state self.state.file base view) → RaisesAnew view self (begun base) }
+        ensures cause { IsBlamed is_mend_fault (D.faults disk.old) (D.faults disk.new) (without_rooms result) }
     {
         let Surveyed { found } = self;
         match mend_file(disk, found) {

@@ -4,4 +4,5 @@ pub mod Supplied
 pub mod Agreed
 pub mod Folds
 pub mod OneMore
+pub mod BegunWorks
 pub mod Laws

@@ -1,5 +1,5 @@
 -- A call answers and leaves what the machine does over what is shown.
-use Rattle.std.proofs.Common.{◌≡◌, inl, ℕ, Option, Some, None, refl, sym, ◌∙◌, ap, subst}
+use Rattle.std.proofs.Common.{◌≡◌, inr, ℕ, Option, Some, None, refl, sym, ◌∙◌, ap, subst}
 use Rattle.df_base.specs.Image.{Image, IsImage}
 use Rattle.df_disk.specs.Told.{Told}
 use Rattle.df_theory.specs.Units.{AnyUnit, BlockPlace, CopyPlace, HeaderPlace, Place, PreparePlace, ReplyPlace, Units, or_else, overlay}
@@ -102,8 +102,7 @@ supplied_is_result s w t command given rep supplied sum =
 of_file : (s : State) (w : Work) → Keeps Firm s w None → IsOfFile s.file (memory s).content
 of_file s w k =
     let tests : PassesTests (shape s.file) (memory s).content = subst (PassesTests (shape s.file)) (sym (ap (λ (m : Memory). m.content) k.1)) k.0.view.checkpoint.tests in
-    let first = tests.version ∙ k.0.version.version in
-    record { version = inl (first, (tests.of.one first).0); layout = tests.layout; cluster = tests.cluster; rest = tests.rest }
+    record { version = inr (tests.version ∙ k.0.version.version); layout = tests.layout; cluster = tests.cluster; rest = tests.rest }
 
 module _ (given : Given) (command : Command) (s u : State) (t : Told) (new : Option Told) (answer : Answer) (w : Work) (shown : Shown) (call : IsCall given command s u (Some t) new (Some answer)) (k : Keeps Firm s w None)
     (whole : IsImage t.shown) (agree : AgreeShown s.file.layout (shown_of s.file t.shown) shown) where

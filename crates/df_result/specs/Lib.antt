@@ -1,4 +1,5 @@
 pub mod Codec
+pub mod Begun
 pub mod Agreeing
 pub mod Calls
 pub use Rattle.df_replica.specs.Formatting

@@ -6,8 +6,9 @@ use Rattle.df_theory.specs.Units
 use Rattle.df_theory.proofs.Laws.{noted_get}
 use Rattle.df_model.specs.Blocks.{Blocks}
 use Rattle.df_rooms.specs.declared.file.DataFile.{DataFile}
-use Rattle.df_rooms.specs.State.{AreAsked, RunningState, IsCourse}
+use Rattle.df_rooms.specs.State.{AreAsked, IsBooted, IsCourse, IsLevel, RunningState, State}
 pub use Rattle.df_rooms.proofs.SameFile.{same_file}
+pub use Rattle.df_rooms.proofs.Records.{boot_may_record, recorded_content, recorded_is_super}
 
 -- a request that is noted is the last one of its client
 pub asked_noted : (h : Units.Header) (ss : List Units.Session) → AreAsked ss → 0 < h.request → AreAsked (noted h ss)
@@ -34,3 +35,12 @@ course_on file f head later b (Some r) more is = record {
   all = is.all;
   written = is.written;
 }
+
+-- which captured none of what it grew by
+pub level_beyond : (file : DataFile) (f : SuperFields) (head later : ℕ) (checksum : List ℕ) (b : Blocks) (r : Option RunningState) → head < later → IsCourse file f head b r → IsLevel later checksum r
+level_beyond file f head later checksum b None more idle = tt
+level_beyond file f head later checksum b (Some r) more is = λ same. absurd (omega (arith, more, same, is.op_to))
+
+-- the boot in which units are made is some
+pub boot_made : (s : State) → IsBooted s.boot s.fields.boot → 0 < s.fields.boot
+boot_made s booted = omega (arith, booted.boot, booted.some)

@@ -1,5 +1,5 @@
 -- What a replica keeps in memory, live or not: the state that it stands for, its numbers, and how its parts go together.
-use Rattle.std.specs.Prelude.{◌≡◌, false, None, length}
+use Rattle.std.specs.Prelude.{◌≡◌, ◌<◌, ◌^◌, false, None, length}
 use Rattle.df_model.specs.declared.answers.Summary.{Summary}
 use Rattle.df_scrub.specs.Scrubber.{new_scrub}
 use Rattle.df_rooms.specs.Courses.{running_of}
@@ -22,23 +22,25 @@ state_in p = record {
   running = running_of p.running;
   tour = p.scrub.scrubber.tour;
   findings = p.scrub.scrubber.findings;
+  boot = p.grid.boot;
   live = p.live;
 }
 
--- it makes sense, the grid is of the file's cluster and no boot is set, and all rooms are of the file's layout
+-- it makes sense, the grid is of the file's cluster, and all rooms are of the file's layout
 pub record AreWhole (p : Parts) : Type 0 where
   pub state : IsState (state_in p)
   pub rooms_fit : p.rooms.layout ≡ p.file.layout
   pub grid_fits : p.grid.layout ≡ p.file.layout
   pub grid_named : p.grid.cluster ≡ p.file.cluster
-  pub grid_unbooted : p.grid.boot ≡ 0
   pub trailer_fits : p.trailer.layout ≡ p.file.layout
   pub scrub_fits : p.scrub.layout ≡ p.file.layout
 
--- as a survey finds them: no call may be made yet, no checkpoint runs, the tour is at its start, and nothing was found
+-- as a survey finds them: no call may be made yet, the boot can be raised and isn't, no checkpoint runs, the tour is at its start, and nothing was found
 pub record AreFound (p : Parts) : Type 0 where
   pub whole : AreWhole p
   pub dead : p.live ≡ false
+  pub unspent : p.content.boot < 2 ^ 62
+  pub unbooted : p.grid.boot ≡ 0
   pub idle : p.running ≡ None
   pub fresh : p.scrub.scrubber ≡ new_scrub
 

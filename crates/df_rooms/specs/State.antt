@@ -1,9 +1,10 @@
 -- What a replica keeps in memory of its file, and what that is in the words of the machine.
-use Rattle.std.specs.Prelude.{◌≡◌, ◌<◌, ◌≤◌, ◌+◌, ◌-◌, ◌%◌, ◌^◌, ℕ, Bool, List, length, map, slice_get, Option, Some, None}
+use Rattle.std.specs.Prelude.{◌≡◌, ◌<◌, ◌≤◌, ◌+◌, ◌-◌, ◌%◌, ◌^◌, ℕ, Bool, true, List, length, map, slice_get, Option, Some, None}
 use Rattle.std.specs.List.{range_with_len}
 use Rattle.df_format.specs.Copies.{content_with}
 use Rattle.df_format.specs.Spelling.{IsCheck, no_checksum}
-use Rattle.df_format.specs.Super.{no_checksums}
+use Rattle.df_format.specs.Super.{AreChecks}
+use Rattle.df_format.specs.SuperRules.{IsSecondSuper}
 use Rattle.df_format.specs.declared.header.Header.{Header}
 use Rattle.df_format.specs.declared.superblock.SuperFields.{SuperFields}
 use Rattle.df_layout.specs.declared.damage.Finding.{Finding}
@@ -17,6 +18,7 @@ use Rattle.df_theory.specs.Trailer.{IsCount, greatest_trailer}
 use Rattle.df_theory.specs.Units
 use Rattle.df_theory.specs.Units.{Parts}
 use Rattle.df_theory.specs.Shape.{Shape}
+use Rattle.df_units.specs.Superblocks.{AreFieldsOf}
 use Rattle.df_model.specs.Blocks.{Blocks, sum_at}
 use Rattle.df_model.specs.Memory.{Course, Memory, memory_of}
 use Rattle.df_model.specs.Work.{Tour, Work}
@@ -51,7 +53,8 @@ pub record State : Type 0 where
   pub running : Option RunningState
   pub tour : Tour
   pub findings : List Finding
-  pub live : Bool  -- whether calls may go on: not before the file is mended, and not after a fault
+  pub boot : ℕ  -- the boot in which units are made: 0 before the boot update, and then the superblock's
+  pub live : Bool  -- whether calls may go on: not before the boot update, and not after a fault
 
 -- ---- in the words of the machine
 
@@ -122,9 +125,9 @@ shape file = shape_as file.version file.layout file.cluster file.named (parse_of
 abbrev pub Represents : State → Work → Type 0
 Represents s w = memory s ≡ memory_of (shape s.file) (spelling s.file) w
 
--- the grid of the file with these blocks; no boot is set, so its trailer blocks are of version 1
-abbrev pub grid_with : DataFile → Blocks → GridState
-grid_with file b = record { layout = file.layout; cluster = file.cluster; boot = 0; blocks = b }
+-- the grid of the file with these blocks, whose trailer blocks are of this boot
+abbrev pub grid_with : DataFile → (boot : ℕ) → Blocks → GridState
+grid_with file boot b = record { layout = file.layout; cluster = file.cluster; boot = boot; blocks = b }
 
 -- ---- by itself
 
@@ -153,20 +156,30 @@ abbrev pub IsCourse : DataFile → SuperFields → (head : ℕ) → Blocks → O
 IsCourse file f head b None = IsIdle b
 IsCourse file f head b (Some r) = IsRunning file f head b r
 
--- a superblock of version 1: it has no boot, and names neither the head's prepare nor a reply
-pub record IsPlain (f : SuperFields) : Type 0 where
-  pub version : f.version ≡ 1
-  pub boot : f.boot ≡ 0
-  pub head_checksum : f.head_checksum ≡ no_checksum
-  pub reply_checksums : f.reply_checksums ≡ no_checksums
+-- a superblock of a file of version 2: it has a boot, and names the prepare of its head and replies of sessions alone
+pub record IsSecond (file : DataFile) (f : SuperFields) : Type 0 where
+  pub rules : IsSecondSuper f
+  pub of : AreFieldsOf file.layout file.cluster f
+  pub names : AreChecks f.reply_checksums
   pub first_nonzero : f.first_nonzero ≡ None
+
+-- behind a boot update units are made in the superblock's boot
+pub record IsBooted (made superblock : ℕ) : Type 0 where
+  pub boot : made ≡ superblock
+  pub some : 0 < made
+
+-- a running checkpoint that captured the head as it is has that prepare's checksum
+abbrev pub IsLevel : (head : ℕ) → (checksum : List ℕ) → Option RunningState → Type 0
+IsLevel head checksum None = Unit {0}
+IsLevel head checksum (Some r) = head ≡ r.op → checksum ≡ r.op_checksum
 
 -- the state makes sense by itself: its numbers are in their ranges, and the header ring is one of the file
 pub record IsState (s : State) : Type 0 where
   pub cluster : s.file.cluster < 2 ^ 128
   pub parent : IsCheck s.head_checksum
   pub version : s.fields.version ≡ s.file.version
-  pub plain : IsPlain s.fields
+  pub second : IsSecond s.file s.fields
+  pub booted : s.live ≡ true → IsBooted s.boot s.fields.boot
   pub sequence : (0 < s.fields.sequence) × (s.fields.sequence ≤ 2 ^ 62)
   pub root : length s.root ≤ 1024
   pub order : s.fields.op ≤ s.head
@@ -176,6 +189,8 @@ pub record IsState (s : State) : Type 0 where
   pub few : length s.waiting ≤ 8
   pub places : s.table.max ≡ s.file.layout.clients
   pub first : s.head ≡ 0 → s.head_checksum ≡ no_checksum  -- the first prepare has no parent
+  pub level : s.head ≡ s.fields.op → s.head_checksum ≡ s.fields.op_checksum  -- an empty tail ends with the checkpoint's prepare
+  pub captured : IsLevel s.head s.head_checksum s.running
   pub requests : AreNumbered s.table.sessions
   pub asked : AreAsked (sessions_of s.table.sessions)
   pub tracks : Tracks s.replies s.head (sessions_of s.table.sessions)  -- each prepare that waits for its reply is its client's last request

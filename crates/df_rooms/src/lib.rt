@@ -5,6 +5,7 @@ mod file;
 mod grid_rooms;
 mod log_rooms;
 mod parts;
+mod recorded;
 mod rooms;
 mod running;
 mod scrub_rooms;

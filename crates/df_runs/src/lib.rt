@@ -12,8 +12,9 @@ pub use copies::{FRONT, copy};
 pub use df_top::{Status, words_have_one_meaning};
 pub use long::long_session;
 pub use runs::{
-    FORMAT_CALLS, FORMAT_EVENTS, Ran, WordList, blank, disk_behind, made_file, printed,
-    run_failing, run_in, run_script, run_words, small_file, word, words,
+    BOOT_CALLS, BOOT_EVENTS, FIND_CALLS, FORMAT_CALLS, FORMAT_EVENTS, Ran, WordList, blank,
+    disk_behind, made_file, printed, run_failing, run_in, run_script, run_words, small_file, word,
+    words,
 };
 pub use scripts::{lines, ops_of_one};
 pub use served::serve_failing;

@@ -33,6 +33,16 @@ pub const FORMAT_CALLS: u64 = 15;
 /// Events of that format: two writes and a sync, and a write and a sync of each copy.
 pub const FORMAT_EVENTS: u64 = 11;
 
+/// Device calls of an open before what it mends, of a file without a checkpoint: a run reads the four copies to learn the layout; then
+/// come the barrier and the four copies, and of layout small two sectors of headers, 32 prepares and four replies.
+pub const FIND_CALLS: u64 = 47;
+
+/// Device calls of an open's boot update, behind what it mends: a write and a sync of each copy, and the four copies read back.
+pub const BOOT_CALLS: u64 = 12;
+
+/// Events of that update: a write and a sync of each copy.
+pub const BOOT_EVENTS: u64 = 8;
+
 /// Words of a run.
 pub struct WordList {
     list: Vec<String>,

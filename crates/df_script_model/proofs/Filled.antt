@@ -59,7 +59,7 @@ nothing_at (CopyPlace n) = refl
 nothing_at (HeaderPlace n) = refl
 nothing_at (PreparePlace n) = refl
 nothing_at (ReplyPlace n) = refl
-nothing_at (BlockPlace a) = λ i. if sym (none_among a) i then Some (BlockUnit (block_of 0 3000 1 [])) else None
+nothing_at (BlockPlace a) = λ i. if sym (none_among a) i then Some (BlockUnit (block_of 1 3000 1 [])) else None
 
 blank_is : blank ≡ shown_of 0
 blank_is = λ i. record { units = λ place. nothing_at place i; damage = λ place. Blank }

@@ -49,23 +49,23 @@ over k a x y = either (a == k + 1) (is_among k a) x y ∙ ap (λ (b : Bool). if 
 pub live_over : (sh : Shape) (k : ℕ) → with_live (with_blocks sh k) (k + 1) (Some 3000) ≡ with_blocks sh (k + 1)
 live_over sh k = λ i. record (with_blocks sh k) { live = λ a. over k a (Some 3000) None i }
 
-units_at : (k : ℕ) (place : Place) → overlay (put_one (BlockPlace (k + 1)) (BlockUnit (block_of 0 3000 1 []))) (with_units k) place ≡ with_units (k + 1) place
+units_at : (k : ℕ) (place : Place) → overlay (put_one (BlockPlace (k + 1)) (BlockUnit (block_of 1 3000 1 []))) (with_units k) place ≡ with_units (k + 1) place
 units_at k (CopyPlace n) = refl
 units_at k (HeaderPlace n) = refl
 units_at k (PreparePlace n) = refl
 units_at k (ReplyPlace n) = refl
-units_at k (BlockPlace a) = put_at (a == k + 1) (k + 1 == a) (same_test a (k + 1)) (is_among k a) ∙ ap (λ (b : Bool). if b then Some (BlockUnit (block_of 0 3000 1 [])) else None) (one_more k a)
+units_at k (BlockPlace a) = put_at (a == k + 1) (k + 1 == a) (same_test a (k + 1)) (is_among k a) ∙ ap (λ (b : Bool). if b then Some (BlockUnit (block_of 1 3000 1 [])) else None) (one_more k a)
   where
     same_test : (a b : ℕ) → (b == a) ≡ (a == b)
     same_test a b = grind (arith, nat_tests)
 
-    put_at : (p q : Bool) → q ≡ p → (r : Bool) → overlay (λ place. if q then Some (BlockUnit (block_of 0 3000 1 [])) else None) (λ place. if r then Some (BlockUnit (block_of 0 3000 1 [])) else None) (BlockPlace a) ≡ (if p || r then Some (BlockUnit (block_of 0 3000 1 [])) else None)
+    put_at : (p q : Bool) → q ≡ p → (r : Bool) → overlay (λ place. if q then Some (BlockUnit (block_of 1 3000 1 [])) else None) (λ place. if r then Some (BlockUnit (block_of 1 3000 1 [])) else None) (BlockPlace a) ≡ (if p || r then Some (BlockUnit (block_of 1 3000 1 [])) else None)
     put_at true true same r = refl
     put_at true false same r = absurd (cc)
     put_at false true same r = absurd (cc)
     put_at false false same r = refl
 
-pub units_over : (k : ℕ) → overlay (put_one (BlockPlace (k + 1)) (BlockUnit (block_of 0 3000 1 []))) (with_units k) ≡ with_units (k + 1)
+pub units_over : (k : ℕ) → overlay (put_one (BlockPlace (k + 1)) (BlockUnit (block_of 1 3000 1 []))) (with_units k) ≡ with_units (k + 1)
 units_over k = λ i place. units_at k place i
 
 -- ---- the line
@@ -111,5 +111,5 @@ module _ (sh : Shape) (k : ℕ) (room : k < sh.layout.blocks) where
   line_is shown = (λ i. as_answer ToWriteBlock (outcome (none i) w (with_live w (address_is i) (Some 3000)) (address_is i, 3000))) ∙ ap (λ (u : Work). (u, ToWriteBlock (Ok (k + 1, 3000)))) (live_over sh k)
 
   -- and shows the block there
-  pub puts_are : puts_of (memory_of sh (plain sh).spell w) 3000 (WriteBlock 1 []) ≡ put_one (BlockPlace (k + 1)) (BlockUnit (block_of 0 3000 1 []))
-  puts_are = λ i. unless (none i) (put_one (BlockPlace (address_is i)) (BlockUnit (block_of 0 3000 1 [])))
+  pub puts_are : puts_of (memory_of sh (plain sh).spell w) 3000 (WriteBlock 1 []) ≡ put_one (BlockPlace (k + 1)) (BlockUnit (block_of 1 3000 1 []))
+  puts_are = λ i. unless (none i) (put_one (BlockPlace (address_is i)) (BlockUnit (block_of 1 3000 1 [])))

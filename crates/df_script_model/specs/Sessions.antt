@@ -8,9 +8,9 @@ use Rattle.df_theory.specs.Shape.{Shape}
 use Rattle.df_theory.specs.View.{View}
 use Rattle.df_model.specs.Work.{Work, kept, opened}
 use Rattle.df_model.specs.Blocks.{entries}
-use Rattle.df_model.specs.Making.{block_of}
+use Rattle.df_model.specs.Making.{block_of, named_places}
 use Rattle.df_model.specs.Commands.{Advance, Append, Begin, Command, ReadBlock, ReadPrepare, ReadReply, Recent, Release, Reply, Scrub, WriteBlock}
-use Rattle.df_model.specs.Supply.{Codec, Shown, last_shown, last_work, nothing}
+use Rattle.df_model.specs.Supply.{Codec, Shown, begun_from, last_shown, last_work, nothing}
 use Rattle.df_script_model.specs.Script.{printed}
 
 -- ---- the file
@@ -18,7 +18,7 @@ use Rattle.df_script_model.specs.Script.{printed}
 -- a file of cluster 7 in this layout; its trailers aren't read in these sessions
 abbrev pub file : (slots message_size clients block_size blocks : ℕ) → 0 < 7 → 0 < slots → Shape
 file slots message_size clients block_size blocks named some =
-    record { version = 1; cluster = 7; layout = record { slots = slots; message_size = message_size; clients = clients; block_size = block_size; blocks = blocks }; named = named; some = some; parse = λ op text. None }
+    record { version = 2; cluster = 7; layout = record { slots = slots; message_size = message_size; clients = clients; block_size = block_size; blocks = blocks }; named = named; some = some; parse = λ op text. None }
 
 abbrev pub small : 0 < 7 → 0 < 32 → Shape
 small named some = file 32 8192 4 16384 64 named some
@@ -28,7 +28,7 @@ first_view sh = record {
   checkpoint = record {
     content = record {
       checksum = 0;
-      version = 1;
+      version = 2;
       cluster = sh.cluster;
       layout = sh.layout;
       sequence = 1;
@@ -39,8 +39,8 @@ first_view sh = record {
       replies = 0;
       pin = 0;
       pin_checksum = 0;
-      answered = 0;
-      reply_checksums = [];
+      answered = 1;
+      reply_checksums = replicate named_places 0;
       trailer = 0;
       trailer_checksum = 0;
       trailer_size = 0;
@@ -57,9 +57,6 @@ first_view sh = record {
 abbrev pub blank : Shown
 blank = record { units = nothing; damage = λ place. Blank }
 
-abbrev pub first_work : Shape → Work
-first_work sh = opened sh nothing (first_view sh)
-
 -- the size of a trailer's text: root, sessions, a bit for each block and a checksum for each that is referenced
 abbrev pub text_size : Shape → Parts → ℕ
 text_size sh parts = 4 + length parts.root + 4 + 32 * length parts.sessions + (sh.layout.blocks + 7) / 8 + 16 * length (entries parts.references (range_with_len 1 sh.layout.blocks))
@@ -73,6 +70,10 @@ plain sh = record {
   block = λ address b. 3000 + b.sequence + length b.body;
   content = λ c. c.sequence;
 }
+
+-- the state that calls begin with behind the first open, in boot 1
+abbrev pub first_work : Shape → Work
+first_work sh = begun_from sh (plain sh) (opened sh nothing (first_view sh))
 
 abbrev pub session : Shape → List Command → List (List ℕ)
 session sh lines = printed sh (plain sh) blank (first_work sh) lines
@@ -151,7 +152,7 @@ with_blocks sh n = record (first_work sh) { live = λ a. if is_among n a then So
 
 -- and what is shown there
 abbrev pub with_units : ℕ → Units
-with_units n (BlockPlace a) = if is_among n a then Some (BlockUnit (block_of 0 3000 1 [])) else None
+with_units n (BlockPlace a) = if is_among n a then Some (BlockUnit (block_of 1 3000 1 [])) else None
 with_units n place = None
 
 -- n lines that write a block, on a file that was just made: each is answered with the least address that isn't held, which is the next number, and they lead to the state with n live blocks
@@ -186,6 +187,6 @@ ScrubSession =
     → let sh = small named some in
     let codec = plain sh in
     let shown : Shown = record { units = hurt (last_shown sh codec blank (first_work sh) five_blocks).units; damage = λ place. Garbled } in
-    let w = opened sh shown.units (kept (last_work sh codec blank (first_work sh) five_blocks)) in
+    let w = begun_from sh codec (opened sh shown.units (kept (last_work sh codec blank (first_work sh) five_blocks))) in
     printed sh codec shown w (Scrub ∷ Scrub ∷ Scrub ∷ Scrub ∷ Scrub ∷ Scrub ∷ Scrub ∷ Recent ∷ [])
     ≡ codes "checked 1 Sound\n" ∷ codes "checked 2 Garbled\n" ∷ codes "checked 3 Sound\n" ∷ codes "checked 4 Garbled\n" ∷ codes "checked 5 Sound\n" ∷ codes "checked 6 Sound\n" ∷ codes "tour 6 2\n" ∷ codes "recent 2 2 Garbled 4 Garbled\n" ∷ []

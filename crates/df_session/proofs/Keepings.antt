@@ -1,32 +1,54 @@
 -- Calls on an open file keep it.
-use Rattle.std.proofs.Common.{Some, refl}
-use Rattle.df_base.specs.Log.{Sync}
-use Rattle.df_disk.specs.Told.{did}
+use Rattle.std.proofs.Common.{◌≡◌, ◌∙◌, Option, None, Some, ap, refl, subst, sym}
+use Rattle.df_base.specs.Image.{Image, IsImage}
+use Rattle.df_base.specs.Log.{Sync, now}
+use Rattle.df_disk.specs.Told.{Told, did}
+use Rattle.df_theory.specs.Found.{IsFound}
+use Rattle.df_theory.specs.View.{View}
 use Rattle.df_units.specs.Bytes.{unit_at}
-use Rattle.df_model.specs.Work.{opened}
-use Rattle.df_result.specs.Below.{shape, told_after}
-use Rattle.df_result.specs.Serving.{Firm}
-use Rattle.df_result.proofs.Laws.{found_keeps}
+use Rattle.df_model.specs.Work.{Work}
+use Rattle.df_result.specs.Begun.{begun_work}
+use Rattle.df_result.specs.Below.{DataFile, State as Replica, shape, told_after}
+use Rattle.df_result.specs.Following.{MayOpen}
+use Rattle.df_result.specs.Opened.{MendsAll, begun_state}
+use Rattle.df_result.specs.Serving.{Firm, Grade, Keeps, StandsFor}
+use Rattle.df_result.proofs.Laws.{begun_is_work, begun_keeps}
 use Rattle.df_session.specs.Laws.{CallsOnOpenFileKeepIt, made_on}
 use Rattle.df_session.proofs.Acknowledged.{keeps_answered}
-use Rattle.df_session.proofs.Kept.{answers_alone, ends_add, keeps_over, opened_over}
+use Rattle.df_session.proofs.Kept.{OpenedOver, answers_alone, ends_add, keeps_over, opened_over}
 use Rattle.df_session.proofs.Resulted.{opened_answers}
 use Rattle.df_session.proofs.Spared.{spares_blocks}
 
+-- what was opened stands for what the machine begins calls with
+pub begun_here : (t : Told) (s : Replica) (mended : Option Told) (over : MendsAll t s mended) (view : View) → IsImage t.shown → IsFound (shape s.file) (unit_at s.file.layout s.file.cluster t.shown) view
+    → Keeps Firm s (begun_work s.file t.shown view) None
+begun_here t s mended over view whole found =
+    let found_there = subst (λ (f : DataFile). IsFound (shape f) (unit_at f.layout f.cluster t.shown) view) (ap (λ (r : Replica). r.file) over.raised) found in
+    let keeps : Keeps Firm s (begun_state s.file t view s.fields) None =
+    subst (λ (r : Replica). Keeps Firm r (begun_state r.file t view r.fields) None) (sym over.raised) (begun_keeps over.found t view whole (over.opened whole) found_there) in
+    subst (λ (w : Work). Keeps Firm s w None) (begun_is_work t s mended over view whole found) keeps
+
+-- and it is what each base keeps that shows what the disk showed
+pub opened_here : (t : Told) (s : Replica) (mended : Option Told) (over : MendsAll t s mended) → IsImage t.shown → (g : Grade) (view : View) (base : Told) → base.shown ≡ t.shown → MayOpen s.file view base → StandsFor g (unit_at s.file.layout s.file.cluster t.shown) view
+    → OpenedOver g s view (begun_work s.file t.shown view) base (told_after over.mending.events (did Sync base))
+opened_here t s mended over whole g view base same may stands =
+    let shows : now base.log ≡ base.shown = λ i sector. sym (may.honest.shows sector) i in
+    let found = subst (λ (image : Image). IsFound (shape s.file) (unit_at s.file.layout s.file.cluster image) view) (shows ∙ same) may.found in
+    subst (λ (w : Work). OpenedOver g s view w base (told_after over.mending.events (did Sync base))) (begun_is_work t s mended over view whole found) (opened_over t s mended over g view base same may stands)
+
 pub calls_keep : CallsOnOpenFileKeepIt
-calls_keep t s mended found to new acts answers failed calls whole live is_opened = record {
-  answered = λ view is.
-      answers_alone Firm (opened (shape s.file) (unit_at s.file.layout s.file.cluster t.shown) view) s to mended new acts answers failed live (found_keeps s t.shown view whole is_opened is) calls;
-  result = λ view shown is agree.
-      opened_answers s t mended found whole (opened (shape s.file) (unit_at s.file.layout s.file.cluster t.shown) view) (found_keeps s t.shown view whole is_opened is) to new failed shown agree acts answers calls;
-  mends = found.own whole;
+calls_keep t s mended found to new acts answers failed calls whole live = record {
+  stands = λ view is. begun_here t s mended found view whole is;
+  answered = λ view is. answers_alone Firm (begun_work s.file t.shown view) s to mended new acts answers failed live (begun_here t s mended found view whole is) calls;
+  result = λ view shown is agree. opened_answers s t mended found whole (begun_work s.file t.shown view) (begun_here t s mended found view whole is) to new failed shown agree acts answers calls;
+  mends = (found.found, found.raised, found.own whole);
   adds = ends_add s to mended new acts answers failed calls;
-  kept = λ g view base same may stands. (opened_over t s mended found g view base same may stands).kept_for;
+  kept = λ g view base same may stands. (opened_here t s mended found whole g view base same may stands).kept_for;
   keeps = λ g view base same may stands.
-      keeps_over g s (opened (shape s.file) (unit_at s.file.layout s.file.cluster t.shown) view) base (told_after found.mending.events (did Sync base)) live (opened_over t s mended found g view base same may stands)
+      keeps_over g s view (begun_work s.file t.shown view) base (told_after found.mending.events (did Sync base)) live (opened_here t s mended found whole g view base same may stands)
       to mended new acts answers failed calls;
   acknowledged = λ g view base same may stands.
-      keeps_answered s.file g (opened (shape s.file) (unit_at s.file.layout s.file.cluster t.shown) view) (Some (told_after found.mending.events (did Sync base))) (made_on s mended to new acts answers failed calls) refl live
-      (opened_over t s mended found g view base same may stands).kept_for;
-  spares = λ view is. spares_blocks (opened (shape s.file) (unit_at s.file.layout s.file.cluster t.shown) view) (made_on s mended to new acts answers failed calls) live (found_keeps s t.shown view whole is_opened is);
+      keeps_answered s.file g (begun_work s.file t.shown view) (Some (told_after found.mending.events (did Sync base))) (made_on s mended to new acts answers failed calls) refl live
+      (opened_here t s mended found whole g view base same may stands).kept_for;
+  spares = λ view is. spares_blocks (begun_work s.file t.shown view) (made_on s mended to new acts answers failed calls) live (begun_here t s mended found view whole is);
 }

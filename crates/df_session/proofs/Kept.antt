@@ -1,10 +1,10 @@
 -- What calls leave of a disk and of a file, behind an open, by each log that is told of it.
-use Rattle.std.proofs.Common.{◌≡◌, inl, ℕ, true, List, [], ◌∷◌, ◌++◌, append_assoc, Option, Some, None, refl, sym, ◌∙◌, ap, subst}
+use Rattle.std.proofs.Common.{◌≡◌, inl, inr, ℕ, true, List, [], ◌∷◌, ◌++◌, append_assoc, Option, Some, None, refl, sym, ◌∙◌, ap, subst}
 use Rattle.std.proofs.lemmas.List.{append-nil}
 use Rattle.df_base.specs.Image.{Image}
 use Rattle.df_base.specs.Log.{Event, Log, Sync}
 use Rattle.df_base.specs.Moments.{EachMoment, Extends, adds}
-use Rattle.df_base.proofs.Laws.{extends_self, weaker, adds_on, extends_on, either_same}
+use Rattle.df_base.proofs.Laws.{extends_self, weaker, adds_on, extends_on}
 use Rattle.df_disk.specs.Adds.{after_all}
 use Rattle.df_disk.specs.Told.{IsHonest, Told, did}
 use Rattle.df_disk.proofs.Laws.{Goes, after_append, goes_by, honest_did}
@@ -16,14 +16,15 @@ use Rattle.df_theory.specs.Units.{Parts}
 use Rattle.df_theory.specs.View.{View}
 use Rattle.df_units.specs.Bytes.{unit_at}
 use Rattle.df_model.specs.Commands.{Answer}
-use Rattle.df_model.specs.Work.{Work, kept, opened}
+use Rattle.df_model.specs.Views.{KeepsView}
+use Rattle.df_model.specs.Work.{Work, kept}
 use Rattle.df_result.specs.Below.{DataFile, State as Replica, shape, spelling, told_after}
 use Rattle.df_result.specs.Following.{MayOpen}
 use Rattle.df_result.specs.Leaving.{AreSettled, SparesHeld}
-use Rattle.df_result.specs.Opened.{MendsAll, ToldBy}
+use Rattle.df_result.specs.Opened.{MendsAll, ToldBy, begun_state}
 use Rattle.df_result.specs.Serving.{Firm, Grade, IsGoodFor, IsKept, Keeps, KeptFor, StandsFor, Whole, format}
 use Rattle.df_result.specs.Session.{Act, EachIsMidway, HasView, HoldsSome, IsMidway, IsServed, LeavesEither, LeavesView, answers_of, work_after}
-use Rattle.df_result.proofs.Laws.{added_is_told, answered_is_there, fault_stops_them, good_left, good_safe, joined, keeps_alone, nothing_is_served, one_more_is_served}
+use Rattle.df_result.proofs.Laws.{added_is_told, answered_is_there, fault_stops_them, good_left, good_safe, holds_on, joined, keeps_alone, nothing_is_served, one_more_is_served}
 use Rattle.df_session.specs.Keeping.{KeepsFile}
 use Rattle.df_session.specs.Links.{AreCalls, Calls, EndsCalls, events_of, events_to}
 use Rattle.df_session.proofs.Untouched.{settled_told, stay_settled}
@@ -101,32 +102,41 @@ tidy_for : (g : Grade) (sh : Shape) (spell : Parts → List ℕ) (log : UnitLog)
 tidy_for Firm sh spell log w by = by.tidy
 tidy_for Whole sh spell log w by = by.0.tidy
 
--- what an open leaves by a base: the file is kept, each moment since the barrier was good, and no block of the checkpoint is loose
-pub record OpenedOver (g : Grade) (s : Replica) (w : Work) (base n : Told) : Type 0 where
+-- what an open leaves by a base: the file is kept, each moment since the barrier had the view that was found or the state's, and no block of the checkpoint is loose
+pub record OpenedOver (g : Grade) (s : Replica) (view : View) (w : Work) (base n : Told) : Type 0 where
   pub honest : IsHonest n
   pub grew : Extends n.log (did Sync base).log
   pub kept_for : IsKept g s w n.log
-  pub moments : EachMoment (did Sync base).log n.log (IsGoodFor g (format s.file) (shape s.file) (kept w) (kept w))
+  pub moments : EachMoment (did Sync base).log n.log (IsGoodFor g (format s.file) (shape s.file) view (kept w))
+  pub bare : KeepsView view (kept w)
   pub settled : AreSettled s.file n.log w
 
 -- what an open leaves by each base that shows what the disk showed
 pub opened_over : (t : Told) (s : Replica) (mended : Option Told) (over : MendsAll t s mended) (g : Grade) (view : View) (base : Told) → base.shown ≡ t.shown → MayOpen s.file view base
-    → StandsFor g (unit_at s.file.layout s.file.cluster t.shown) view → OpenedOver g s (opened (shape s.file) (unit_at s.file.layout s.file.cluster t.shown) view) base (told_after over.mending.events (did Sync base))
+    → StandsFor g (unit_at s.file.layout s.file.cluster t.shown) view → OpenedOver g s view (begun_state s.file t view s.fields) base (told_after over.mending.events (did Sync base))
 opened_over t s mended over g view base same may stands =
     let n : Told = told_after over.mending.events (did Sync base) in
     let goes = goes_over over.mending.events (did Sync base) in
     let is = over.over g view base same may stands in
+    let at : Image → Work = λ m. begun_state s.file (record { log = base.log; shown = m }) view s.fields in
     record {
       honest = goes.honest (record { shows = may.honest.shows });
       grew = goes.grew;
-      kept_for = subst (λ (m : Image). IsKept g s (opened (shape s.file) (unit_at s.file.layout s.file.cluster m) view) n.log) same is.kept_for;
-      moments = is.moments;
-      settled = subst (λ (m : Image). AreSettled s.file n.log (opened (shape s.file) (unit_at s.file.layout s.file.cluster m) view)) same is.settled;
+      kept_for = subst (λ (m : Image). IsKept g s (at m) n.log) same is.kept_for;
+      moments = subst (λ (m : Image). EachMoment (did Sync base).log n.log (IsGoodFor g (format s.file) (shape s.file) view (kept (at m)))) same is.moments;
+      bare = subst (λ (m : Image). KeepsView view (kept (at m))) same is.bare;
+      settled = subst (λ (m : Image). AreSettled s.file n.log (at m)) same is.settled;
     }
 
-module _ (g : Grade) (s : Replica) (w : Work) (base n0 : Told) (live : s.live ≡ true) (is_opened : OpenedOver g s w base n0) where
-  good_midway : (acts : List Act) (log : Log) → IsGoodFor g (format s.file) (shape s.file) (kept w) (kept w) log → IsMidway s.file g w acts log
-  good_midway acts log is = record { safe = good_safe s.file g (kept w) (kept w) log is; left = λ image left chance. some_first s.file g w acts image (either_same _ (good_left s.file g (kept w) (kept w) log is image left chance)) }
+module _ (g : Grade) (s : Replica) (view : View) (w : Work) (base n0 : Told) (live : s.live ≡ true) (is_opened : OpenedOver g s view w base n0) where
+  good_midway : (acts : List Act) (log : Log) → IsGoodFor g (format s.file) (shape s.file) view (kept w) log → IsMidway s.file g w acts log
+  good_midway acts log is = record {
+    safe = good_safe s.file g view (kept w) log is;
+    left = λ image left chance. some_first s.file g w acts image (elim (good_left s.file g view (kept w) log is image left chance) [
+      | inl found ↦ holds_on g (shape s.file) ((format s.file).unit_at image) view (kept w) is_opened.bare found
+      | inr raised ↦ raised
+    ]);
+  }
 
   -- the moments of the opening, and those behind it
   all_moments : (acts : List Act) (n : Told) → EachIsMidway s.file g w acts (Some n0) (Some n) → EachMoment (did Sync base).log n.log (IsMidway s.file g w acts)

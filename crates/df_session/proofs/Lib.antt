@@ -7,4 +7,5 @@ mod Resulted
 mod Acknowledged
 mod Spared
 mod Keepings
+mod Founds
 pub mod Laws

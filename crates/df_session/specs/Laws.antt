@@ -1,5 +1,5 @@
 -- What is promised of calls on a file that was opened, whatever they are.
-use Rattle.std.specs.Prelude.{◌≡◌, true, List, [], Option, Some}
+use Rattle.std.specs.Prelude.{◌≡◌, true, List, [], Option, None, Some}
 use Rattle.df_base.specs.Image.{IsImage}
 use Rattle.df_base.specs.Log.{Sync}
 use Rattle.df_disk.specs.Adds.{after_all}
@@ -9,11 +9,12 @@ use Rattle.df_theory.specs.View.{View}
 use Rattle.df_units.specs.Bytes.{unit_at}
 use Rattle.df_model.specs.Commands.{Answer}
 use Rattle.df_model.specs.Supply.{Shown}
-use Rattle.df_result.specs.Below.{IsOpened, State as Replica, shape, told_after}
+use Rattle.df_result.specs.Below.{State as Replica, shape, told_after}
 use Rattle.df_result.specs.Following.{MayOpen}
-use Rattle.df_result.specs.Opened.{AreMending, Mends, MendsAll, first_state}
+use Rattle.df_result.specs.Begun.{begun_work}
+use Rattle.df_result.specs.Opened.{AreRaising, Mends, MendsAll, raised_state}
 use Rattle.df_result.specs.Reading.{shown_of}
-use Rattle.df_result.specs.Serving.{Grade, IsKept, StandsFor}
+use Rattle.df_result.specs.Serving.{Firm, Grade, IsKept, Keeps, StandsFor}
 use Rattle.df_result.specs.Session.{Act, answers_of}
 use Rattle.df_result.specs.Agreeing.{AgreeShown}
 use Rattle.df_session.specs.Acknowledging.{KeepsAnswered}
@@ -22,23 +23,24 @@ use Rattle.df_session.specs.Links.{CallsMade, EndsCalls, events_made}
 use Rattle.df_session.specs.Resulting.{AnswersResult}
 use Rattle.df_session.specs.Sparing.{SparesBlocks}
 
--- The calls were made on a file that was found in what the disk showed, and mended. On whatever image: the mending is its own device calls alone, as each of the calls is; the answers
--- are the machine's, and a function of what was shown; what is told is what the calls added; no call writes a sector of a block that is held, but a step those of the running trailer's next. By each log that shows what was shown, and by which
+-- The calls were made on a file that was found in what the disk showed, mended and raised. On whatever image: the mending and the boot update are their own device calls alone, as each of the calls is; the answers
+-- are the machine's, from the state behind the boot update on, for which the replica stands, and a function of what was shown; what is told is what the calls added; no call writes a sector of a block that is held, but a step those of the running trailer's next. By each log that shows what was shown, and by which
 -- the file may be opened, the told one or one that is begun anew there: the file is kept at the open, at the end all that was answered is there, and so it is at each moment from its
 -- answer on.
 pub record CallsKeep (t : Told) (s : Replica) (mended : Option Told) (mending : Mends s.file (Some (did Sync t)) mended) (c : CallsMade) : Type 0 where
-  pub answered : (view : View) → IsFound (shape s.file) (unit_at s.file.layout s.file.cluster t.shown) view → c.answers ≡ answers_of s.file (first_state s.file t view) c.acts
+  pub stands : (view : View) → IsFound (shape s.file) (unit_at s.file.layout s.file.cluster t.shown) view → Keeps Firm s (begun_work s.file t.shown view) None
+  pub answered : (view : View) → IsFound (shape s.file) (unit_at s.file.layout s.file.cluster t.shown) view → c.answers ≡ answers_of s.file (begun_work s.file t.shown view) c.acts
   pub result : (view : View) (shown : Shown) → IsFound (shape s.file) (unit_at s.file.layout s.file.cluster t.shown) view → AgreeShown s.file.layout (shown_of s.file t.shown) shown
-      → AnswersResult s.file shown (first_state s.file t view) c.acts c.answers
-  pub mends : AreMending t s mending.events
+      → AnswersResult s.file shown (begun_work s.file t.shown view) c.acts c.answers
+  pub mends : (found : Replica) × (s ≡ raised_state found) × AreRaising t found mending.events
   pub adds : c.new ≡ after_all (events_made c) mended
   pub kept : (g : Grade) (view : View) (base : Told) → base.shown ≡ t.shown → MayOpen s.file view base → StandsFor g (unit_at s.file.layout s.file.cluster t.shown) view
-      → IsKept g s (first_state s.file t view) (told_after mending.events (did Sync base)).log
+      → IsKept g s (begun_work s.file t.shown view) (told_after mending.events (did Sync base)).log
   pub keeps : (g : Grade) (view : View) (base : Told) → base.shown ≡ t.shown → MayOpen s.file view base → StandsFor g (unit_at s.file.layout s.file.cluster t.shown) view
-      → KeepsFile s.file g (first_state s.file t view) base c.acts c.answers c.failed (over mending.events (events_made c) base)
+      → KeepsFile s.file g (begun_work s.file t.shown view) base c.acts c.answers c.failed (over mending.events (events_made c) base)
   pub acknowledged : (g : Grade) (view : View) (base : Told) → base.shown ≡ t.shown → MayOpen s.file view base → StandsFor g (unit_at s.file.layout s.file.cluster t.shown) view
-      → KeepsAnswered s.file g (first_state s.file t view) (over mending.events [] base) c
-  pub spares : (view : View) → IsFound (shape s.file) (unit_at s.file.layout s.file.cluster t.shown) view → SparesBlocks s.file (first_state s.file t view) c
+      → KeepsAnswered s.file g (begun_work s.file t.shown view) (over mending.events [] base) c
+  pub spares : (view : View) → IsFound (shape s.file) (unit_at s.file.layout s.file.cluster t.shown) view → SparesBlocks s.file (begun_work s.file t.shown view) c
 
 -- these calls, made on what an open found and mended
 abbrev pub made_on : (s : Replica) (mended : Option Told) (to : Replica) (new : Option Told) (acts : List Act) (answers : List Answer) (failed : Option Act) → EndsCalls s to mended new acts answers failed → CallsMade
@@ -47,4 +49,4 @@ made_on s mended to new acts answers failed calls = record { from = s; to = to; 
 abbrev pub CallsOnOpenFileKeepIt : Type 0
 CallsOnOpenFileKeepIt =
     (t : Told) (s : Replica) (mended : Option Told) (found : MendsAll t s mended) (to : Replica) (new : Option Told) (acts : List Act) (answers : List Answer) (failed : Option Act) (calls : EndsCalls s to mended new acts answers failed)
-    → IsImage t.shown → s.live ≡ true → IsOpened s.file.layout t.shown s → CallsKeep t s mended found.mending (made_on s mended to new acts answers failed calls)
+    → IsImage t.shown → s.live ≡ true → CallsKeep t s mended found.mending (made_on s mended to new acts answers failed calls)

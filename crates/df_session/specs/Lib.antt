@@ -10,6 +10,7 @@ pub mod Owning
 pub mod Resulting
 pub mod Laws
 pub mod Below
+pub use Rattle.df_result.specs.Begun
 pub use Rattle.df_result.specs.Formatting
 pub use Rattle.df_result.specs.WrittenFor
 pub use Rattle.df_result.specs.Leaving

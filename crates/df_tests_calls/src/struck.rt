@@ -54,10 +54,10 @@ const LIKE_70: Blow = Blow::Struck(Strike::Like { sector: 70 });
 
 const LIKE_72: Blow = Blow::Struck(Strike::Like { sector: 72 });
 
-// Eleven events of the making and the open's sync, four of each append and two of each reply.
-const BEFORE_THE_LAST_APPEND: Blow = Blow::Struck(Strike::Earlier { events: 24 });
+// Eleven events of the making, the open's sync and the eight of its boot update, four of each append and two of each reply.
+const BEFORE_THE_LAST_APPEND: Blow = Blow::Struck(Strike::Earlier { events: 32 });
 
-const BEFORE_THE_LAST_REPLY: Blow = Blow::Struck(Strike::Earlier { events: 28 });
+const BEFORE_THE_LAST_REPLY: Blow = Blow::Struck(Strike::Earlier { events: 36 });
 
 const GARBLED: Option<Class> = Some(Class::Garbled);
 

@@ -37,9 +37,10 @@ fn blocks_of_no_checkpoint_may_be_lost(rt: HostRuntime) -> Result<(), Fail> {
     Ok(())
 }
 
-// The barrier, five blocks, the trailer's block, a sync, and four copies, each with its sync.
+// The barrier, the four copies of the boot update, five blocks, the trailer's block, a sync, and four copies again, each copy with its
+// sync.
 #[test]
-fn a_checkpoint_of_five_blocks_adds_sixteen_events(rt: HostRuntime) -> Result<(), Fail> {
+fn a_checkpoint_of_five_blocks_adds_twenty_four_events(rt: HostRuntime) -> Result<(), Fail> {
     let mut disk = small_file(rt.alloc(), &[])?;
     let events = disk.events();
     let mut script = Vec::from_slice(rt.alloc(), FIVE.as_bytes())?;
@@ -51,6 +52,6 @@ fn a_checkpoint_of_five_blocks_adds_sixteen_events(rt: HostRuntime) -> Result<()
             "wrote 1\nwrote 2\nwrote 3\nwrote 4\nwrote 5\nbegun 1\nworking 1\ndone 2\n"
         )
     );
-    assert_eq!(rt; disk.events().saturating_sub(events), 16);
+    assert_eq!(rt; disk.events().saturating_sub(events), 24);
     Ok(())
 }

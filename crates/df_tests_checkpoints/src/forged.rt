@@ -27,6 +27,7 @@ fn no_op_follows_the_greatest(rt: HostRuntime) -> Result<(), Fail> {
         op: GREATEST,
         op_checksum: [9; 16],
         head: GREATEST,
+        head_checksum: [9; 16],
         replies: GREATEST,
         ..fields
     };

@@ -1,5 +1,5 @@
-// Units of version 2 that a later boot made, in each ring and in a reply slot of a file of version 1: such a file was opened by a
-// program of version 2 behind its superblock, and is refused.
+// Units that a later boot made, in each ring and in a reply slot of a new file, whose boot is 0: such a file was opened behind its
+// superblock, and is refused.
 use df_base::{SECTOR, check, put_u32, put_u64};
 use df_disk::Disk;
 use df_memdisk::MemoryDisk;

@@ -1,12 +1,12 @@
 // Each sector of a file as it was at an earlier moment, as after a lost write: a state that the file had is found, or a place is blamed.
 use crate::seen::{heal, is_had_or_blamed, look, short_file};
 use df_memdisk::Strike;
-use df_runs::FORMAT_EVENTS;
+use df_runs::{BOOT_EVENTS, FORMAT_EVENTS};
 use std::alloc::Global;
 use std::test::Fail;
 
-// Events of the session: its barrier, and 27 writes and syncs.
-const EVENTS: u64 = 28;
+// Events of the session: its barrier, the eight of its boot update, and 27 writes and syncs.
+const EVENTS: u64 = 28 + BOOT_EVENTS;
 
 // Whether the file opens as it should with each of its sectors, one at a time, as these first events left it.
 fn is_sound_behind(alloc: Global, events: u64) -> Result<bool, Fail> {

@@ -103,7 +103,9 @@ fn forge_copies(
     put_u64(&mut bytes, 96, forged.op.saturating_sub(forged.waiting));
     put_u64(&mut bytes, 104, 1);
     if forged.op > 0 {
+        // The checkpoint's prepare is the head's.
         bytes[112] = 9;
+        bytes[160] = 9;
     }
     bytes[128..144].copy_from_slice(trailer);
     put_u64(&mut bytes, 144, size);

@@ -3,7 +3,7 @@
 use df_base::SECTOR;
 use df_disk::Disk;
 use df_memdisk::{MemoryDisk, Strike};
-use df_runs::{Status, blank, made_file, printed, run_script, run_words, small_file};
+use df_runs::{Status, blank, disk_behind, made_file, printed, run_script, run_words, small_file};
 use std::alloc::Global;
 use std::test::Fail;
 
@@ -100,8 +100,8 @@ fn sectors_of_one_byte_are_no_file(rt: HostRuntime) -> Result<(), Fail> {
     Ok(())
 }
 
-// Layouts whose new superblock is put before a file of layout small; the rings, replies and grid of the first two are elsewhere. What is
-// printed then of a file with a checkpoint, which is later than that superblock, and of one without.
+// Layouts whose superblock of boot 1 is put before a file of layout small and that boot; the rings, replies and grid of the first two are
+// elsewhere. What is printed then of a file with a checkpoint, which is later than that superblock, and of one without.
 const LAYOUTS: [(&str, &str, &str, Status); 4] = [
     (
         "16,4096,1,4096,12",
@@ -138,9 +138,9 @@ const WITHOUT: &str =
     "append 5 1 aa\nreply 1 bb\nappend 6 1 -\nappend 7 1 -\nreply 2 -\nreply 3 -\n\
     append 5 2 -\n";
 
-// Puts the superblock of a new file of this layout before another file.
+// Puts the superblock of a file of this layout that was opened once before another file.
 fn put_superblock(alloc: Global, disk: &mut MemoryDisk, layout: &str) -> Result<(), Fail> {
-    let mut made = made_file(alloc, layout, &[])?;
+    let mut made = disk_behind(alloc, made_file(alloc, layout, &[])?, b"")?;
     for sector in 0..4u64 {
         let mut bytes = [0u8; SECTOR];
         made.read(sector, &mut bytes)?;

@@ -50,25 +50,29 @@ const ELSEWHERE_1: Class = Class::Elsewhere(Place {
     index: 1,
 });
 
-const SECOND: &[(usize, u8)] = &[(32, 2)];
+const FIRST: &[(usize, u8)] = &[(32, 1)];
 
 const NO_SLOTS: &[(usize, u8)] = &[(36, 0)];
 
 const NO_CLUSTER: &[(usize, u8)] = &[(48, 0)];
 
-// Of version 2, and with no slots.
-const BROKEN: &[(usize, u8)] = &[(32, 2), (36, 0)];
+// Of version 1, and with no slots.
+const BROKEN: &[(usize, u8)] = &[(32, 1), (36, 0)];
 
 const NINTH: &[(usize, u8)] = &[(32, 9)];
 
 // Of version 9, and of boot 7.
 const STRANGE: &[(usize, u8)] = &[(32, 9), (152, 7)];
 
-const LATER_BOOT: &[(usize, u8)] = &[(152, 7)];
+// Of boot 7, and with no slots.
+const LATER_BOOT: &[(usize, u8)] = &[(152, 7), (36, 0)];
+
+// One above the greatest boot.
+const PAST_BOOT: &[(usize, u8)] = &[(152, 1), (159, 0x40)];
 
 const LAST_BYTE: &[(usize, u8)] = &[(4095, 1)];
 
-const REFUSALS: [([Made; 4], OpenError); 12] = [
+const REFUSALS: [([Made; 4], OpenError); 13] = [
     ([Zeros; 4], OpenError::NotFormatted),
     (
         [Noise; 4],
@@ -113,14 +117,21 @@ const REFUSALS: [([Made; 4], OpenError); 12] = [
             value: 4095,
         },
     ),
-    // One of version 2 is refused by its version, sound or not.
     (
-        [Copied(0, SECOND), Noise, Zeros, Copied(3, SECOND)],
-        OpenError::Version { found: 2 },
+        [Copied(0, PAST_BOOT), Copied(1, PAST_BOOT), Noise, Noise],
+        OpenError::BadField {
+            field: Field::Boot,
+            value: (1 << 62) + 1,
+        },
+    ),
+    // One of version 1 is refused by its version, sound or not.
+    (
+        [Copied(0, FIRST), Noise, Zeros, Copied(3, FIRST)],
+        OpenError::Version { found: 1 },
     ),
     (
         [Copied(0, BROKEN), Copied(1, BROKEN), Noise, Noise],
-        OpenError::Version { found: 2 },
+        OpenError::Version { found: 1 },
     ),
     // Of two contents of one sequence that of the later boot is chosen, whatever its version.
     (
@@ -131,8 +142,8 @@ const REFUSALS: [([Made; 4], OpenError); 12] = [
             Copied(3, LATER_BOOT),
         ],
         OpenError::BadField {
-            field: Field::Boot,
-            value: 7,
+            field: Field::Slots,
+            value: 0,
         },
     ),
     (

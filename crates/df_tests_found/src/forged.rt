@@ -13,11 +13,14 @@ pub(crate) const NONE: Check = [0; 16];
 /// A prepare or a reply without a body, by its numbers; its slot is that of its op, or its session's place.
 #[derive(Clone, Copy)]
 pub(crate) struct Unit {
+    /// A reply, or else a prepare.
     pub(crate) is_reply: bool,
     pub(crate) op: u64,
+    /// The checksum of the prepare before it, zeros in a reply.
     pub(crate) parent: Check,
-    pub(crate) client: u64,
-    pub(crate) request: u64,
+    /// The client and the number of its request.
+    pub(crate) asked: (u64, u64),
+    /// In a prepare how many replies were stored, in a reply the head then.
     pub(crate) mark: u64,
     pub(crate) boot: u64,
     /// The first and the last op of its group, zeros in a reply.
@@ -38,8 +41,7 @@ pub(crate) fn prepare(
         is_reply: false,
         op,
         parent,
-        client,
-        request,
+        asked: (client, request),
         mark,
         boot,
         group: (op, op),
@@ -53,8 +55,7 @@ pub(crate) fn reply(slot: u32, client: u64, request: u64, op: u64, mark: u64, bo
         is_reply: true,
         op,
         parent: NONE,
-        client,
-        request,
+        asked: (client, request),
         mark,
         boot,
         group: (0, 0),
@@ -74,9 +75,9 @@ pub(crate) fn bytes_of(unit: &Unit) -> [u8; 256] {
     put_check(&mut bytes, 16, &check(b""));
     put_u64(&mut bytes, 32, 7);
     put_check(&mut bytes, 48, &unit.parent);
-    put_u64(&mut bytes, 64, unit.client);
+    put_u64(&mut bytes, 64, unit.asked.0);
     put_u64(&mut bytes, 80, unit.op);
-    put_u64(&mut bytes, 88, unit.request);
+    put_u64(&mut bytes, 88, unit.asked.1);
     put_u64(&mut bytes, 96, unit.mark);
     put_u64(&mut bytes, 104, 1);
     put_u32(&mut bytes, 112, 256);
@@ -97,15 +98,14 @@ pub(crate) fn sum_of(unit: &Unit) -> Check {
     sum
 }
 
-/// A superblock: the op of its checkpoint, its boot, head and number of replies, the checksum of the head's prepare, and that of the
-/// reply at place 1. Of op 0 it is the first one, of sequence 1.
+/// A superblock: the op of its checkpoint, its boot, head and number of replies, and the checksum of the reply at place 1. Of op 0 it is the first one, of sequence 1.
 #[derive(Clone, Copy)]
 pub(crate) struct Named {
     pub(crate) op: u64,
     pub(crate) boot: u64,
-    pub(crate) head: u64,
+    /// With the checksum of its prepare.
+    pub(crate) head: (u64, Check),
     pub(crate) replies: u64,
-    pub(crate) head_checksum: Check,
     pub(crate) second: Check,
 }
 
@@ -139,10 +139,10 @@ fn copy_of(named: &Named, number: u8) -> [u8; SECTOR] {
     if named.op > 0 {
         put_checkpoint(&mut bytes, named.op);
     }
-    put_u64(&mut bytes, 88, named.head);
+    put_u64(&mut bytes, 88, named.head.0);
     put_u64(&mut bytes, 96, named.replies);
     put_u64(&mut bytes, 152, named.boot);
-    put_check(&mut bytes, 160, &named.head_checksum);
+    put_check(&mut bytes, 160, &named.head.1);
     put_check(&mut bytes, 208, &named.second);
     let sum = check(&bytes[32..]);
     put_check(&mut bytes, 0, &sum);

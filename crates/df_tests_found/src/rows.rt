@@ -5,6 +5,7 @@ use df_layout::{Class, Field, Layout, Place, Zone};
 use df_memdisk::MemoryDisk;
 use df_recovery::{OpenError, Rooms, survey_version};
 use std::alloc::Global;
+use std::process::Abort;
 use std::test::Fail;
 
 // The head, how many replies are stored, and how many places are to be mended; or the refusal.
@@ -52,15 +53,23 @@ fn made_file() -> File {
         named: Named {
             op: 0,
             boot: 3,
-            head: 3,
+            head: (3, sum_of(&three)),
             replies: 2,
-            head_checksum: sum_of(&three),
             second: sum_of(&second),
         },
         prepares: [one, two, three, four],
         replies: [reply(0, 5, 1, 1, 1, 2), second],
     }
 }
+
+// A superblock of a new file, which names nothing.
+const NAMELESS: Named = Named {
+    op: 0,
+    boot: 0,
+    head: (0, NONE),
+    replies: 0,
+    second: NONE,
+};
 
 // What is found where this is put over the file.
 fn found_with(alloc: Global, file: &File, puts: &[Put]) -> Result<Answer, Fail> {
@@ -76,6 +85,19 @@ fn found_with(alloc: Global, file: &File, puts: &[Put]) -> Result<Answer, Fail> 
     }
     let mut disk = forge(alloc, &file.named, &all)?;
     surveyed(alloc, &mut disk, 2)
+}
+
+// Asserts what is found where each of these alone is put over the file.
+fn assert_each(
+    rt: &impl Abort,
+    alloc: Global,
+    file: &File,
+    rows: &[(Put, Answer)],
+) -> Result<(), Fail> {
+    for (put, answer) in rows {
+        assert_eq!(rt; found_with(alloc, file, &[*put])?, *answer);
+    }
+    Ok(())
 }
 
 // The prepare behind op 4, of client 6's second request.
@@ -128,7 +150,7 @@ fn vec_of(alloc: Global, puts: &[Put]) -> Result<Vec<Put>, Fail> {
 fn a_named_prepare_that_does_not_fit_is_stale(rt: HostRuntime) -> Result<(), Fail> {
     let file = made_file();
     let unfit = Unit {
-        request: 7,
+        asked: (5, 7),
         ..file.prepares[2]
     };
     let long = Unit {
@@ -138,7 +160,7 @@ fn a_named_prepare_that_does_not_fit_is_stale(rt: HostRuntime) -> Result<(), Fai
     for three in [unfit, long] {
         let changed = File {
             named: Named {
-                head_checksum: sum_of(&three),
+                head: (3, sum_of(&three)),
                 ..file.named
             },
             prepares: [file.prepares[0], file.prepares[1], three, file.prepares[3]],
@@ -151,7 +173,7 @@ fn a_named_prepare_that_does_not_fit_is_stale(rt: HostRuntime) -> Result<(), Fai
     }
     let nameless = File {
         named: Named {
-            head_checksum: NONE,
+            head: (3, NONE),
             ..file.named
         },
         prepares: file.prepares,
@@ -169,10 +191,9 @@ fn a_head_at_the_checkpoint_has_its_checksum(rt: HostRuntime) -> Result<(), Fail
     let named = Named {
         op: 4,
         boot: 3,
-        head: 4,
+        head: (4, NONE),
         replies: 4,
-        head_checksum: NONE,
-        second: NONE,
+        ..NAMELESS
     };
     let mut disk = forge(rt.alloc(), &named, &[])?;
     assert_eq!(rt;
@@ -209,10 +230,7 @@ fn a_later_boot_refuses_and_an_earlier_one_leaves_no_trace(rt: HostRuntime) -> R
         (Put::Reply(reply(0, 5, 2, 3, 3, 2)), Ok((4, 2, 0))),
         (Put::Reply(reply(0, 5, 2, 3, 3, 3)), Ok((4, 3, 0))),
     ];
-    for (put, answer) in &rows {
-        assert_eq!(rt; found_with(rt.alloc(), &file, &[*put])?, *answer);
-    }
-    Ok(())
+    assert_each(&rt, rt.alloc(), &file, &rows)
 }
 
 #[test]
@@ -227,9 +245,7 @@ fn a_named_reply_is_known_by_its_checksum(rt: HostRuntime) -> Result<(), Fail> {
         (Put::Reply(reply(1, 6, 1, 2, 3, 2)), stale),
         (Put::Reply(reply(1, 6, 1, 2, 2, 3)), stale),
     ];
-    for (put, answer) in &rows {
-        assert_eq!(rt; found_with(rt.alloc(), &file, &[*put])?, *answer);
-    }
+    assert_each(&rt, rt.alloc(), &file, &rows)?;
     let foreign = reply(1, 5, 1, 2, 2, 2);
     let named = File {
         named: Named {
@@ -322,15 +338,7 @@ fn the_greatest_boot_is_refused_last(rt: HostRuntime) -> Result<(), Fail> {
 // A sync, four copies, two header sectors, 32 slots of the ring of prepares and four reply slots.
 #[test]
 fn a_survey_of_either_version_is_forty_three_calls(rt: HostRuntime) -> Result<(), Fail> {
-    let blank = Named {
-        op: 0,
-        boot: 0,
-        head: 0,
-        replies: 0,
-        head_checksum: NONE,
-        second: NONE,
-    };
-    let mut disk = forge(rt.alloc(), &blank, &[])?;
+    let mut disk = forge(rt.alloc(), &NAMELESS, &[])?;
     let calls = disk.calls();
     assert_eq!(rt; surveyed(rt.alloc(), &mut disk, 2)?, Ok((0, 0, 0)));
     assert_eq!(rt; disk.calls().checked_sub(calls), Some(43));

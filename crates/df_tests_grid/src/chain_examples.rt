@@ -79,6 +79,7 @@ pub(crate) fn super_of(layout: &Layout, last: Reference, size: u64, op: u64) -> 
         op,
         op_checksum,
         head: op,
+        head_checksum: op_checksum,
         replies: op,
         trailer_address: last.address,
         trailer_checksum: checksum,

@@ -1,5 +1,5 @@
-// Small files on a disk in memory that are hurt, opened and mended: the calls and events of a mending, and each failing
-// call.
+// Small files on a disk in memory that are hurt, opened and mended: the calls and events of a mending and of the boot update behind it,
+// and each failing call.
 use df_images::{
     OpenError, Replica, Rooms, open, open_in, rooms_of, small_file, strike, survey_small,
 };
@@ -57,15 +57,15 @@ fn open_hurt(alloc: Global, sectors: &[u64]) -> Result<(u64, u64), Fail> {
 }
 
 const HURT: [(&[u64], (u64, u64)); 5] = [
-    (&[], (58, 12)),
-    (&[1], (60, 14)),
-    (&[4], (60, 14)),
-    (&[4, 5], (61, 15)),
-    (&[5, 3, 1], (64, 18)),
+    (&[], (70, 20)),
+    (&[1], (72, 22)),
+    (&[4], (72, 22)),
+    (&[4, 5], (73, 23)),
+    (&[5, 3, 1], (76, 26)),
 ];
 
-// A making is 15 calls with 11 events, and a survey 43 calls with one sync. Each copy is a write and a sync; header
-// sectors are a write each and one sync.
+// A making is 15 calls with 11 events, a survey 43 calls with one sync, and a boot update 12 calls with eight events. Each copy is a
+// write and a sync; header sectors are a write each and one sync.
 #[test]
 fn what_is_hurt_is_written_once(rt: HostRuntime) -> Result<(), Fail> {
     for (sectors, done) in &HURT {
@@ -90,10 +90,11 @@ fn next_open(disk: &mut MemoryDisk, rooms: Rooms) -> Option<Layout> {
     }
 }
 
-// The six calls of the mending of a header sector and two copies, one after the other, fail; the next open mends the rest.
+// The six calls of the mending of a header sector and two copies, and the twelve of the boot update, one after the other, fail; the next
+// open mends the rest.
 #[test]
 fn a_mending_that_fails_is_gone_on_with(rt: HostRuntime) -> Result<(), Fail> {
-    for listed in 59..65u64 {
+    for listed in 59..77u64 {
         let mut disk = hurt_file(rt.alloc(), listed, &[5, 3, 1])?;
         let (rooms, refusal) = failing_open(rt.alloc(), &mut disk)?;
         assert_eq!(rt; refusal, OpenError::DiskFault, "call {listed}");

@@ -140,28 +140,29 @@ fn a_superblock_that_cant_be_used_is_refused(rt: HostRuntime) -> Result<(), Fail
 }
 
 // Bytes of copies 2 and 3 of a new file that are changed, beside copies 0 and 1 as they were made, and how a survey refuses it. A
-// superblock of version 2 is refused by its version, sound or not.
-fn forged() -> [(&'static [(usize, u8)], OpenError); 5] {
+// superblock of version 1 is refused by its version, sound or not; the greatest boot is 2^62, and no other follows it.
+fn forged() -> [(&'static [(usize, u8)], OpenError); 6] {
     [
-        (&[(32, 2), (152, 1)], OpenError::Version { found: 2 }),
+        (&[(32, 1), (152, 1)], OpenError::Version { found: 1 }),
         (
-            &[(32, 2), (36, 0), (152, 1)],
-            OpenError::Version { found: 2 },
+            &[(32, 1), (36, 0), (152, 1)],
+            OpenError::Version { found: 1 },
         ),
-        (&[(32, 2), (72, 2)], OpenError::Version { found: 2 }),
+        (&[(32, 1), (72, 2)], OpenError::Version { found: 1 }),
         (
-            &[(152, 7)],
+            &[(152, 1), (159, 0x40)],
             OpenError::BadField {
                 field: Field::Boot,
-                value: 7,
+                value: (1 << 62) + 1,
             },
         ),
+        (&[(159, 0x40)], OpenError::BootSpent),
         (&[(32, 9), (152, 7)], OpenError::Version { found: 9 }),
     ]
 }
 
 #[test]
-fn a_later_superblock_is_tested_for_version_1(rt: HostRuntime) -> Result<(), Fail> {
+fn a_later_superblock_is_tested_for_version_2(rt: HostRuntime) -> Result<(), Fail> {
     for (changes, refusal) in &forged() {
         let mut disk = small_file(rt.alloc(), 0)?;
         for number in 2..4u8 {

@@ -95,6 +95,12 @@ mend WalHeaders 31 Garbled
 findings 16
 ";
 
+const STALE: &str = "root 02
+session 0 client 1 request 1 op 1 pending
+mend Superblock 0 Stale
+findings 1
+";
+
 #[test]
 fn inspect_lists_what_is_to_be_mended_and_mends_nothing(rt: HostRuntime) -> Result<(), Fail> {
     let mut disk = left_by(rt.alloc(), &STOPS[0])?;
@@ -105,12 +111,6 @@ fn inspect_lists_what_is_to_be_mended_and_mends_nothing(rt: HostRuntime) -> Resu
     }
     Ok(())
 }
-
-const STALE: &str = "root 02
-session 0 client 1 request 1 op 1 pending
-mend Superblock 0 Stale
-findings 1
-";
 
 // A checkpoint that was stopped is made again with another root, and the first copy of the first try comes back.
 #[test]

@@ -1,8 +1,7 @@
 // Mendings that are stopped within each write and sync: the next run does what is left of them.
-use crate::session::OPEN_CALLS;
 use df_images::{FATES, Fate, stop, strike};
 use df_memdisk::MemoryDisk;
-use df_runs::{Status, made_file, ops_of_one, printed, run_script};
+use df_runs::{BOOT_EVENTS, FIND_CALLS, Status, made_file, ops_of_one, printed, run_script};
 use std::alloc::Global;
 use std::process::Abort;
 use std::test::Fail;
@@ -38,10 +37,10 @@ struct Cut {
     call: u64,
 }
 
-// The cuts of a mending behind so many calls. An open reads for 47 calls before it.
+// The cuts of a mending behind so many calls.
 fn cuts(alloc: Global, calls: u64, mended: &[u16]) -> Result<Vec<Cut>, Fail> {
     let mut cuts = Vec::new(alloc);
-    let mut call = calls.saturating_add(OPEN_CALLS);
+    let mut call = calls.saturating_add(FIND_CALLS);
     for sector in mended {
         for _ in 0..2u8 {
             call = call.saturating_add(1);
@@ -71,8 +70,8 @@ fn mended_later(
     let next = run_script(alloc, &mut disk, NEXT.as_bytes())?;
     let events = disk.events();
     run_script(alloc, &mut disk, b"")?;
-    // The barrier alone: nothing is left to mend.
-    Ok(printed(&next, NEXT_TEXT) && disk.events() == events.saturating_add(1))
+    // The barrier and the boot update alone: nothing is left to mend.
+    Ok(printed(&next, NEXT_TEXT) && disk.events() == events.saturating_add(1 + BOOT_EVENTS))
 }
 
 // A mending that is cut off there, with each fate of its sector.
@@ -115,8 +114,8 @@ fn a_torn_header_sector_is_mended(rt: HostRuntime) -> Result<(), Fail> {
     let mut disk = stop(rt.alloc(), disk, &mut before, &[(5, Fate::Filled)])?;
     let events = disk.events();
     run_script(rt.alloc(), &mut disk, b"")?;
-    // The barrier, the sector of headers and its sync.
-    assert_eq!(rt; disk.events().checked_sub(events), Some(3));
+    // The barrier, the sector of headers and its sync, and the boot update.
+    assert_eq!(rt; disk.events().checked_sub(events), Some(3 + BOOT_EVENTS));
     let next = run_script(rt.alloc(), &mut disk, NEXT.as_bytes())?;
     assert!(rt; printed(&next, NEXT_TEXT));
     Ok(())

@@ -1,6 +1,6 @@
 // The moments of a session: each of its device calls, with what is loose there.
 use crate::session::{DeviceCall, OPEN_CALLS, Said, session};
-use df_runs::FORMAT_CALLS;
+use df_runs::{BOOT_EVENTS, FORMAT_CALLS, FORMAT_EVENTS};
 use std::alloc::Global;
 use std::test::Fail;
 
@@ -79,18 +79,21 @@ impl Walk {
     }
 }
 
-// Each device call of the session over a new file. A making is eleven events, and an open adds the barrier.
+// Events of the file's making and of its open: the barrier, and the boot update.
+const OPENED: u64 = FORMAT_EVENTS + 1 + BOOT_EVENTS;
+
+// Each device call of the session over a new file.
 pub fn moments(alloc: Global) -> Result<Vec<Moment>, Fail> {
     let mut walk = Walk {
         at: Moment {
             line: 0,
             call: 0,
             number: FORMAT_CALLS + OPEN_CALLS,
-            synced: 12,
+            synced: OPENED,
             loose: Vec::new(alloc),
             last: 0,
         },
-        events: 12,
+        events: OPENED,
     };
     let mut moments = Vec::new(alloc);
     for (line, said) in session().iter().enumerate() {

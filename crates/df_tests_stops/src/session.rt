@@ -1,7 +1,7 @@
 // A session whose lines write, with the device calls of each: the device writes a sector here and two there, with a sync behind it
 // or without one.
 use df_memdisk::MemoryDisk;
-use df_runs::{Ran, made_file, run_script};
+use df_runs::{BOOT_CALLS, FIND_CALLS, Ran, made_file, run_script};
 use std::alloc::Global;
 use std::test::Fail;
 
@@ -140,9 +140,8 @@ pub fn session() -> &'static [Said] {
     &SESSION
 }
 
-// Device calls of a run of a small file before its first line: the probe's four copies; the barrier; and four copies, two
-// sectors of headers, 32 slots and four replies.
-pub const OPEN_CALLS: u64 = 47;
+// Device calls of a run of a small file before its first line, where nothing is to be mended.
+pub const OPEN_CALLS: u64 = FIND_CALLS + BOOT_CALLS;
 
 fn push_body(text: &mut Vec<u8>, digit: u8) -> Result<(), Fail> {
     for _ in 0..7936u32 {

@@ -68,14 +68,14 @@ fn last_fault(rt: &impl Abort, alloc: Global, work: Work) -> Result<u64, Fail> {
     Ok(faults)
 }
 
-// An open takes 47 calls. The lines of the session take four for each append, two for the reply, one for each block and each first
-// step, and 13 for each last step: a sync, a write and a sync of each copy, and the four copies read back; and one for each of
-// three reads. The open of the mending takes 49 calls: the four copies, the barrier, the copies once more, the trailer's block
-// twice, two sectors of headers, 32 prepares and four replies. Behind it come the writes of two sectors of headers with one sync,
-// and of two copies with a sync each.
+// An open takes 47 calls, and twelve for its boot update. The lines of the session take four for each append, two for the reply, one for
+// each block and each first step, and 13 for each last step: a sync, a write and a sync of each copy, and the four copies read back; and
+// one for each of three reads. The open of the mending takes 49 calls: the four copies, the barrier, the copies once more, the trailer's
+// block twice, two sectors of headers, 32 prepares and four replies. Behind it come the writes of two sectors of headers with one sync,
+// those of two copies with a sync each, and the boot update.
 #[test]
 fn each_failing_device_call_is_a_disk_fault(rt: HostRuntime) -> Result<(), Fail> {
-    for (work, faults) in [(Work::Session, 91), (Work::Mending, 56)] {
+    for (work, faults) in [(Work::Session, 103), (Work::Mending, 68)] {
         assert_eq!(rt; last_fault(&rt, rt.alloc(), work)?, faults);
     }
     Ok(())

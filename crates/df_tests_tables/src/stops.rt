@@ -101,13 +101,13 @@ fn stops(rt: &impl Abort, alloc: Global, work: Work) -> Result<usize, Fail> {
     Ok(moments.len())
 }
 
-// In the session: four moments of each append and two of the reply; of each checkpoint the writes of a block and of the trailer,
-// the sync behind them, and two of each copy; the write of the last block, and the read behind it. In the mending, the session's
-// last block is loose in the first reads of the four copies and at the barrier, two sectors of headers up to the sync behind both,
-// and each of two copies up to its own.
+// In the session: two moments of each copy of the boot update; four of each append and two of the reply; of each checkpoint the writes of a
+// block and of the trailer, the sync behind them, and two of each copy; the write of the last block, and the read behind it. In the
+// mending, the session's last block is loose in the first reads of the four copies and at the barrier, two sectors of headers up to the
+// sync behind both, each of two copies up to its own, and each of the four of the boot update, too.
 #[test]
 fn a_stop_at_each_write_leaves_the_view_before_or_after(rt: HostRuntime) -> Result<(), Fail> {
-    for (work, moments) in [(Work::Session, 34), (Work::Mending, 12)] {
+    for (work, moments) in [(Work::Session, 42), (Work::Mending, 20)] {
         assert_eq!(rt; stops(&rt, rt.alloc(), work)?, moments);
     }
     Ok(())

@@ -11,7 +11,7 @@ use std::alloc::Global;
 use std::test::Fail;
 
 // The open of the hurt file reads with 49 device calls, and its mending takes the seven behind them: the writes of both sectors of headers and
-// their sync, and of each copy the write and the sync.
+// their sync, and of each copy the write and the sync. The boot update comes behind it.
 const READS: u64 = 49;
 
 // The lines of an inspection without the places to mend: the summary's eight, the root, the session and the number of findings.

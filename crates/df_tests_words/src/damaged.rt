@@ -1,12 +1,12 @@
-// A step whose copies of the new superblock are lost: where fewer than three are read back as they were written it is damaged, its line
-// is the last one, and the run ends Refused. Nothing behind it is executed, and what was answered before is found again.
+// A step, or an open, whose copies of the new superblock are lost: where fewer than three are read back as they were written it is
+// damaged, its line is the last one, and the run ends Refused. Nothing behind it is executed, and what was answered before is found again.
 use df_memdisk::{DroppingDisk, MemoryDisk};
 use df_runs::{Ran, Status, printed, run_script, run_words, small_file, small_summary};
 use std::alloc::Global;
 use std::test::Fail;
 
-// The append writes its prepare and its header sector, the first step a block of the trailer: writes 1 to 3 of the run. The last step
-// writes the four copies of the superblock, 4 to 7.
+// The open writes the four copies of the superblock, the append its prepare and its header sector, the first step a block of the trailer:
+// writes 1 to 7 of the run. The last step writes the four copies again, 8 to 11.
 const SCRIPT: &str = "append 1 1 aa\ncheckpoint 0b\nstep\nstep\nreply 1 cc\nprepare 1\n";
 
 const FRONT: &str = "appended 1\nbegun 1\nworking 1\n";
@@ -43,25 +43,25 @@ struct Row {
 
 const ROWS: [Row; 4] = [
     Row {
-        lost: &[5, 6],
+        lost: &[9, 10],
         behind: "refused Damaged Superblock 1 Stale\n",
         status: Status::Refused,
         summary: [2, 1, 1, 0],
     },
     Row {
-        lost: &[4, 7],
+        lost: &[8, 11],
         behind: "refused Damaged Superblock 0 Stale\n",
         status: Status::Refused,
         summary: [2, 1, 1, 0],
     },
     Row {
-        lost: &[4, 5, 6, 7],
+        lost: &[8, 9, 10, 11],
         behind: "refused Damaged Superblock 0 Stale\n",
         status: Status::Refused,
         summary: [1, 0, 1, 0],
     },
     Row {
-        lost: &[6],
+        lost: &[10],
         behind: BEHIND,
         status: Status::Done,
         summary: [2, 1, 1, 1],
@@ -84,11 +84,26 @@ fn a_step_whose_copies_are_lost_ends_the_run(rt: HostRuntime) -> Result<(), Fail
     Ok(())
 }
 
-// Before the last step of a run of 16 rounds come two writes of each append, one of each reply, one of each of four blocks, and the
-// trailer's block: 53. Its line is then the only one.
+const NEW: &str =
+    "cluster 7\nlayout 32 8192 4 16384 64\nsequence 1\ncheckpoint 0\nhead 0\nreplies 0\nsessions 0\nreferences 0\n";
+
+// The open itself loses two copies of its boot update: its line is the only one, and the script isn't read.
+#[test]
+fn an_open_whose_copies_are_lost_ends_the_run(rt: HostRuntime) -> Result<(), Fail> {
+    let file = small_file(rt.alloc(), &[])?;
+    let (mut disk, ran) = run_losing(rt.alloc(), file, &[2, 3], SCRIPT)?;
+    assert_eq!(rt; ran.status, Status::Refused);
+    assert!(rt; printed(&ran, "refused Damaged Superblock 1 Stale\n"));
+    let recovered = run_words(rt.alloc(), &mut disk, &["recover"])?;
+    assert!(rt; recovered.status == Status::Done && printed(&recovered, NEW));
+    Ok(())
+}
+
+// Before the last step of a run of 16 rounds come the four copies of its open, two writes of each append, one of each reply, one of each
+// of four blocks, and the trailer's block: 57. Its line is then the only one.
 #[test]
 fn a_generated_run_ends_at_a_step_that_is_damaged(rt: HostRuntime) -> Result<(), Fail> {
-    let lost: [u64; 2] = [55, 56];
+    let lost: [u64; 2] = [59, 60];
     let file = small_file(rt.alloc(), &[])?;
     let mut disk = DroppingDisk::new(file, Vec::from_slice(rt.alloc(), &lost)?);
     let ran = run_words(rt.alloc(), &mut disk, &["workload", "42", "16"])?;

@@ -15,9 +15,31 @@ use df_memdisk::MemoryDisk;
 use std::alloc::Global;
 use std::process::Abort;
 
-// The header of a prepare of client 5, as its maker gives it: in boot 0 it is of version 1, and else by itself of version 2.
+// The first and the last op of a group: of one prepare by itself, or of two, that of an odd op and the next.
+fn group_of(op: u64, is_paired: bool) -> (u64, u64)
+    requires { (1 ≤ op) × (op ≤ 1000) }
+    ensures first { (0 < result.0) × (result.0 ≤ op) }
+    ensures last { (op ≤ result.1) × (result.1 ≤ result.0 + 1) }
+{
+    if !is_paired {
+        (op, op)
+    } else if op % 2 == 0 {
+        (op - 1, op)
+    } else {
+        (op, op + 1)
+    }
+}
+
+// The header of a prepare of client 5, as its maker gives it: in boot 0 it is of version 1, and else of version 2, by itself or in a
+// group of two.
 #[tactic(auto, unfolding(df_format::specs::Own::own_place, df_format::specs::Spelling::no_checksum))]
-pub(crate) fn prepare_header(op: u64, request: u64, boot: u64, parent: Check) -> Header
+pub(crate) fn prepare_header(
+    op: u64,
+    request: u64,
+    boot: u64,
+    is_paired: bool,
+    parent: Check,
+) -> Header
     requires op { (1 ≤ op) × (op ≤ 1000) }
     requires request { (1 ≤ request) × (request ≤ 1000) }
     requires boot { boot ≤ 1000 }
@@ -28,6 +50,7 @@ pub(crate) fn prepare_header(op: u64, request: u64, boot: u64, parent: Check) ->
     ensures slot { result.slot ≤ 31 }
     ensures own { (layout : AnyLayout) → layout.slots ≡ 32 → IsSome (own_place layout Zone.WalPrepares result) }
 {
+    let (group, group_last) = group_of(op, is_paired);
     let first = Header {
         checksum_body: check(&[]),
         parent: if op == 1 { [0; 16] } else { parent },
@@ -46,59 +69,6 @@ pub(crate) fn prepare_header(op: u64, request: u64, boot: u64, parent: Check) ->
         Header {
             version: 2,
             boot,
-            group: op,
-            group_last: op,
-            ..first
-        }
-    }
-}
-
-// The first and the last op of a group: of one prepare by itself, or of two, that of an odd op and the next.
-fn group_of(op: u64, is_paired: bool) -> (u64, u64)
-    requires { (1 ≤ op) × (op ≤ 1000) }
-    ensures first { (0 < result.0) × (result.0 ≤ op) }
-    ensures last { (op ≤ result.1) × (result.1 ≤ result.0 + 1) }
-{
-    if !is_paired {
-        (op, op)
-    } else if op % 2 == 0 {
-        (op - 1, op)
-    } else {
-        (op, op + 1)
-    }
-}
-
-// The header of a prepare of client 5 behind a checkpoint at op 4, one request an op: in boot 0 of version 1, and else of version 2,
-// by itself or in a group of two.
-#[tactic(auto, unfolding(df_format::specs::Own::own_place, df_format::specs::Spelling::no_checksum))]
-pub(crate) fn grouped_header(op: u64, boot: u8, is_paired: bool, parent: Check) -> Header
-    requires op { (5 ≤ op) × (op ≤ 1000) }
-    ensures sealed { ObeysRules result }
-    ensures rules { ObeysRules (for_body result []) }
-    ensures kind { result.kind ≡ Kind.Prepare }
-    ensures cluster { result.cluster ≡ 7 }
-    ensures slot { result.slot ≤ 31 }
-    ensures own { (layout : AnyLayout) → layout.slots ≡ 32 → IsSome (own_place layout Zone.WalPrepares result) }
-{
-    let (group, group_last) = group_of(op, is_paired);
-    let first = Header {
-        checksum_body: check(&[]),
-        parent,
-        client: 5,
-        op,
-        request: op - 4,
-        mark: op - 1,
-        checkpoint: 1,
-        size: 256,
-        slot: (op % 32) as u32,
-        ..Header::of(Kind::Prepare, 7)
-    };
-    if boot == 0 {
-        first
-    } else {
-        Header {
-            version: 2,
-            boot: u64::from(boot),
             group,
             group_last,
             ..first

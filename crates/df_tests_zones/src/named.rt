@@ -3,7 +3,7 @@
 ghost use Rattle.std.specs.Prelude.{◌≡◌, ◌≤◌};
 ghost use Rattle.df_headers.specs.Ring.{IsTable};
 
-use crate::files::{blank, grouped_header, scanned_from};
+use crate::files::{blank, prepare_header, scanned_from};
 use crate::rings::reserved_table;
 use crate::tails::write_ring;
 use df_base::Check;
@@ -88,7 +88,8 @@ fn write(
 {
     let (boot, is_paired, left) = *written;
     let room: Raw<Prepare> = Raw::reserve(alloc, layout).expect(rt, "memory of a room");
-    let unit = room.make(grouped_header(op, boot, is_paired, parent), &[]);
+    let header = prepare_header(op, op - 4, u64::from(boot), is_paired, parent);
+    let unit = room.make(header, &[]);
     let is_told = left == Left::All || left == Left::Header;
     write_unit(disk, layout, &unit, tables, rt, alloc, is_told);
     let is_shown = left == Left::All || left == Left::Prepare;
@@ -96,6 +97,32 @@ fn write(
         assert!(rt; disk.strike(6 + 2 * op, Strike::Fill { byte: 0xa5 }).is_ok());
     }
     unit.header().checksum
+}
+
+// Writes the prepares of ops 5 to 8 behind the checkpoint's, and hands back the checksum of the head, which is op 4, 5 or 6.
+fn write_all(
+    disk: &mut MemoryDisk,
+    layout: &Layout,
+    tables: &mut Tables,
+    rt: &impl Abort,
+    alloc: Global,
+    written: &[Written; 4],
+    head: u64,
+) -> Check
+    requires slots { layout.now.slots ≡ 32 }
+    requires size { layout.now.message_size ≡ 8192 }
+    requires shown { IsTable layout.now 7 tables.old.shown }
+    requires unshown { IsTable layout.now 7 tables.old.unshown }
+{
+    let five = write(disk, layout, tables, rt, alloc, 5, &written[0], BASE);
+    let six = write(disk, layout, tables, rt, alloc, 6, &written[1], five);
+    let seven = write(disk, layout, tables, rt, alloc, 7, &written[2], six);
+    write(disk, layout, tables, rt, alloc, 8, &written[3], seven);
+    match head {
+        5 => five,
+        6 => six,
+        _ => BASE,
+    }
 }
 
 // What is found: the op that lacks; the ops of the tail and of what is reached; whether something is lost; and the decisions on the
@@ -148,6 +175,40 @@ const EMPTY: Decision = Decision::Empty { mend: false };
 
 const LOST: Decision = Decision::Lost;
 
+// Prepares of boot 3 (own), of boot 2 (earlier), of boot 3 in a group of two (paired), or of version 1 (unbooted): with the header, without it
+// (untold), of which the header alone is left (told), or nothing (gone).
+const EARLIER: Written = (2, false, ALL);
+
+const OWN: Written = (3, false, ALL);
+
+const GONE: Written = (3, false, Left::Nothing);
+
+const EARLIER_UNTOLD: Written = (2, false, Left::Prepare);
+
+const UNTOLD: Written = (3, false, Left::Prepare);
+
+const EARLIER_TOLD: Written = (2, false, Left::Header);
+
+const EARLIER_GONE: Written = (2, false, Left::Nothing);
+
+const TOLD: Written = (3, false, Left::Header);
+
+const PAIRED_UNTOLD: Written = (3, true, Left::Prepare);
+
+const PAIRED_GONE: Written = (3, true, Left::Nothing);
+
+const PAIRED_TOLD: Written = (3, true, Left::Header);
+
+const PAIRED: Written = (3, true, ALL);
+
+const UNBOOTED: Written = (0, false, ALL);
+
+const UNBOOTED_UNTOLD: Written = (0, false, Left::Prepare);
+
+const UNBOOTED_GONE: Written = (0, false, Left::Nothing);
+
+const UNBOOTED_TOLD: Written = (0, false, Left::Header);
+
 // Four prepares, of ops 5 to 8, with what is left of each; the checksum that the checkpoint's prepare is said to have; and what is
 // found. Where nothing is left of a prepare, its header was never written.
 type Row = (&'static str, [Written; 4], Check, Answer);
@@ -156,122 +217,67 @@ type Row = (&'static str, [Written; 4], Check, Answer);
 const ROWS: [Row; 11] = [
     (
         "both named ones and one above",
-        [
-            (2, false, ALL),
-            (3, false, ALL),
-            (3, false, ALL),
-            (3, false, Left::Nothing),
-        ],
+        [EARLIER, OWN, OWN, GONE],
         BASE,
         (None, (7, 7), false, [TAKE, TAKE, TAKE, EMPTY]),
     ),
     (
         "the same without headers",
-        [
-            (2, false, Left::Prepare),
-            (3, false, Left::Prepare),
-            (3, false, Left::Prepare),
-            (3, false, Left::Nothing),
-        ],
+        [EARLIER_UNTOLD, UNTOLD, UNTOLD, GONE],
         BASE,
         (None, (7, 7), false, [MEND, MEND, MEND, EMPTY]),
     ),
     (
         "the first named one is lost",
-        [
-            (2, false, Left::Header),
-            (3, false, ALL),
-            (3, false, ALL),
-            (3, false, Left::Nothing),
-        ],
+        [EARLIER_TOLD, OWN, OWN, GONE],
         BASE,
         (Some(5), (4, 4), true, [LOST, TAKE, TAKE, EMPTY]),
     ),
     (
         "both named ones are lost",
-        [
-            (2, false, Left::Nothing),
-            (3, false, Left::Nothing),
-            (3, false, ALL),
-            (3, false, Left::Nothing),
-        ],
+        [EARLIER_GONE, GONE, OWN, GONE],
         BASE,
         (Some(6), (4, 4), true, [LOST, LOST, TAKE, EMPTY]),
     ),
     (
         "the first named one doesn't fit",
-        [
-            (2, false, ALL),
-            (3, false, ALL),
-            (3, false, Left::Nothing),
-            (3, false, Left::Nothing),
-        ],
+        [EARLIER, OWN, GONE, GONE],
         [9; 16],
         (None, (4, 4), true, [TAKE, TAKE, EMPTY, EMPTY]),
     ),
     (
         "above them one of an earlier boot",
-        [
-            (2, false, ALL),
-            (3, false, ALL),
-            (2, false, ALL),
-            (3, false, Left::Nothing),
-        ],
+        [EARLIER, OWN, EARLIER, GONE],
         BASE,
         (None, (6, 6), false, [TAKE, TAKE, EMPTY, EMPTY]),
     ),
     (
         "above them a header alone",
-        [
-            (2, false, ALL),
-            (3, false, ALL),
-            (3, false, Left::Header),
-            (3, false, Left::Nothing),
-        ],
+        [EARLIER, OWN, TOLD, GONE],
         BASE,
         (None, (6, 6), true, [TAKE, TAKE, LOST, EMPTY]),
     ),
     (
         "a whole group without headers",
-        [
-            (2, false, ALL),
-            (3, false, ALL),
-            (3, true, Left::Prepare),
-            (3, true, Left::Prepare),
-        ],
+        [EARLIER, OWN, PAIRED_UNTOLD, PAIRED_UNTOLD],
         BASE,
         (None, (8, 8), false, [TAKE, TAKE, MEND, MEND]),
     ),
     (
         "the first of a group alone survives",
-        [
-            (2, false, ALL),
-            (3, false, ALL),
-            (3, true, Left::Prepare),
-            (3, true, Left::Nothing),
-        ],
+        [EARLIER, OWN, PAIRED_UNTOLD, PAIRED_GONE],
         BASE,
         (None, (6, 7), false, [TAKE, TAKE, EMPTY, EMPTY]),
     ),
     (
         "the last of a group alone survives",
-        [
-            (2, false, ALL),
-            (3, false, ALL),
-            (3, true, Left::Nothing),
-            (3, true, Left::Prepare),
-        ],
+        [EARLIER, OWN, PAIRED_GONE, PAIRED_UNTOLD],
         BASE,
         (None, (6, 6), false, [TAKE, TAKE, EMPTY, EMPTY]),
     ),
     (
         "a group was cut off and a header of it is shown",
-        [
-            (2, false, ALL),
-            (3, false, ALL),
-            (3, true, Left::Prepare),
-            (3, true, Left::Header),
-        ],
+        [EARLIER, OWN, PAIRED_UNTOLD, PAIRED_TOLD],
         BASE,
         (None, (6, 7), true, [TAKE, TAKE, EMPTY, LOST]),
     ),
@@ -280,12 +286,7 @@ const ROWS: [Row; 11] = [
 // With head 5 and boot 3.
 const WITHIN: Row = (
     "the named head is the first of a group",
-    [
-        (3, true, ALL),
-        (3, true, ALL),
-        (3, false, Left::Nothing),
-        (3, false, Left::Nothing),
-    ],
+    [PAIRED, PAIRED, GONE, GONE],
     BASE,
     (None, (4, 4), true, [TAKE, TAKE, EMPTY, EMPTY]),
 );
@@ -294,32 +295,20 @@ const WITHIN: Row = (
 const FIRST: [Row; 2] = [
     (
         "all of version 1",
-        [
-            (0, false, ALL),
-            (0, false, ALL),
-            (0, false, Left::Prepare),
-            (0, false, Left::Nothing),
-        ],
+        [UNBOOTED, UNBOOTED, UNBOOTED_UNTOLD, UNBOOTED_GONE],
         BASE,
         (None, (7, 7), false, [TAKE, TAKE, MEND, EMPTY]),
     ),
     (
         "the second is lost",
-        [
-            (0, false, ALL),
-            (0, false, Left::Header),
-            (0, false, ALL),
-            (0, false, Left::Nothing),
-        ],
+        [UNBOOTED, UNBOOTED_TOLD, UNBOOTED, UNBOOTED_GONE],
         BASE,
         (None, (5, 5), true, [TAKE, LOST, TAKE, EMPTY]),
     ),
 ];
 
-// Asserts what is found of a row from there, where the superblock names its head of op 4, 5 or 6.
-fn assert_row(rt: &impl Abort, alloc: Global, row: &Row, start: &Start)
-    requires op { start.now.op ≡ 4 }
-{
+// Asserts what is found of a row where the superblock has this head and this boot.
+fn assert_row(rt: &impl Abort, alloc: Global, row: &Row, head: u64, boot: u64) {
     let layout = Layout::small();
     let (name, written, base, answer) = row;
     let mut disk = blank(alloc);
@@ -328,52 +317,16 @@ fn assert_row(rt: &impl Abort, alloc: Global, row: &Row, start: &Start)
         unshown: reserved_table(alloc, &layout).expect(rt, "memory of a table"),
     };
     write_ring(rt, alloc, &mut disk, &layout, &tables.shown);
-    let five = write(
-        &mut disk,
-        &layout,
-        &mut tables,
-        rt,
-        alloc,
-        5,
-        &written[0],
-        BASE,
-    );
-    let six = write(
-        &mut disk,
-        &layout,
-        &mut tables,
-        rt,
-        alloc,
-        6,
-        &written[1],
-        five,
-    );
-    let seven = write(
-        &mut disk,
-        &layout,
-        &mut tables,
-        rt,
-        alloc,
-        7,
-        &written[2],
-        six,
-    );
-    write(
-        &mut disk,
-        &layout,
-        &mut tables,
-        rt,
-        alloc,
-        8,
-        &written[3],
-        seven,
-    );
-    let head = match start.head {
-        5 => five,
-        6 => six,
-        _ => BASE,
+    let named = write_all(&mut disk, &layout, &mut tables, rt, alloc, written, head);
+    let start = Start {
+        cluster: 7,
+        op: 4,
+        head,
+        boot,
     };
-    let (lacking, reach, lost, decided) = found(rt, alloc, &mut disk, &layout, start, base, &head);
+    let (lacking, reach, lost, decided) = found(
+        rt, alloc, &mut disk, &layout, &start, base, &named,
+    );
     let (wanted_lacking, wanted_reach, wanted_lost, wanted_decided) = answer;
     assert!(rt; lacking == *wanted_lacking, "{name}");
     assert!(rt;
@@ -385,28 +338,15 @@ fn assert_row(rt: &impl Abort, alloc: Global, row: &Row, start: &Start)
 
 #[test]
 fn named_prepares_and_groups_are_found(rt: HostRuntime) {
-    let start = Start {
-        cluster: 7,
-        op: 4,
-        head: 6,
-        boot: 3,
-    };
     for row in &ROWS {
-        assert_row(&rt, rt.alloc(), row, &start);
+        assert_row(&rt, rt.alloc(), row, 6, 3);
     }
-    let within = Start { head: 5, ..start };
-    assert_row(&rt, rt.alloc(), &WITHIN, &within);
+    assert_row(&rt, rt.alloc(), &WITHIN, 5, 3);
 }
 
 #[test]
 fn a_file_of_version_1_names_none(rt: HostRuntime) {
-    let start = Start {
-        cluster: 7,
-        op: 4,
-        head: 4,
-        boot: 0,
-    };
     for row in &FIRST {
-        assert_row(&rt, rt.alloc(), row, &start);
+        assert_row(&rt, rt.alloc(), row, 4, 0);
     }
 }

@@ -1,8 +1,7 @@
 // Replies that a superblock names by their checksums: no other one stands for them, whatever its boot is.
-use crate::replies::{FIRST, FIRST_LACKS, SECOND, of_boot};
+use crate::replies::{FIRST, FIRST_LACKS, SECOND, SECOND_LACKS, of_boot};
 use crate::stored::{Board, Stored, ask, fields_of, new_table, put, scan};
 use df_format::SuperFields;
-use df_layout::Class;
 use df_replies::Lacking;
 use df_sessions::SessionTable;
 use std::alloc::Global;
@@ -47,10 +46,6 @@ fn a_named_reply_is_known_by_its_checksum(rt: HostRuntime) {
     let longer = Stored { ahead: 7, ..first };
     let foreign = Stored { client: 3, ..first };
     let own = of_boot(FIRST, 4);
-    let second_lacks = Some(Lacking {
-        place: 1,
-        class: Class::Stale,
-    });
     let cases = [
         ("both are named and shown", first, first, 6, None),
         (
@@ -68,9 +63,9 @@ fn a_named_reply_is_known_by_its_checksum(rt: HostRuntime) {
             6,
             FIRST_LACKS,
         ),
-        ("the second isn't named", first, first, 5, second_lacks),
+        ("the second isn't named", first, first, 5, SECOND_LACKS),
         ("nor is the first", first, first, 4, FIRST_LACKS),
-        ("the first is of the boot", first, own, 4, second_lacks),
+        ("the first is of the boot", first, own, 4, SECOND_LACKS),
     ];
     for (name, named, shown, replies, lacking) in &cases {
         let found = lacking_of_named(&rt, rt.alloc(), named, shown, *replies);

@@ -88,9 +88,14 @@ pub(crate) const SECOND: Stored = Stored {
     slot: 1,
 };
 
-// The place of the first session, whose slot shows another reply.
+// The place of the first or the second session, whose slot shows another reply.
 pub(crate) const FIRST_LACKS: Option<Lacking> = Some(Lacking {
     place: 0,
+    class: Class::Stale,
+});
+
+pub(crate) const SECOND_LACKS: Option<Lacking> = Some(Lacking {
+    place: 1,
     class: Class::Stale,
 });
 
@@ -204,22 +209,25 @@ pub(crate) fn of_boot(stored: Stored, boot: u8) -> Stored {
     }
 }
 
+// Where the greatest boot is this one.
+fn found_in(boot: u64, replies: u64, lacking: Option<Lacking>) -> Finding {
+    Finding {
+        boot,
+        ..found(6, 1, replies, lacking)
+    }
+}
+
 // The replies to the two sessions and one more, the boot that is asked for, and what is found of it.
 fn booted_cases() -> [(&'static str, [Stored; 3], u64, Finding); 5] {
     let first = of_boot(FIRST, 3);
     let second = of_boot(SECOND, 3);
-    let later = Finding {
-        boot: 3,
-        ..found(6, 1, 6, FIRST_LACKS)
+    let greatest = Stored {
+        op: 9,
+        ahead: 20,
+        ..first
     };
-    let own = Finding {
-        boot: 3,
-        ..found(6, 1, 6, None)
-    };
-    let second_lacks = Some(Lacking {
-        place: 1,
-        class: Class::Stale,
-    });
+    let later = found_in(3, 6, FIRST_LACKS);
+    let own = found_in(3, 6, None);
     [
         (
             "a reply of boot 3 where none is asked for",
@@ -229,15 +237,7 @@ fn booted_cases() -> [(&'static str, [Stored; 3], u64, Finding); 5] {
         ),
         (
             "with the greatest op and mark",
-            [
-                FIRST,
-                SECOND,
-                Stored {
-                    op: 9,
-                    ahead: 20,
-                    ..first
-                },
-            ],
+            [FIRST, SECOND, greatest],
             0,
             later,
         ),
@@ -246,21 +246,13 @@ fn booted_cases() -> [(&'static str, [Stored; 3], u64, Finding); 5] {
             "one is of an earlier boot",
             [first, SECOND, first],
             3,
-            Finding {
-                replies: 5,
-                lacking: second_lacks,
-                ..own
-            },
+            found_in(3, 5, SECOND_LACKS),
         ),
         (
             "one of a later boot",
             [first, second, of_boot(FIRST, 4)],
             3,
-            Finding {
-                boot: 4,
-                lacking: FIRST_LACKS,
-                ..own
-            },
+            found_in(4, 6, FIRST_LACKS),
         ),
     ]
 }

@@ -180,14 +180,10 @@ pub(crate) fn ask(sessions: &mut SessionTable, stored: &Stored)
 
 // The superblock of a boot, which names no reply: of version 1 in boot 0, and else of version 2.
 pub(crate) fn fields_of(boot: u64) -> SuperFields {
-    let first = SuperFields::of(&Layout::small(), 7);
-    if boot == 0 {
-        first
-    } else {
-        SuperFields {
-            version: 2,
-            boot,
-            ..first
-        }
+    let version = if boot == 0 { 1 } else { 2 };
+    SuperFields {
+        version,
+        boot,
+        ..SuperFields::of(&Layout::small(), 7)
     }
 }

@@ -37,7 +37,7 @@ fn append_next(
 {
     let room: Raw<Prepare> = Raw::reserve(alloc, layout).expect(rt, "memory of a room");
     let mut sector = Raw::reserve(alloc, layout).expect(rt, "memory of a sector");
-    let unit = room.make(prepare_header(op, op, boot, parent), &[]);
+    let unit = room.make(prepare_header(op, op, boot, false, parent), &[]);
     append(disk, layout, &unit, table, &mut sector).expect(rt, "an append");
     unit.header().checksum
 }

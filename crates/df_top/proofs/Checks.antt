@@ -20,18 +20,18 @@ abbrev pub referenced : Replica → List (ℕ × ℕ)
 referenced r = referenced_of (memory r)
 
 abbrev pub left_of : Replica → ScrubState → List (ℕ × ℕ)
-left_of r s = left_in (grid_with r.file r.blocks) s
+left_of r s = left_in (grid_with r.file r.boot r.blocks) s
 
 -- a step over the blocks of a replica
 abbrev pub IsStepOf : Replica → (s t : ScrubState) → Option Told → Scrubbed → Type 0
-IsStepOf r s t told x = IsStep (grid_with r.file r.blocks) s t told x
+IsStepOf r s t told x = IsStep (grid_with r.file r.boot r.blocks) s t told x
 
 -- those of these blocks that fail over an image
 abbrev pub failing_of : Replica → Image → List (ℕ × ℕ) → List Finding
-failing_of r image xs = failing_among (grid_with r.file r.blocks) image xs
+failing_of r image xs = failing_among (grid_with r.file r.boot r.blocks) image xs
 
 abbrev pub IsVerdictOf : Replica → Option Told → List (ℕ × ℕ) → Verdict → Type 0
-IsVerdictOf r told xs v = IsVerdict (grid_with r.file r.blocks) told xs v
+IsVerdictOf r told xs v = IsVerdict (grid_with r.file r.boot r.blocks) told xs v
 
 pub referenced_rise : (r : Replica) → Rise 1 (1 + r.file.layout.blocks) (referenced r)
 referenced_rise r = entries_rise (reference_in r.blocks) 1 r.file.layout.blocks (1 + r.file.layout.blocks) (omega arith)

@@ -1,21 +1,22 @@
 -- What a word does with a file that may be hurt is of damage.
-use Rattle.std.proofs.Common.{◌≡◌, inl, inr, List, [], ◌∷◌, Option, Some, None, sym, subst}
+use Rattle.std.proofs.Common.{◌≡◌, ◌<◌, ◌^◌, inl, inr, List, [], ◌∷◌, Option, Some, None, sym, ◌∙◌, subst}
 use Rattle.std.specs.Prelude.{Ok, Err}
 use Rattle.df_base.specs.Log.{Sync}
 use Rattle.df_disk.specs.Told.{Told, did}
 use Rattle.df_disk.proofs.Laws.{goes_told}
 use Rattle.df_layout.specs.declared.layout.Layout.{Layout}
 use Rattle.df_model.specs.Commands.{Answer}
-use Rattle.df_model.specs.Work.{Work, opened}
-use Rattle.df_session.specs.Below.{IsOpened, FindsHad, IsNeedless, RefusesHurt, MayBeHurt, OpensAsLeft, DataFile, State as Replica, shape}
+use Rattle.df_model.specs.Sense.{IsWork}
+use Rattle.df_model.specs.Work.{Work}
+use Rattle.df_session.specs.Begun.{begun_work}
+use Rattle.df_session.specs.Below.{FindsHad, IsNeedless, RefusesHurt, MayBeHurt, OpensAsLeft, DataFile, State as Replica, shape, spelling}
 use Rattle.df_session.specs.Lending.{GivesOwn}
-use Rattle.df_session.specs.Opened.{ToldBy}
 use Rattle.df_session.specs.Serving.{Firm, Keeps, next}
 use Rattle.df_session.specs.Session.{Act}
-use Rattle.df_session.specs.WrittenFor.{IsWrittenIn}
-use Rattle.df_session.proofs.Laws.{call_is_own, call_is_the_one, found_keeps, opened_is_written_for, answer_is_of_hurt, headers_may_be_hurt, probe_is_of_hurt, two_copies_are_enough}
+use Rattle.df_session.specs.WrittenFor.{IsWrittenFor, IsWrittenIn}
+use Rattle.df_session.proofs.Laws.{call_is_own, call_is_the_one, file_there, opened_is_written_for, answer_is_of_hurt, headers_may_be_hurt, probe_is_of_hurt, two_copies_are_enough}
 use Rattle.df_theory.specs.Found.{IsFound}
-use Rattle.df_theory.specs.View.{View}
+use Rattle.df_theory.specs.View.{View, boot_of}
 use Rattle.df_units.specs.Bytes.{unit_at}
 use Rattle.df_session.specs.Found.{FoundFile}
 use Rattle.df_session.specs.Owning.{AllGiveOwn, GiveOwn}
@@ -54,54 +55,61 @@ ends_give w s t old new acts answers (Some a) keeps written ends = all_give w s 
 
 -- ---- a word
 
-module _ (file : DataFile) (view : View) (t : Told) (may : MayBeHurt file view t) where
-  -- a state that is found stands for a state of the machine
-  stands : (s : Replica) → IsOpened file.layout t.shown s → (finds : FindsHad file view t s) → Keeps Firm s (opened (shape file) (unit_at file.layout file.cluster t.shown) finds.found) None
-  stands s is finds =
-      let at : (own : DataFile) → s.file ≡ own → IsFound (shape own) (unit_at own.layout own.cluster t.shown) finds.found → IsOpened own.layout t.shown s → Keeps Firm s (opened (shape own) (unit_at own.layout own.cluster t.shown) finds.found) None =
-      λ (own : DataFile) (same : s.file ≡ own) (found : IsFound (shape own) (unit_at own.layout own.cluster t.shown) finds.found) (here : IsOpened own.layout t.shown s).
-      subst (λ (x : DataFile). Keeps Firm s (opened (shape x) (unit_at x.layout x.cluster t.shown) finds.found) None) same
-      (found_keeps s t.shown finds.found may.whole (subst (λ (x : DataFile). IsOpened x.layout t.shown s) (sym same) here) (subst (λ (x : DataFile). IsFound (shape x) (unit_at x.layout x.cluster t.shown) finds.found) (sym same) found)) in
-      at file finds.of finds.is_found is
+module _ (file : DataFile) (view : View) (t : Told) (may : MayBeHurt file view t) (unspent : boot_of view < 2 ^ 62) where
+  -- what calls begin with on a file that was found
+  abbrev Stands : FoundFile file.layout t → Type 0
+  Stands found = (v : View) → IsFound (shape found.replica.file) (unit_at found.replica.file.layout found.replica.file.cluster t.shown) v → Keeps Firm found.replica (begun_work found.replica.file t.shown v) None
 
-  -- and all that it has was written, as the disk tells behind the mending
-  written : (s : Replica) (finds : FindsHad file view t s) (mended : Option Told) → ToldBy (Some (did Sync t)) mended → IsWrittenIn s.file mended (opened (shape file) (unit_at file.layout file.cluster t.shown) finds.found)
-  written s finds mended by =
-      let goes = goes_told (did Sync t) mended by in
-      subst (λ (o : Option Told). IsWrittenIn s.file o (opened (shape file) (unit_at file.layout file.cluster t.shown) finds.found)) (sym goes.1) (opened_is_written_for file view t s goes.0.log finds goes.2.grew)
+  module _ (found : FoundFile file.layout t) (finds : FindsHad file view t found.found) (stand : Stands found) where
+    abbrev w : Work
+    w = begun_work file t.shown finds.found
+
+    same : found.replica.file ≡ file
+    same = file_there file.layout t found ∙ finds.of
+
+    stands : Keeps Firm found.replica w None
+    stands =
+        subst (λ (x : DataFile). Keeps Firm found.replica (begun_work x t.shown finds.found) None) same
+        (stand finds.found (subst (λ (x : DataFile). IsFound (shape x) (unit_at x.layout x.cluster t.shown) finds.found) (sym same) finds.is_found))
+
+    -- all that it has was written, as the disk tells behind the boot update
+    written : IsWrittenIn found.replica.file found.mended w
+    written =
+        let goes = goes_told (did Sync t) found.mended (found.mending.events, found.mending.told) in
+        let there = file_there file.layout t found in
+        let own : IsWrittenFor found.found.file goes.0.log w =
+        opened_is_written_for file view t found.found goes.0.log w.view.checkpoint.content finds goes.2.grew (subst (λ (x : DataFile). IsWork (shape x) (spelling x) w) there stands.0) in
+        subst (λ (o : Option Told). IsWrittenIn found.replica.file o w) (sym goes.1) (subst (λ (x : DataFile). IsWrittenFor x goes.0.log w) (sym there) own)
+
+    -- the reads of calls on what was found
+    reads_own : (to : Replica) (now : Option Told) (acts : List Act) (xs : List Answer) (failed : Option Act) → (calls : EndsCalls found.replica to found.mended now acts xs failed) → AllGiveOwn found.replica to found.mended now w acts xs failed calls
+    reads_own to now acts xs failed calls = ends_give w found.replica to found.mended now acts xs failed stands written calls
 
   module _ (old new : Outside) (status : Status) where
     refuses : (r : RefusesFile file.layout t old new status) → RefusesHurt file view t r.error
-    refuses r = answer_is_of_hurt file view t (Err r.error) may r.is.why r.is.other
+    refuses r = answer_is_of_hurt file view t (Err r.error) may unspent r.is.why r.is.other
 
-    -- the reads of calls on what was found
-    reads_own : (found : FoundFile file.layout t) (finds : FindsHad file view t found.replica) (to : Replica) (now : Option Told) (acts : List Act) (xs : List Answer) (failed : Option Act) → (calls : EndsCalls found.replica to found.mended now acts xs failed)
-        → AllGiveOwn found.replica to found.mended now (opened (shape file) (unit_at file.layout file.cluster t.shown) finds.found) acts xs failed calls
-    reads_own found finds to now acts xs failed calls =
-        ends_give (opened (shape file) (unit_at file.layout file.cluster t.shown) finds.found) found.replica to found.mended now acts xs failed (stands found.replica found.is_opened finds)
-        (written found.replica finds found.mended (found.mending.events, found.mending.told)) calls
-
-    word_reads : (mode : Mode) (found : FoundFile file.layout t) (works : Works mode file.layout t found old new status) (finds : FindsHad file view t found.replica)
-        → WordReadsOwn mode file.layout t found old new status works (opened (shape file) (unit_at file.layout file.cluster t.shown) finds.found)
+    word_reads : (mode : Mode) (found : FoundFile file.layout t) (works : Works mode file.layout t found old new status) (finds : FindsHad file view t found.found)
+        → WordReadsOwn mode file.layout t found old new status works (begun_work file t.shown finds.found)
     word_reads (Format layout cluster) found works finds = absurd works
     word_reads Run found serves finds =
         let c = script_calls serves.session in
-        reads_own found finds c.to c.new c.acts c.answers c.failed c.calls
+        reads_own found finds serves.calls.stands c.to c.new c.acts c.answers c.failed c.calls
     word_reads (Paced pace) found serves finds =
         let c = script_calls serves.session in
-        reads_own found finds c.to c.new c.acts c.answers c.failed c.calls
+        reads_own found finds serves.calls.stands c.to c.new c.acts c.answers c.failed c.calls
     word_reads Recover found works finds = tt
     word_reads Inspect found works finds = tt
     word_reads Scrub found works finds = tt
     word_reads (Workload seed count) found works finds =
         let c = run_calls works.worked in
-        reads_own found finds c.to c.new c.acts c.answers c.failed c.calls
+        reads_own found finds works.calls.stands c.to c.new c.acts c.answers c.failed c.calls
 
     comes_of_hurt : (mode : Mode) (comes : ComesTo mode file.layout t old new status) → ComesOfHurt file view t file.layout mode old new status comes
     comes_of_hurt mode (inl r) = refuses r
     comes_of_hurt mode (inr (inl fails)) = tt
     comes_of_hurt mode (inr (inr works)) =
-        let finds : FindsHad file view t works.0.replica = answer_is_of_hurt file view t (Ok works.0.replica) may works.0.is_opened in
+        let finds : FindsHad file view t works.0.found = answer_is_of_hurt file view t (Ok works.0.found) may unspent works.0.is_opened in
         (finds, word_reads mode works.0 works.1 finds)
 
     serves_hurt : (mode : Mode) → Does mode file.layout t old new status → ServesHurt file view t mode old new status
@@ -110,8 +118,8 @@ module _ (file : DataFile) (view : View) (t : Told) (may : MayBeHurt file view t
     -- ---- the superblock
 
     needless : IsNeedless file t → OpensAsLeft file view t
-    needless (inl copies) = two_copies_are_enough file view t may copies.0 copies.1 copies.2
-    needless (inr headers) = headers_may_be_hurt file view t may headers
+    needless (inl copies) = two_copies_are_enough file view t may unspent copies.0 copies.1 copies.2
+    needless (inr headers) = headers_may_be_hurt file view t may unspent headers
 
     copies : RefusesSuperblock t old new status → RefusesCopies file view t old new status
     copies r =
@@ -124,12 +132,12 @@ module _ (file : DataFile) (view : View) (t : Told) (may : MayBeHurt file view t
         serves_hurt mode (subst (λ (l : Layout). Does mode l t old new status) ((probe_is_of_hurt file view t may).layout serves.layout serves.shown) serves.serves)
 
 pub serves_over_hurt : (mode : Mode) (layout : Layout) (old new : Outside) (status : Status) → ServesIn mode layout old new status → ServesOverHurt mode layout old new status
-serves_over_hurt mode layout old new status serves = λ file view t same told may.
-    serves_hurt file view t may old new status mode (subst (λ (l : Layout). Does mode l t old new status) same (serves t told may.whole))
+serves_over_hurt mode layout old new status serves = λ file view t same told may unspent.
+    serves_hurt file view t may unspent old new status mode (subst (λ (l : Layout). Does mode l t old new status) same (serves t told may.whole))
 
 pub runs_over_hurt : (mode : Mode) (old new : Outside) (status : Status) → Runs mode old new status → RunsOverHurt mode old new status
-runs_over_hurt mode old new status runs = λ file view t told may. elim (runs t told may.whole) [
+runs_over_hurt mode old new status runs = λ file view t told may unspent. elim (runs t told may.whole) [
   | inl nothing ↦ inl nothing
-  | inr (inl refuses) ↦ inr (inl (copies file view t may old new status refuses))
-  | inr (inr serves) ↦ inr (inr (own file view t may old new status mode serves))
+  | inr (inl refuses) ↦ inr (inl (copies file view t may unspent old new status refuses))
+  | inr (inr serves) ↦ inr (inr (own file view t may unspent old new status mode serves))
 ]

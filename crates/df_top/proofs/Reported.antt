@@ -1,5 +1,5 @@
 -- A file that is reported: what a survey found of it, the summary of what was opened, or a tour over it; and one that is refused.
-use Rattle.std.proofs.Common.{◌≡◌, inr, ℕ, true, List, [], ◌∷◌, Option, Some, None, refl, sym, ◌∙◌, ap, subst, Ok, Err}
+use Rattle.std.proofs.Common.{◌≡◌, inl, inr, ℕ, true, List, [], ◌∷◌, Option, Some, None, refl, sym, ◌∙◌, ap, subst, Ok, Err}
 use Rattle.df_base.specs.Image.{Image, IsImage}
 use Rattle.df_base.specs.Log.{Sync}
 use Rattle.df_disk.specs.Adds.{AddsPart}
@@ -34,7 +34,7 @@ use Rattle.df_top.specs.declared.mode.Mode.TheVariants.{Inspect}
 use Rattle.df_top.specs.declared.status.Status.{Status}
 use Rattle.df_top.specs.declared.status.Status.TheVariants.{Done}
 use Rattle.df_session.proofs.Laws.{calls_keep}
-use Rattle.df_top.proofs.Served.{by_fault, not_opened}
+use Rattle.df_top.proofs.Served.{by_fault, not_opened, opened_file}
 
 -- ---- the barrier
 
@@ -80,7 +80,7 @@ mends_none file told = record {
 
 module _ (layout : Layout) (t : Told) (old new : Outside) (status : Status) (whole : IsImage t.shown) (told : old.told ≡ Some t) (unread : new.left ≡ old.left) where
   abbrev looked_at : (s : Survey) → IsOpened layout t.shown s.state → FoundFile layout t
-  looked_at s is_opened = record { replica = s.state; is_opened = is_opened; mended = Some (did Sync t); mending = mends_none s.state.file (Some (did Sync t)) }
+  looked_at s is_opened = record { found = s.state; is_opened = is_opened; replica = s.state; begun = inl refl; mended = Some (did Sync t); mending = mends_none s.state.file (Some (did Sync t)) }
 
   pub inspects : (s : Survey) → TellsSurvey layout old.told (Ok s.state) → TellsMends layout old.told s → new.told ≡ after Sync old.told
       → PrintsLine (report_of s) (status_of s.mends) old.written new.written status → (found : FoundFile layout t) × Inspects layout t found old new status
@@ -110,20 +110,20 @@ machine_tour s image codec w work rep =
     subst (λ (xs : List (ℕ × ℕ)). IsTour (shape s.file) codec (shown_of s.file image) (at_start w) xs) (sym (ap referenced_of rep))
     (tour_law (shape s.file) codec (shown_of s.file image) (at_start w) refl work.few)
 
-module _ (layout : Layout) (t : Told) (old new : Outside) (status : Status) (s : Replica) (whole : IsImage t.shown) (told : old.told ≡ Some t) (unread : new.left ≡ old.left) (live : s.live ≡ true) (is_opened : IsOpened layout t.shown s)
+module _ (layout : Layout) (t : Told) (old new : Outside) (status : Status) (s : Replica) (whole : IsImage t.shown) (told : old.told ≡ Some t) (unread : new.left ≡ old.left) (live : s.live ≡ true) (of : s.file.layout ≡ layout)
     (over : MendsAll t s new.told) where
   abbrev found : FoundFile layout t
-  found = record { replica = s; is_opened = is_opened; mended = new.told; mending = over.mending }
+  found = opened_file layout t s new.told whole of over
 
   calls : CallsKeep t found.replica found.mended found.mending (no_calls found)
-  calls = calls_keep t s new.told over s new.told [] [] None (refl, refl) whole live (subst (λ (l : Layout). IsOpened l t.shown s) (sym is_opened.of.layout_is) is_opened)
+  calls = calls_keep t s new.told over s new.told [] [] None (refl, refl) whole live
 
   pub recovers : PrintsLine (summary_text (summary_of s)) Done old.written new.written status → (found : FoundFile layout t) × Recovers layout t found old new status
   recovers prints = (found, record { prints = prints; unread = unread; told = refl; calls = calls })
 
   -- its tour is at the start
   first : s.tour ≡ first_tour
-  first = ap (λ (m : Memory). m.tour) is_opened.stands
+  first = ap (λ (r : Replica). r.tour) over.raised ∙ ap (λ (m : Memory). m.tour) found.is_opened.stands
 
   -- what is told then, and that it shows what the mending left
   abbrev after_mending : Told

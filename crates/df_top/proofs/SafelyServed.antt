@@ -1,5 +1,5 @@
 -- Over a file that may be opened each other end of a word needs a call that failed, or a refusal that no such file has.
-use Rattle.std.proofs.Common.{◌≡◌, ◌⊎◌, inl, inr, ℕ, zero, suc, Bool, true, List, [], ◌∷◌, ◌++◌, length, Option, None, Some, refl, subst}
+use Rattle.std.proofs.Common.{◌≡◌, ◌⊎◌, ◌<◌, ◌^◌, inl, inr, ℕ, zero, suc, Bool, true, List, [], ◌∷◌, ◌++◌, length, Option, None, Some, refl, subst}
 use Rattle.df_base.specs.Image.{IsImage}
 use Rattle.df_disk.specs.Told.{Told}
 use Rattle.df_layout.specs.declared.damage.Mend.{Mend}
@@ -11,7 +11,7 @@ use Rattle.df_lines.proofs.Laws.{one_script, begins_one}
 use Rattle.df_pace.specs.Beats.{idle}
 use Rattle.df_pace.specs.declared.pace.Pace.{Pace}
 use Rattle.df_session.specs.Below.{DataFile, IsNotRefused, State as Replica}
-use Rattle.df_theory.specs.View.{View}
+use Rattle.df_theory.specs.View.{View, boot_of}
 use Rattle.df_session.specs.Following.{MayOpen}
 use Rattle.df_session.specs.Session.{Act}
 use Rattle.df_session.proofs.Laws.{safe_is_not_refused}
@@ -84,7 +84,7 @@ run_ends run last told failed written took status writes = absurd writes
 
 -- ---- the words
 
-module _ (file : DataFile) (view : View) (t : Told) (old new : Outside) (before now : Faults) (status : Status) (may : MayOpen file view t) (causes : HasCauses before now status) (none : NoneFailed before now) where
+module _ (file : DataFile) (view : View) (t : Told) (old new : Outside) (before now : Faults) (status : Status) (may : MayOpen file view t) (unspent : boot_of view < 2 ^ 62) (causes : HasCauses before now status) (none : NoneFailed before now) where
   no_disk : status ≡ DiskFault → ⊥
   no_disk is = none.disk (causes.disk.rose is)
 
@@ -95,7 +95,7 @@ module _ (file : DataFile) (view : View) (t : Told) (old new : Outside) (before 
   no_sink is = none.sink (causes.sink.rose is)
 
   answers : IsImage t.shown × IsNotRefused file t.shown
-  answers = safe_is_not_refused file view t may
+  answers = safe_is_not_refused file view t may unspent
 
   no_refusal : RefusesFile file.layout t old new status → ⊥
   no_refusal refuses = refuses.is.other (answers.1.answered refuses.error refuses.is.why)
@@ -160,9 +160,9 @@ module _ (file : DataFile) (view : View) (t : Told) (old new : Outside) (before 
   ran mode (inr (inr serves)) = inr (done mode (subst (λ (l : Layout). Does mode l t old new status) (answers.1.layout serves.layout serves.shown) serves.serves))
 
 pub safe_is_run : SafeIsRun
-safe_is_run mode file view t old new before now status of may told causes none runs =
-    ran file view t old new before now status may causes none mode (runs t told (answers file view t old new before now status may causes none).0)
+safe_is_run mode file view t old new before now status of may unspent told causes none runs =
+    ran file view t old new before now status may unspent causes none mode (runs t told (answers file view t old new before now status may unspent causes none).0)
 
 pub safe_is_served : SafeIsServed
-safe_is_served mode file view t old new before now status may told causes none serves =
-    done file view t old new before now status may causes none mode (serves t told (answers file view t old new before now status may causes none).0)
+safe_is_served mode file view t old new before now status may unspent told causes none serves =
+    done file view t old new before now status may unspent causes none mode (serves t told (answers file view t old new before now status may unspent causes none).0)

@@ -8,20 +8,18 @@ use Rattle.df_disk.proofs.Laws.{goes_told}
 use Rattle.df_layout.specs.declared.layout.Layout.{Layout}
 use Rattle.df_lines.specs.Room.{IsFresh, line_bound}
 use Rattle.df_lines.specs.Text.{Reading, unread}
-use Rattle.df_units.specs.Bytes.{unit_at}
-use Rattle.df_model.specs.Work.{opened}
 use Rattle.df_model.specs.declared.errors.OpenError.{OpenError}
 use Rattle.df_model.specs.declared.errors.OpenError.TheVariants as opens
-use Rattle.df_session.specs.Below.{State as Replica, shape, IsOpened}
+use Rattle.df_session.specs.Begun.{begun_work}
+use Rattle.df_session.specs.Below.{State as Replica, IsOpened}
 use Rattle.df_session.specs.Opened.{MendsAll, StopsOpening, ToldBy}
 use Rattle.df_session.specs.Surveying.{TellsSurvey}
-use Rattle.df_session.proofs.Laws.{found_keeps}
 use Rattle.df_pace.specs.Beats.{started}
 use Rattle.df_pace.specs.declared.pace.Pace.{Pace}
 use Rattle.df_session.specs.Found.{FoundFile}
 use Rattle.df_session.specs.Links.{CallsMade}
 use Rattle.df_session.specs.Laws.{CallsKeep}
-use Rattle.df_session.proofs.Laws.{calls_keep, ends_told}
+use Rattle.df_session.proofs.Laws.{begun_here, calls_keep, ends_told}
 use Rattle.df_top.specs.Acknowledging.{script_calls}
 use Rattle.df_top.specs.Opening.{FailsToFind, RefusesFile, StopsBefore}
 use Rattle.df_top.specs.Outside.{IsThrough, Outside}
@@ -60,6 +58,16 @@ from_start pace told old s layout last status fresh none idle ended =
     subst (λ (n : ℕ). Ended pace n (start told old s.replica) last status) (ap (λ (r : Reading). r.bound) fresh.reading)
     (subst (λ (o : State). Ended pace s.lines.reading.bound o last status) (begins_so told old s (line_bound layout) fresh none idle) ended)
 
+-- ---- a file that was opened
+
+-- what was found is of the rooms' layout
+pub opened_there : (layout : Layout) (t : Told) (s : Replica) (mended : Option Told) → IsImage t.shown → s.file.layout ≡ layout → (over : MendsAll t s mended) → IsOpened layout t.shown over.found
+opened_there layout t s mended whole of over =
+    subst (λ (l : Layout). IsOpened l t.shown over.found) (sym (ap (λ (r : Replica). r.file.layout) over.raised) ∙ of) (over.opened whole)
+
+abbrev pub opened_file : (layout : Layout) (t : Told) (s : Replica) (mended : Option Told) → IsImage t.shown → s.file.layout ≡ layout → MendsAll t s mended → FoundFile layout t
+opened_file layout t s mended whole of over = record { found = over.found; is_opened = opened_there layout t s mended whole of over; replica = s; begun = inr over.raised; mended = mended; mending = over.mending }
+
 -- ---- a disk that tells what it shows
 
 -- no session ends there by a step that is damaged
@@ -83,11 +91,10 @@ through_whole n old new turns failing cut Found ends is = absurd is
 
 -- ---- it is served
 
-module _ (pace : Pace) (layout : Layout) (t : Told) (old new : Outside) (status : Status) (s : Replica) (mended : Option Told) (whole : IsImage t.shown) (told : old.told ≡ Some t) (live : s.live ≡ true) (of : s.file.layout ≡ layout) (is_opened : IsOpened layout t.shown s)
-    (over : MendsAll t s mended)
+module _ (pace : Pace) (layout : Layout) (t : Told) (old new : Outside) (status : Status) (s : Replica) (mended : Option Told) (whole : IsImage t.shown) (told : old.told ≡ Some t) (live : s.live ≡ true) (of : s.file.layout ≡ layout) (over : MendsAll t s mended)
     (last : State) (last_is : last.outside ≡ new) (ended : Ended pace (line_bound layout) (start mended old s) last status) where
   abbrev found : FoundFile layout t
-  found = record { replica = s; is_opened = is_opened; mended = mended; mending = over.mending }
+  found = opened_file layout t s mended whole of over
 
   abbrev made : CallsMade
   made = script_calls ended
@@ -97,9 +104,6 @@ module _ (pace : Pace) (layout : Layout) (t : Told) (old new : Outside) (status 
 
   abbrev synced : ToldBy (Some (did Sync t)) mended
   synced = (over.mending.events, over.mending.told)
-
-  opened_here : IsOpened s.file.layout t.shown s
-  opened_here = subst (λ (l : Layout). IsOpened l t.shown s) (sym of) is_opened
 
   -- the disk goes on telling what it shows
   tells_on : (u : Told) × (last.outside.told ≡ Some u)
@@ -116,7 +120,7 @@ module _ (pace : Pace) (layout : Layout) (t : Told) (old new : Outside) (status 
       (subst (λ (x : Status). EndsWith origin.lines origin.outside last.outside ended.turns (act_of ended.failing) ended.cut x) is ended.written)
 
   calls : CallsKeep t found.replica found.mended found.mending (script_calls ended)
-  calls = calls_keep t s mended over last.replica last.outside.told (all_acts ended.turns) (all_answers ended.turns) (act_of ended.failing) made.calls whole live opened_here
+  calls = calls_keep t s mended over last.replica last.outside.told (all_acts ended.turns) (all_answers ended.turns) (act_of ended.failing) made.calls whole live
 
   abbrev origin : State
   origin = start mended old s
@@ -127,7 +131,7 @@ module _ (pace : Pace) (layout : Layout) (t : Told) (old new : Outside) (status 
     last_is = last_is;
     session = ended;
     result = λ view shown there agree.
-        opened_prints pace s t mended over whole (opened (shape s.file) (unit_at s.file.layout s.file.cluster t.shown) view) (found_keeps s t.shown view whole opened_here there) last.replica last.outside.told shown agree ended.turns ended.failing status
+        opened_prints pace s t mended over whole (begun_work s.file t.shown view) (begun_here t s mended over view whole there) last.replica last.outside.told shown agree ended.turns ended.failing status
         (through_whole origin.lines origin.outside last.outside ended.turns ended.failing ended.cut status ended.written) ended.calls;
     adds = sym last_told ∙ calls.adds;
     calls = calls;

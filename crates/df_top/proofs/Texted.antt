@@ -19,13 +19,14 @@ use Rattle.df_theory.specs.Units.{AnyUnit, BlockPlace, Place, PreparePlace, Repl
 use Rattle.df_theory.specs.View.{View}
 use Rattle.df_theory.proofs.Laws.{one_found_law}
 use Rattle.df_units.specs.Bytes.{unit_at}
-use Rattle.df_model.specs.Supply.{Shown}
+use Rattle.df_model.specs.Supply.{Shown, begun_from}
 use Rattle.df_model.specs.Work.{Work, opened}
 use Rattle.df_pace.specs.declared.pace.Pace.{Pace}
 use Rattle.df_pace.proofs.Laws.{idle_law}
+use Rattle.df_session.specs.Begun.{begun_work}
 use Rattle.df_session.specs.Below.{DataFile, IsOpened, State as Replica, shape}
 use Rattle.df_session.specs.Reading.{shown_of}
-use Rattle.df_session.proofs.Laws.{one_super, same_file, super_shown}
+use Rattle.df_session.proofs.Laws.{file_there, layout_there, one_super, same_file, super_shown, view_there}
 use Rattle.df_session.specs.Below.{AgreeShown, codec}
 use Rattle.df_session.specs.Found.{FoundFile}
 use Rattle.df_top.specs.Lines.{Failing, Turned, act_of, all_said, all_text, command_of, printed, said_of}
@@ -135,7 +136,7 @@ module _ (pace : Pace) (layout : Layout) (t : Told) (old new : Outside) (status 
 
   module _ (view : View) (shown : Shown) (says : List Said) (script : IsScript (line_bound layout) script_budget text says) (found : IsFound (shape file) (unit_at file.layout file.cluster t.shown) view) (agree : AgreeShown file.layout (shown_of file t.shown) shown) where
     abbrev w : Work
-    w = opened (shape file) (unit_at file.layout file.cluster t.shown) view
+    w = begun_work file t.shown view
 
     lines_text : all_text turns ≡ text_over pace file shown w (all_said turns)
     lines_text = (serves.result view shown found agree).text
@@ -209,16 +210,13 @@ module _ (layout : Layout) (a b : Image) (same : ShowSame layout a b) where
 
   -- what lines print over the one and over the other
   one_line : (pace : Pace) (s u : Replica) (one : IsOpened layout a s) (other : IsOpened layout b u) (says : List Said)
-      → text_over pace s.file (shown_of s.file b) (opened (shape s.file) (unit_at s.file.layout s.file.cluster a) one.view) says ≡ text_over pace u.file (shown_of u.file b) (opened (shape u.file) (unit_at u.file.layout u.file.cluster b) other.view) says
+      → text_over pace s.file (shown_of s.file b) (begun_work s.file a one.view) says ≡ text_over pace u.file (shown_of u.file b) (begun_work u.file b other.view) says
   one_line pace s u one other says =
       let there : unit_at s.file.layout s.file.cluster a ≡ unit_at s.file.layout s.file.cluster b =
       subst (λ (l : Layout). unit_at l s.file.cluster a ≡ unit_at l s.file.cluster b) (sym one.of.layout_is) (units_there s.file.cluster) in
-      ap (λ (image : Place → Option AnyUnit). text_over pace s.file (shown_of s.file b) (opened (shape s.file) image one.view) says) there
-      ∙ ap (λ (v : View). text_over pace s.file (shown_of s.file b) (opened (shape s.file) (unit_at s.file.layout s.file.cluster b) v) says) (one_view s u one other)
-      ∙ ap (λ (f : DataFile). text_over pace f (shown_of f b) (opened (shape f) (unit_at f.layout f.cluster b) other.view) says) (one_file s u one other)
-
-pub found_here : (layout : Layout) (image : Image) (s : Replica) (is : IsOpened layout image s) → IsFound (shape s.file) (unit_at s.file.layout s.file.cluster image) is.view
-found_here layout image s is = subst (λ (l : Layout). IsFound (shape s.file) (unit_at l s.file.cluster image) is.view) (sym is.of.layout_is) is.found
+      ap (λ (image : Place → Option AnyUnit). text_over pace s.file (shown_of s.file b) (begun_from (shape s.file) (codec s.file) (opened (shape s.file) image one.view)) says) there
+      ∙ ap (λ (v : View). text_over pace s.file (shown_of s.file b) (begun_work s.file b v) says) (one_view s u one other)
+      ∙ ap (λ (f : DataFile). text_over pace f (shown_of f b) (begun_work f b other.view) says) (one_file s u one other)
 
 pub one_text : OneText
 one_text pace layout t u old new before now status ending text here there one other same left also is are =
@@ -226,12 +224,15 @@ one_text pace layout t u old new before now status ending text here there one ot
     let r = there.replica in
     let script = script_of pace layout u before now ending there other text also are in
     let says : List Said = all_said other.session.turns in
-    let first = prints_over pace layout t old new status here one text left is here.is_opened.view (shown_of s.file u.shown) says script (found_here layout t.shown s here.is_opened) (agree_there layout t.shown u.shown same s.file here.is_opened.of.layout_is) in
-    let second = prints_over pace layout u before now ending there other text also are there.is_opened.view (shown_of r.file u.shown) says script (found_here layout u.shown r there.is_opened) (agree_self r.file.layout (shown_of r.file u.shown)) in
-    let line = one_line layout t.shown u.shown same pace s r here.is_opened there.is_opened says in (
+    let first = prints_over pace layout t old new status here one text left is here.is_opened.view (shown_of s.file u.shown) says script (view_there layout t here) (agree_there layout t.shown u.shown same s.file (layout_there layout t here)) in
+    let second = prints_over pace layout u before now ending there other text also are there.is_opened.view (shown_of r.file u.shown) says script (view_there layout u there) (agree_self r.file.layout (shown_of r.file u.shown)) in
+    let line : text_over pace s.file (shown_of s.file u.shown) (begun_work s.file t.shown here.is_opened.view) says ≡ text_over pace r.file (shown_of r.file u.shown) (begun_work r.file u.shown there.is_opened.view) says =
+    ap (λ (f : DataFile). text_over pace f (shown_of f u.shown) (begun_work f t.shown here.is_opened.view) says) (file_there layout t here)
+    ∙ one_line layout t.shown u.shown same pace here.found there.found here.is_opened there.is_opened says
+    ∙ ap (λ (f : DataFile). text_over pace f (shown_of f u.shown) (begun_work f u.shown there.is_opened.view) says) (sym (file_there layout u there)) in (
       first.0 ∙ sym second.0,
       (
-        text_by script.ends (length says) (text_over pace r.file (shown_of r.file u.shown) (opened (shape r.file) (unit_at r.file.layout r.file.cluster u.shown) there.is_opened.view) says),
+        text_by script.ends (length says) (text_over pace r.file (shown_of r.file u.shown) (begun_work r.file u.shown there.is_opened.view) says),
         subst (λ (l : List ℕ). Appends old.written new.written (text_by script.ends (length says) l)) line first.1,
         second.1,
       ),

@@ -18,6 +18,7 @@ use Rattle.df_session.specs.Serving.{IsCall}
 use Rattle.df_session.specs.Session.{Act}
 use Rattle.df_session.specs.Found.{FoundFile}
 use Rattle.df_session.specs.Links.{AreCalls, EndsCalls}
+use Rattle.df_session.proofs.Laws.{layout_there}
 use Rattle.df_top.specs.Acknowledging.{run_calls, script_calls}
 use Rattle.df_top.specs.Opening.{StopsBefore}
 use Rattle.df_top.specs.Outside.{Outside}
@@ -65,7 +66,7 @@ module _ (layout : Layout) (t : Told) where
   stops_within : (new : Option Told) → StopsOpening layout t new → AddsWithin layout (Some t) new
   stops_within new (inl same) = none_within layout (Some t) new same
   stops_within new (inr (inl synced)) = barrier_within new synced
-  stops_within new (inr (inr part)) = mends_within part.state.file new part.opened.of.layout_is part.mending
+  stops_within new (inr (inr part)) = mends_within part.found.file new part.opened.of.layout_is part.mending
 
   -- a mending, and calls behind it
   session_within : (file : DataFile) (mended new : Option Told) → file.layout ≡ layout → Mends file (Some (did Sync t)) mended → AddsWithin file.layout mended new → AddsWithin layout (Some t) new
@@ -83,12 +84,12 @@ module _ (layout : Layout) (t : Told) where
 
   -- what was found is mended, and nothing more
   found_within : (found : FoundFile layout t) (new : Option Told) → new ≡ found.mended → AddsWithin layout (Some t) new
-  found_within found new same = mends_within found.replica.file new found.is_opened.of.layout_is (subst (λ (o : Option Told). Mends found.replica.file (Some (did Sync t)) o) (sym same) found.mending)
+  found_within found new same = mends_within found.replica.file new (layout_there layout t found) (subst (λ (o : Option Told). Mends found.replica.file (Some (did Sync t)) o) (sym same) found.mending)
 
   -- and calls are made on it
   calls_within_found : (found : FoundFile layout t) (to : Replica) (new : Option Told) (acts : List Act) (answers : List Answer) (failed : Option Act) → EndsCalls found.replica to found.mended new acts answers failed → AddsWithin layout (Some t) new
   calls_within_found found to new acts answers failed calls =
-      session_within found.replica.file found.mended new found.is_opened.of.layout_is found.mending (ends_within found.replica.file found.replica to found.mended new acts answers failed refl calls)
+      session_within found.replica.file found.mended new (layout_there layout t found) found.mending (ends_within found.replica.file found.replica to found.mended new acts answers failed refl calls)
 
 module _ (layout : Layout) (t : Told) (old new : Outside) (status : Status) where
   works_within : (mode : Mode) (found : FoundFile layout t) → Works mode layout t found old new status → AddsWithin layout (Some t) new.told

@@ -13,7 +13,7 @@ use Rattle.df_layout.specs.declared.damage.Class.{Class}
 use Rattle.df_layout.specs.declared.places.Place.{Place}
 use Rattle.df_script_model.specs.Texts.{damaged_text}
 use Rattle.df_layout.specs.declared.layout.Layout.{Layout}
-use Rattle.df_session.specs.Below.{IsOpened, State as Replica}
+use Rattle.df_session.specs.Below.{State as Replica}
 use Rattle.df_session.specs.Opened.{MendsAll, ToldBy}
 use Rattle.df_session.specs.Session.{Act}
 use Rattle.df_workload.specs.Rounds.{start}
@@ -33,6 +33,7 @@ use Rattle.df_top.specs.declared.status.Status.{Status}
 use Rattle.df_top.specs.declared.status.Status.TheVariants.{Done, Words, Refused, DiskFault, ReadFault, WriteFault, Memory}
 use Rattle.df_top.proofs.Causes.{calm_done, calm_refused, disk_blame, line_ends, never_printed, no_blame}
 use Rattle.df_top.proofs.Runs.{EndsRun}
+use Rattle.df_top.proofs.Served.{opened_file}
 
 -- ---- what is printed
 
@@ -91,16 +92,13 @@ damaged_never run t told (Some a) old new u is writes = none-some u (sym writes.
 -- ---- it is carried out
 
 module _ (seed count : ℕ) (layout : Layout) (t : Told) (old new : Outside) (status : Status) (s : Replica) (mended : Option Told) (image : IsImage t.shown) (told : old.told ≡ Some t) (unread : new.left ≡ old.left) (live : s.live ≡ true)
-    (of : s.file.layout ≡ layout) (is_opened : IsOpened layout t.shown s) (over : MendsAll t s mended)
+    (of : s.file.layout ≡ layout) (over : MendsAll t s mended)
     (run : Run) (last : Replica) (ended : EndsRun (start seed count layout.clients) s mended run last new.told old.written new.written status) where
   abbrev found : FoundFile layout t
-  found = record { replica = s; is_opened = is_opened; mended = mended; mending = over.mending }
+  found = opened_file layout t s mended image of over
 
   abbrev synced : ToldBy (Some (did Sync t)) mended
   synced = (over.mending.events, over.mending.told)
-
-  opened_here : IsOpened s.file.layout t.shown s
-  opened_here = subst (λ (l : Layout). IsOpened l t.shown s) (sym of) is_opened
 
   -- the disk goes on telling what it shows
   tells_on : (u : Told) × (new.told ≡ Some u)
@@ -116,7 +114,7 @@ module _ (seed count : ℕ) (layout : Layout) (t : Told) (old new : Outside) (st
       (subst (λ (x : Status). Writes run last new.told ended.worked.failed old.written new.written x) is ended.writes)
 
   calls : CallsKeep t found.replica found.mended found.mending (run_calls ended.worked)
-  calls = calls_keep t s mended over last new.told ended.worked.acts ended.worked.answers ended.worked.failed ended.worked.calls image live opened_here
+  calls = calls_keep t s mended over last new.told ended.worked.acts ended.worked.answers ended.worked.failed ended.worked.calls image live
 
   pub works_through : (found : FoundFile layout t) × WorksThrough seed count layout t found old new status
   works_through = (found, record { unread = unread; run = run; last = last; worked = ended.worked; written = ended.writes; calls = calls; undamaged = undamaged })

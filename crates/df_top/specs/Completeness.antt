@@ -1,5 +1,5 @@
 -- How a word ends where nothing fails: over a file that is safe to open, and `format` over a blank disk.
-use Rattle.std.specs.Prelude.{◌≡◌, ◌⊎◌, ◌<◌, ℕ, List, [], Option, Some}
+use Rattle.std.specs.Prelude.{◌≡◌, ◌⊎◌, ◌<◌, ◌^◌, ℕ, List, [], Option, Some}
 use Rattle.df_base.specs.Causes.{Rose}
 use Rattle.df_disk.specs.Told.{Told}
 use Rattle.df_layout.specs.declared.layout.Layout.{Layout}
@@ -7,7 +7,7 @@ use Rattle.df_lines.specs.Grammar.{Said}
 use Rattle.df_lines.specs.Room.{line_bound}
 use Rattle.df_lines.specs.Script.{Begins}
 use Rattle.df_session.specs.Below.{DataFile, IsUnformatted}
-use Rattle.df_theory.specs.View.{View}
+use Rattle.df_theory.specs.View.{View, boot_of}
 use Rattle.df_session.specs.Following.{MayOpen}
 use Rattle.df_top.specs.Formats.{Formats}
 use Rattle.df_top.specs.Mode.{IsOfFile}
@@ -45,16 +45,16 @@ IsCarriedOut Scrub layout left status = (status ≡ Done) ⊎ (status ≡ Found)
 IsCarriedOut (Workload seed count) layout left status = status ≡ Done
 IsCarriedOut (Paced pace) layout left status = (status ≡ Done) ⊎ IsCut layout left status
 
--- whatever word on a file is run, over a disk that may be opened: where nothing failed, it was carried out, or memory was wanting
+-- whatever word on a file is run, over a disk that may be opened, while boots are left: where nothing failed, it was carried out, or memory was wanting
 abbrev pub SafeIsRun : Type 0
 SafeIsRun =
-    (mode : Mode) (file : DataFile) (view : View) (t : Told) (old new : Outside) (before now : Faults) (status : Status) → IsOfFile mode → MayOpen file view t → old.told ≡ Some t
+    (mode : Mode) (file : DataFile) (view : View) (t : Told) (old new : Outside) (before now : Faults) (status : Status) → IsOfFile mode → MayOpen file view t → boot_of view < 2 ^ 62 → old.told ≡ Some t
     → HasCauses before now status → NoneFailed before now → Runs mode old new status → (status ≡ Memory) ⊎ IsCarriedOut mode file.layout old.left status
 
 -- and in rooms of the file's layout it was carried out
 abbrev pub SafeIsServed : Type 0
 SafeIsServed =
-    (mode : Mode) (file : DataFile) (view : View) (t : Told) (old new : Outside) (before now : Faults) (status : Status) → MayOpen file view t → old.told ≡ Some t
+    (mode : Mode) (file : DataFile) (view : View) (t : Told) (old new : Outside) (before now : Faults) (status : Status) → MayOpen file view t → boot_of view < 2 ^ 62 → old.told ≡ Some t
     → HasCauses before now status → NoneFailed before now → ServesIn mode file.layout old new status → IsCarriedOut mode file.layout old.left status
 
 -- over a disk whose superblock is blank, and with a cluster other than 0, the word `format` makes the file, or memory was wanting

@@ -1,12 +1,12 @@
 -- What a word does with a file that may be hurt: sectors of it were damaged, lost or swapped before the open.
 use Rattle.std.proofs.Common.{inl, inr}
-use Rattle.std.specs.Prelude.{◌≡◌, ◌⊎◌, Some}
+use Rattle.std.specs.Prelude.{◌≡◌, ◌⊎◌, ◌<◌, ◌^◌, Some}
 use Rattle.df_disk.specs.Told.{Told}
 use Rattle.df_layout.specs.declared.layout.Layout.{Layout}
-use Rattle.df_theory.specs.View.{View}
-use Rattle.df_units.specs.Bytes.{unit_at}
-use Rattle.df_model.specs.Work.{Work, opened}
-use Rattle.df_session.specs.Below.{DataFile, shape, FindsHad, IsNeedless, RefusesHurt, IsAtRest, MayBeHurt, HasTwoCopies, IsHurtFile, MayBeOfDamage}
+use Rattle.df_theory.specs.View.{View, boot_of}
+use Rattle.df_model.specs.Work.{Work}
+use Rattle.df_session.specs.Begun.{begun_work}
+use Rattle.df_session.specs.Below.{DataFile, FindsHad, IsNeedless, RefusesHurt, IsAtRest, MayBeHurt, HasTwoCopies, IsHurtFile, MayBeOfDamage}
 use Rattle.df_session.specs.Found.{FoundFile}
 use Rattle.df_session.specs.Owning.{ReadsOwn}
 use Rattle.df_top.specs.Acknowledging.{run_calls, script_calls}
@@ -25,13 +25,13 @@ WordReadsOwn (Paced pace) layout t found old new status serves w = ReadsOwn (scr
 WordReadsOwn (Workload seed count) layout t found old new status works w = ReadsOwn (run_calls works.worked) w
 WordReadsOwn mode layout t found old new status works w = Unit {0}
 
--- what becomes of the file is of damage: a refusal has its cause in a sector that is hurt, and the state that is found is one that the file had, from which on the reads give what is
--- their own
+-- what becomes of the file is of damage: a refusal has its cause in a sector that is hurt, and the state that is found is one that the file had, from which on, behind its boot update,
+-- the reads give what is their own
 abbrev pub ComesOfHurt : (file : DataFile) → (view : View) → (t : Told) → (layout : Layout) → (mode : Mode) → (old new : Outside) → (status : Status) → ComesTo mode layout t old new status → Type 0
 ComesOfHurt file view t layout mode old new status (inl refuses) = RefusesHurt file view t refuses.error
 ComesOfHurt file view t layout mode old new status (inr (inl fails)) = Unit {0}
 ComesOfHurt file view t layout mode old new status (inr (inr works)) =
-    (finds : FindsHad file view t works.0.replica) × WordReadsOwn mode layout t works.0 old new status works.1 (opened (shape file) (unit_at file.layout file.cluster t.shown) finds.found)
+    (finds : FindsHad file view t works.0.found) × WordReadsOwn mode layout t works.0 old new status works.1 (begun_work file t.shown finds.found)
 
 abbrev pub IsOfHurt : (file : DataFile) → (view : View) → (t : Told) → (layout : Layout) → (mode : Mode) → (old new : Outside) → (status : Status) → Does mode layout t old new status → Type 0
 IsOfHurt file view t layout mode old new status does = ComesOfHurt file view t layout mode old new status does.1
@@ -41,9 +41,9 @@ pub record ServesHurt (file : DataFile) (view : View) (t : Told) (mode : Mode) (
   pub does : Does mode file.layout t old new status
   pub of_hurt : IsOfHurt file view t file.layout mode old new status does
 
--- in rooms of the file's layout
+-- in rooms of the file's layout, while boots are left
 abbrev pub ServesOverHurt : Mode → Layout → Outside → Outside → Status → Type 0
-ServesOverHurt mode layout old new status = (file : DataFile) (view : View) (t : Told) → layout ≡ file.layout → old.told ≡ Some t → MayBeHurt file view t → ServesHurt file view t mode old new status
+ServesOverHurt mode layout old new status = (file : DataFile) (view : View) (t : Told) → layout ≡ file.layout → old.told ≡ Some t → MayBeHurt file view t → boot_of view < 2 ^ 62 → ServesHurt file view t mode old new status
 
 -- ---- the program
 
@@ -55,7 +55,7 @@ pub record RefusesCopies (file : DataFile) (view : View) (t : Told) (old new : O
   pub stood : IsAtRest file t.log → HasTwoCopies t → ⊥
   pub needed : IsNeedless file t → ⊥
 
--- memory was wanting or the disk failed in the first reads, or the superblock is refused for damage, or the word is carried out
+-- while boots are left: memory was wanting or the disk failed in the first reads, or the superblock is refused for damage, or the word is carried out
 abbrev pub RunsOverHurt : Mode → Outside → Outside → Status → Type 0
-RunsOverHurt mode old new status = (file : DataFile) (view : View) (t : Told) → old.told ≡ Some t → MayBeHurt file view t
+RunsOverHurt mode old new status = (file : DataFile) (view : View) (t : Told) → old.told ≡ Some t → MayBeHurt file view t → boot_of view < 2 ^ 62
     → DidNothing old new status ⊎ RefusesCopies file view t old new status ⊎ ServesHurt file view t mode old new status

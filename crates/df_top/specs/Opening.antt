@@ -42,7 +42,7 @@ pub record IsSilent (old new : Outside) : Type 0 where
   pub written : new.written ≡ old.written
   pub unread : new.left ≡ old.left
 
--- what the disk tells where it failed before the file was found: in the barrier, in a read behind it, or, but for a word that only looks, within the mending
+-- what the disk tells where it failed before the file was found: in the barrier, in a read behind it, or, but for a word that only looks, within the mending or the boot update
 abbrev pub StopsBefore : Mode → Layout → Told → Option Told → Type 0
 StopsBefore Inspect layout t later = AddsPart (Sync ∷ []) (Some t) later
 StopsBefore mode layout t later = StopsOpening layout t later

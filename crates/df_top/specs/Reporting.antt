@@ -26,10 +26,10 @@ status_of (m ∷ more) = Found
 abbrev pub report_of : Survey → List ℕ
 report_of s = inspection_text (summary_of s.state) s.state.root s.state.table.sessions s.mends
 
--- the report of what is found is printed: Found exactly where something is to be mended. Behind the barrier nothing is written.
+-- the report of what is found is printed: Found exactly where something is to be mended. Behind the barrier nothing is written: what is only looked at isn't mended, and its boot isn't raised.
 pub record Inspects (layout : Layout) (t : Told) (found : FoundFile layout t) (old new : Outside) (status : Status) : Type 0 where
   pub survey : Survey
-  pub of : survey.state ≡ found.replica
+  pub of : survey.state ≡ found.found
   pub mendable : IsMendable layout t.shown survey
   pub prints : PrintsLine (report_of survey) (status_of survey.mends) old.written new.written status
   pub unread : new.left ≡ old.left

@@ -3,10 +3,10 @@ use Rattle.std.specs.Prelude.{◌≡◌, ℕ, List, [], ◌∷◌, ◌++◌, map
 use Rattle.df_base.specs.Image.{Image}
 use Rattle.df_lines.specs.Grammar.{Said}
 use Rattle.df_theory.specs.View.{View}
-use Rattle.df_units.specs.Bytes.{unit_at}
 use Rattle.df_model.specs.Commands.{Command}
 use Rattle.df_model.specs.Supply.{Shown}
-use Rattle.df_model.specs.Work.{Work, opened}
+use Rattle.df_model.specs.Work.{Work}
+use Rattle.df_session.specs.Begun.{begun_work}
 use Rattle.df_session.specs.Below.{DataFile, shape}
 use Rattle.df_session.specs.Reading.{shown_of}
 use Rattle.df_session.specs.Below.{codec}
@@ -29,9 +29,9 @@ joined (text ∷ texts) = text ++ joined texts
 abbrev pub text_over : Pace → DataFile → Shown → Work → List Said → List ℕ
 text_over pace file shown w says = joined (paced (shape file) (codec file) pace (start shown w) (map command_of says))
 
--- what they print over a file whose disk shows this image, in which this view is found
+-- what they print over a file whose disk shows this image, in which an open finds this view, and whose boot it raises
 abbrev pub script_text_of : Pace → DataFile → View → Image → List Said → List ℕ
-script_text_of pace file view image says = text_over pace file (shown_of file image) (opened (shape file) (unit_at file.layout file.cluster image) view) says
+script_text_of pace file view image says = text_over pace file (shown_of file image) (begun_work file image view) says
 
 -- beside no work it is what the machine prints of the lines alone
 abbrev pub TextAlone : Type 0

@@ -10,10 +10,10 @@ use Rattle.df_theory.specs.Found.{IsFound}
 use Rattle.df_theory.specs.View.{View}
 use Rattle.df_units.specs.Bytes.{unit_at}
 use Rattle.df_model.specs.Supply.{Shown}
-use Rattle.df_model.specs.Work.{opened}
 use Rattle.df_model.specs.declared.errors.OpenError.{OpenError}
 use Rattle.df_pace.specs.Beats.{idle, started}
 use Rattle.df_pace.specs.declared.pace.Pace.{Pace}
+use Rattle.df_session.specs.Begun.{begun_work}
 use Rattle.df_session.specs.Below.{IsLayoutShown, Refuses, State as Replica, shape}
 use Rattle.df_session.specs.Reading.{shown_of}
 use Rattle.df_session.specs.Below.{AgreeShown}
@@ -49,14 +49,14 @@ script_budget = 2 ^ 32
 abbrev pub start : (told : Option Told) → Outside → Replica → State
 start told old replica = record { outside = record { told = told; left = old.left; written = old.written }; text = old.left; budget = script_budget; lines = 0; replica = replica; beat = started replica.head }
 
--- The script is served, with work of this pace beside it; what all these calls keep is what calls on an open file keep, and what is answered and printed, and which work is done, is a
+-- The script is served, with work of this pace beside it, on a file whose boot was raised; what all these calls keep is what calls on an open file keep, and what is answered and printed, and which work is done, is a
 -- function of what the disk shows at first, and of the lines. No step finds the superblock damaged that it wrote, since the disk tells what it shows.
 pub record ServesScript (pace : Pace) (layout : Layout) (t : Told) (found : FoundFile layout t) (old new : Outside) (status : Status) : Type 0 where
   pub last : State
   pub last_is : last.outside ≡ new
   pub session : Ended pace (line_bound layout) (start found.mended old found.replica) last status
   pub result : (view : View) (shown : Shown) → IsFound (shape found.replica.file) (unit_at found.replica.file.layout found.replica.file.cluster t.shown) view → AgreeShown found.replica.file.layout (shown_of found.replica.file t.shown) shown
-      → IsResultOf pace found.replica.file shown (opened (shape found.replica.file) (unit_at found.replica.file.layout found.replica.file.cluster t.shown) view) session.turns status
+      → IsResultOf pace found.replica.file shown (begun_work found.replica.file t.shown view) session.turns status
   pub adds : new.told ≡ after_all (events_made (script_calls session)) found.mended
   pub calls : CallsKeep t found.replica found.mended found.mending (script_calls session)
   pub undamaged : status ≡ Refused → ⊥

@@ -22,7 +22,7 @@ use Rattle.df_top.specs.declared.status.Status.TheVariants.{DiskFault, Done, Fou
 
 -- the referenced blocks of an open file that fail over an image, in order of address
 abbrev pub failing_blocks : Replica → Image → List Finding
-failing_blocks s image = failing_in (grid_with s.file s.blocks) image
+failing_blocks s image = failing_in (grid_with s.file s.boot s.blocks) image
 
 -- their lines, and the line that counts the referenced blocks and those that fail
 abbrev pub tour_report : Replica → Image → List ℕ

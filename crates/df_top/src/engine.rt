@@ -113,8 +113,8 @@ pub fn run<D: Disk, S: Source, W: Sink>(
         → MakesFile layout cluster (D.told disk.old) (D.told disk.new) result }
 
     // The other words refuse a file by the first reason of the order of open. `run` serves the script as the machine does, and
-    // keeps what it answered at every moment and at its end; `paced` does so too, with the work that is due behind each line; `recover` mends the file and prints its summary; `inspect` prints
-    // the report of what it finds, and adds nothing but the sync of its barrier; `scrub` mends the file, and prints
+    // keeps what it answered at every moment and at its end; `paced` does so too, with the work that is due behind each line; `recover` prints the summary of a file that is mended and
+    // whose boot is raised, as each word does it but `inspect`, which prints the report of what it finds, and adds nothing but the sync of its barrier; `scrub` prints
     // the referenced blocks that fail; `workload` carries out a generated run as the machine does, keeps what was answered, and
     // prints what it did.
     ensures runs { (mode : Mode) → IsOfFile mode → Means (map string_bytes words.now) mode → Runs mode

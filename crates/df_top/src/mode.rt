@@ -22,13 +22,13 @@ pub enum Mode {
     Format { layout: Layout, cluster: u128 },
     /// Serves the script: `run`.
     Run,
-    /// Opens the file, which mends it, and prints its summary: `recover`.
+    /// Opens the file, which mends it and raises its boot, and prints its summary: `recover`.
     Recover,
     /// Prints what a survey of the file finds, and writes nothing to it: `inspect`.
     Inspect,
-    /// Opens the file, which mends it, and prints the blocks that fail in a tour of the scrubber: `scrub`.
+    /// Opens the file, as `recover` does, and prints the blocks that fail in a tour of the scrubber: `scrub`.
     Scrub,
-    /// Opens the file, which mends it, carries out a generated run of `count` rounds and prints what it did: `workload SEED COUNT`.
+    /// Opens the file, as `recover` does, carries out a generated run of `count` rounds and prints what it did: `workload SEED COUNT`.
     Workload { seed: u64, count: u64 },
     /// Serves the script with this work beside it: `paced SCRUB EVERY STEPS`.
     Paced { pace: Pace },

@@ -1,4 +1,4 @@
-// The words that print a report of a file: `inspect` surveys it and writes nothing to it, `recover` opens it, which mends it.
+// The words that print a report of a file: `inspect` surveys it and writes nothing to it, `recover` opens it, which mends it and raises its boot.
 ghost use Rattle.std.specs.Prelude.{◌≡◌, ℕ, [], ◌∷◌, List, Option};
 ghost use Rattle.df_base.specs.Log.{Sync};
 ghost use Rattle.df_disk.specs.Adds.{AddsPart};
@@ -57,7 +57,7 @@ fn summarise<W: Sink>(sink: &mut W, replica: &Replica) -> Status
     }
 }
 
-/// Surveys the file and prints the report of what is found, or why the file is refused. Nothing is written to the disk.
+/// Surveys the file and prints the report of what is found, or why the file is refused. Nothing is written to the disk, and no boot is raised.
 pub fn inspect_file<D: Disk, W: Sink>(rooms: Rooms, sink: &mut W, disk: &mut D) -> Status
     ensures inspects { (left : Option (List ℕ)) → ServesIn Mode.Inspect rooms.layout
         (record { told = D.told disk.old; left = left; written = W.written sink.old })
@@ -75,7 +75,7 @@ pub fn inspect_file<D: Disk, W: Sink>(rooms: Rooms, sink: &mut W, disk: &mut D) 
     }
 }
 
-/// Opens the file, which mends it, and prints its summary, or why the file is refused.
+/// Opens the file, which mends it and raises its boot, and prints its summary, or why the file is refused.
 pub fn recover_file<D: Disk, W: Sink>(rooms: Rooms, sink: &mut W, disk: &mut D) -> Status
     ensures recovers { (left : Option (List ℕ)) → ServesIn Mode.Recover rooms.layout
         (record { told = D.told disk.old; left = left; written = W.written sink.old })

@@ -1,4 +1,4 @@
-// The word `scrub`: a file is opened, which mends it, and one tour of the scrubber is made over it. Each block that fails is printed
+// The word `scrub`: a file is opened, which mends it and raises its boot, and one tour of the scrubber is made over it. Each block that fails is printed
 // before the next one is read.
 ghost use Rattle.std.specs.Prelude.{◌≡◌, ℕ, List, Option, Some, true};
 ghost use Rattle.df_disk.specs.Told.{Told};
@@ -96,7 +96,7 @@ fn tour<D: Disk, W: Sink>(disk: &mut D, sink: &mut W, replica: &mut Replica) -> 
     }
 }
 
-/// Opens the file, which mends it, and prints the referenced blocks that fail, or why the file is refused.
+/// Opens the file, which mends it and raises its boot, and prints the referenced blocks that fail, or why the file is refused.
 pub fn scrub_file<D: Disk, W: Sink>(rooms: Rooms, sink: &mut W, disk: &mut D) -> Status
     ensures scrubs { (left : Option (List ℕ)) → ServesIn Mode.Scrub rooms.layout
         (record { told = D.told disk.old; left = left; written = W.written sink.old })

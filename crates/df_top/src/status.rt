@@ -11,7 +11,7 @@ pub enum Status {
     Words,
     /// The next line is no line of a script, too long, or past the budget of bytes.
     Script,
-    /// No file was made or opened, for another cause than the disk's failure; or a step found the superblock damaged that it wrote.
+    /// No file was made or opened, for another cause than the disk's failure; or an open or a step found the superblock damaged that it wrote.
     Refused,
     /// The disk failed.
     DiskFault,

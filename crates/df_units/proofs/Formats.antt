@@ -26,7 +26,7 @@ use Rattle.df_units.specs.Puts.{header_unit, put_copies}
 use Rattle.df_units.specs.Superblocks.{AreFieldsOf}
 use Rattle.df_units.specs.Making.{AreReserved, FormatOnDisk, NewIsMaking, first_view, format_events, header_puts, header_writes}
 use Rattle.df_units.proofs.Numbers.{no_number}
-use Rattle.df_units.proofs.Usable.{first_usable_passes}
+use Rattle.df_units.proofs.Usable.{second_usable_passes}
 use Rattle.df_units.proofs.Local.{blank_empty, is_format}
 use Rattle.df_units.proofs.Told.{reserved_put}
 use Rattle.df_units.proofs.Writes.{copy_put, headers_put, some_header}
@@ -59,7 +59,7 @@ own_fields layout cluster = record { slots = refl; message_size = refl; clients 
 is_first : (layout : Layout) (cluster : ℕ) (named : 0 < cluster) (parse : ℕ → List ℕ → Option Units.Parts) → IsUsable (first_super layout cluster) → IsFirst (shape_of layout cluster named parse) (first_view layout cluster)
 unfolding first_super
 is_first layout cluster named parse is = is_first_of (shape_of layout cluster named parse) (content_of (first_content layout cluster)) (record {
-  tests = (first_usable_passes layout cluster named parse (first_content layout cluster) (own_fields layout cluster) refl is.rules).0;
+  tests = (second_usable_passes layout cluster named parse (first_content layout cluster) (own_fields layout cluster) refl is.rules).0;
   sequence = refl;
   numbers = (refl, no_number, refl, refl);
   pin = (refl, refl, no_number);

@@ -13,7 +13,7 @@ use Rattle.df_format.specs.Making.{blank_header, for_body}
 use Rattle.df_format.specs.Own.{place_in}
 use Rattle.df_format.specs.Rules.{IsSealed}
 use Rattle.df_format.specs.Valid.{IsUnit}
-use Rattle.df_format.proofs.Laws.{given_obeys, of_first, headers_fill, is_own, sealed_is, valid_belongs}
+use Rattle.df_format.proofs.Laws.{given_obeys, of_second, headers_fill, is_own, sealed_is, valid_belongs}
 use Rattle.df_theory.specs.Units.{AnyUnit, HeaderPlace, HeaderUnit, or_else}
 use Rattle.df_theory.specs.UnitLog.{put_one}
 use Rattle.df_units.specs.Meaning.{header_of}
@@ -64,8 +64,8 @@ table_written layout cluster sector table inside valid = record {
 
 reserved_sealed : (cluster slot : ℕ) → 0 < cluster → cluster < 2 ^ 128 → slot < 2 ^ 32 → IsSealed (reserved_header cluster slot)
 reserved_sealed cluster slot named small inside =
-    let given : Header = record (blank_header Reserved cluster) { slot = slot } in
-    sealed_is (for_body given []) (given_obeys cluster (named, small) given [] Reserved (of_first Reserved given refl refl refl refl) (inside, refl))
+    let given : Header = record (blank_header Reserved cluster) { slot = slot; version = 2 } in
+    sealed_is (for_body given []) (given_obeys cluster (named, small) given [] Reserved (of_second Reserved given refl refl (record { none_first = refl; none_last = refl })) (inside, refl))
 
 pub reserved_unit : ReservedIsUnit
 reserved_unit layout cluster slot named small inside = record {

@@ -110,12 +110,12 @@ usable_passes layout cluster named parse c of is =
       },
     )
 
--- of version 1, as the shape of such a file has it
-pub first_usable_passes : (layout : Layout) (cluster : ℕ) (named : 0 < cluster) (parse : ℕ → List ℕ → Option Units.Parts) (c : Content) → AreFieldsOf layout cluster c.fields → c.fields.version ≡ 1 → IsSuper c.fields
+-- of version 2, as the shape of such a file has it
+pub second_usable_passes : (layout : Layout) (cluster : ℕ) (named : 0 < cluster) (parse : ℕ → List ℕ → Option Units.Parts) (c : Content) → AreFieldsOf layout cluster c.fields → c.fields.version ≡ 2 → IsSuper c.fields
     → PassesTests (shape_of layout cluster named parse) (content_of c) × IsReference (layout_of layout) (content_of c)
-first_usable_passes layout cluster named parse c of first is =
+second_usable_passes layout cluster named parse c of second is =
     let both = usable_passes layout cluster named parse c of is in
-    (subst (λ (version : ℕ). PassesTests (shape_as version layout cluster named parse) (content_of c)) first both.0, both.1)
+    (subst (λ (version : ℕ). PassesTests (shape_as version layout cluster named parse) (content_of c)) second both.0, both.1)
 
 pub zeros_check : IsCheck no_checksum
 unfolding no_checksum

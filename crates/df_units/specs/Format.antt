@@ -20,6 +20,6 @@ format_of layout cluster = record {
 abbrev pub shape_as : ℕ → (layout : Layout) (cluster : ℕ) → 0 < cluster → (ℕ → List ℕ → Option Units.Parts) → Shape
 shape_as version layout cluster named parse = record { version = version; cluster = cluster; layout = layout_of layout; named = named; some = some_slots layout; parse = parse }
 
--- of a file of version 1
+-- of a file as it is made here: of version 2
 abbrev pub shape_of : (layout : Layout) (cluster : ℕ) → 0 < cluster → (ℕ → List ℕ → Option Units.Parts) → Shape
-shape_of layout cluster named parse = shape_as 1 layout cluster named parse
+shape_of layout cluster named parse = shape_as 2 layout cluster named parse

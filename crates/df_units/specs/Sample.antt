@@ -32,9 +32,9 @@ TableIsWritten =
     → ((slot : ℕ) → slot < layout.slots → IsUnit layout cluster (place_in WalHeaders slot) (record { header = table slot; body = [] }))
     → AreHeaders layout cluster sector (sector_of table sector)
 
--- the header of an empty slot: it names its slot alone, and has no body
+-- the header of an empty slot, of version 2: it names its slot alone, was made in no boot, and has no body
 abbrev pub reserved_header : ℕ → ℕ → Header
-reserved_header cluster slot = sealed (for_body (record (blank_header Reserved cluster) { slot = slot }) [])
+reserved_header cluster slot = sealed (for_body (record (blank_header Reserved cluster) { slot = slot; version = 2 }) [])
 
 -- it is valid in its slot
 abbrev pub ReservedIsUnit : Type 0

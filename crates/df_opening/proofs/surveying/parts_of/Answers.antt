@@ -1,9 +1,10 @@
 -- The parts make sense by themselves: what was found is in its ranges, and the table is one of the file.
-use Rattle.std.proofs.Common.{◌∙◌, ℕ, ap, refl, sym, arith, ◌<◌, ◌^◌, subst}
-use Rattle.std.specs.Prelude.{None, false}
+use Rattle.std.proofs.Common.{◌≡◌, ◌∙◌, ℕ, refl, sym, arith, ◌<◌, ◌^◌, subst}
+use Rattle.std.specs.Prelude.{None, false, true}
 use Rattle.df_format.specs.SuperRules.{IsUsable}
 use Rattle.df_damage.specs.Below.{ScrubState}
-use Rattle.df_damage.proofs.Laws.{plain_super}
+use Rattle.df_opening.specs.Survey.{Survey}
+use Rattle.df_damage.proofs.Laws.{second_super}
 use Rattle.df_opening.proofs.surveying.parts_of.Goals as goal
 
 pub returns-clause-found : goal.returns-clause-found
@@ -18,7 +19,8 @@ returns-clause-found c =
           cluster = cluster;
           version = sym found.read.version;
           parent = found.ends.checksum;
-          plain = plain_super f (sym found.read.version ∙ c.requires.version) usable;
+          second = second_super c.args.surveyed.scanned.file f (sym found.read.version ∙ c.requires.version) usable found.read.fields;
+          booted = λ live. absurd (let none : false ≡ true = live in cc);
           sequence = usable.rules.sequence;
           root = c.root_fits.ensures;
           order = found.ends.from;
@@ -28,6 +30,8 @@ returns-clause-found c =
           few = omega (arith, found.waiting, found.ends.few);
           places = found.read.places;
           first = λ zero_head. found.ends.empty (omega (arith, found.ends.from, zero_head)) ∙ usable.rules.op_checksum (omega (arith, found.ends.from, zero_head));
+          level = found.ends.empty;
+          captured = tt;
           requests = found.sessions.numbered;
           asked = found.sessions.asked;
           tracks = found.sessions.tracks;
@@ -37,11 +41,12 @@ returns-clause-found c =
         rooms_fit = c.args.surveyed.scanned.log_fits;
         grid_fits = c.args.surveyed.scanned.grid_fits;
         grid_named = c.args.surveyed.scanned.grid_named;
-        grid_unbooted = c.args.surveyed.scanned.grid_unbooted;
         trailer_fits = c.args.surveyed.scanned.trailer_fits;
         scrub_fits = c.cleared-scrub.ensures.layout ∙ c.args.surveyed.scanned.scrub_fits;
       };
       dead = refl;
+      unspent = found.ends.unspent;
+      unbooted = c.args.surveyed.scanned.grid_unbooted;
       idle = refl;
       fresh = c.cleared-scrub.ensures.cleared;
     }
@@ -50,7 +55,7 @@ pub returns-clause-seen : goal.returns-clause-seen
 returns-clause-seen c =
     let s = c.args.surveyed.scanned in
     let traces = c.args.surveyed.traces in
-    ap (λ (x : ScrubState). record {
+    let seen : ScrubState → ℕ → Survey = λ x boot. record {
       state = record {
         file = s.file;
         fields = s.copies.found.content;
@@ -65,8 +70,10 @@ returns-clause-seen c =
         running = None;
         tour = x.tour;
         findings = x.findings;
+        boot = boot;
         live = false;
       };
       chosen = s.copies.found.chosen;
       mends = s.log.mends.items;
-    }) c.cleared-scrub.ensures.cleared
+    } in
+    (λ i. seen (c.cleared-scrub.ensures.cleared i) (s.grid_unbooted i))

@@ -1,5 +1,5 @@
 -- Each step answers as the theory's step.
-use Rattle.std.proofs.Common.{Bool, refl, sym, ◌∙◌, ap, subst}
+use Rattle.std.proofs.Common.{◌<◌, ◌^◌, Bool, refl, sym, ◌∙◌, ap, subst}
 use Rattle.std.specs.Bool.{OnFalse}
 use Rattle.df_layout.specs.declared.damage.Class.TheVariants.{Stale}
 use Rattle.df_format.specs.SuperRules.{IsSuper}
@@ -15,7 +15,7 @@ use Rattle.df_theory.specs.Opens.{LacksReply}
 use Rattle.df_theory.specs.Sessions.{Tracks}
 use Rattle.df_theory.specs.Units.{Content, CopyPlace, PreparePlace, ReplyPlace}
 use Rattle.df_recovery.specs.Finding.{lowest_of}
-use Rattle.df_recovery.proofs.FindingBounds.{any_base, any_is, any_shape, asked_on, few_wait, image_of, not_above, shows_replies, shows_table, tracks_on}
+use Rattle.df_recovery.proofs.FindingBounds.{any_base, any_is, any_shape, asked_on, boot_unspent, few_wait, image_of, not_above, shows_replies, shows_table, tracks_on}
 use Rattle.df_recovery.proofs.FindingSteps.{at_place, below_spent, boot_is, content_same, counts_bound, finds, is_base, opens_behind, opens_known, opens_lacking, opens_lost, opens_spent}
 use Rattle.df_recovery.proofs.finding.find_state.Goals as goal
 
@@ -129,3 +129,9 @@ returns-else-content-eq-GREATEST_BOOT-clause-tracks c =
     let number = c.replies-stored.ensures image (any_base f c.args.sessions.now.sessions).content found.tail (shows_replies slots c.args.replies.now) refl refl (sym found.ends.mark) in
     subst (λ (x : SuperFields). Tracks x.replies x.op (sessions_of c.args.sessions.now.sessions) → Tracks c.replies-stored.result c.in-Ok.reach.tail.op (sessions_of c.find_known.new.sessions.sessions)) c.fields-content.ensures.value
     (tracks_on (any_shape c.args.layout.now) image f c.args.sessions.now.sessions c.find_known.new.sessions.sessions c.in-Ok.reach c.replies-stored.result (subst IsSuper (sym c.fields-content.ensures.value) c.fields-content.ensures.usable.rules) found number)
+
+-- the boot that was tested is that of the choice
+pub returns-else-content-eq-GREATEST_BOOT-clause-unspent : goal.returns-else-content-eq-GREATEST_BOOT-clause-unspent
+returns-else-content-eq-GREATEST_BOOT-clause-unspent c =
+    let f = c.fields-content.result.now in
+    subst (λ (x : SuperFields). x.boot < 2 ^ 62) c.fields-content.ensures.value (boot_unspent f (subst IsSuper (sym c.fields-content.ensures.value) c.fields-content.ensures.usable.rules) c.if-content-eq-GREATEST_BOOT.false)

@@ -13,6 +13,7 @@ with_plan-requires-clause-scanned c =
       named = scan.named;
       version = scan.version;
       size = scan.size;
+      fields = scan.fields;
       start = scan.start;
       slots = scan.slots;
       places = c.store_replies.ensures.places ∙ c.in-Ok.ensures.places ∙ scan.places;
@@ -22,7 +23,7 @@ with_plan-requires-clause-scanned c =
 pub with_plan-requires-clause-tail : goal.with_plan-requires-clause-tail
 with_plan-requires-clause-tail c =
     let found = c.in-Ok.ensures in
-    record { checksum = found.checksum; empty = found.start; from = found.ring.0; within = found.ring.1; most = found.most; order = found.order; few = found.few }
+    record { checksum = found.checksum; empty = found.start; from = found.ring.0; within = found.ring.1; most = found.most; order = found.order; few = found.few; unspent = found.unspent }
 
 pub with_plan-requires-clause-sessions : goal.with_plan-requires-clause-sessions
 with_plan-requires-clause-sessions c =

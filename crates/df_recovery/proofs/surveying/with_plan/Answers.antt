@@ -14,6 +14,7 @@ returns-clause-found c =
         named = c.requires.scanned.named;
         version = c.requires.scanned.version;
         size = c.requires.scanned.size;
+        fields = c.requires.scanned.fields;
         start = ap (λ (r : Scan). r.start) c.plan_log.ensures.slots ∙ c.requires.scanned.start;
         slots = subst (λ (r : Scan). AreSlots c.args.scanned.file.layout c.args.scanned.file.cluster r.slots) (sym c.plan_log.ensures.slots) c.requires.scanned.slots;
         places = c.requires.scanned.places;

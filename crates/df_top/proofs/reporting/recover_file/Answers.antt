@@ -1,11 +1,8 @@
 -- The open answers of the file that the disk shows, and what it mends is kept.
-use Rattle.std.proofs.Common.{inr, refl, subst}
-use Rattle.std.specs.Prelude.{Option, Ok}
-use Rattle.df_disk.specs.Told.{Told}
+use Rattle.std.proofs.Common.{inr, refl}
 use Rattle.df_inspect.specs.Reports.{summary_text}
 use Rattle.df_session.specs.Below.{State}
 use Rattle.df_session.specs.Replica.{summary_of}
-use Rattle.df_session.specs.Surveying.{TellsSurvey}
 use Rattle.df_top.specs.Outside.{Outside}
 use Rattle.df_top.specs.declared.mode.Mode.TheVariants.{Recover}
 use Rattle.df_top.specs.declared.status.Status.TheVariants.{Done}
@@ -19,8 +16,7 @@ returns-in-Ok-clause-recovers g c = λ left t told whole.
     let old : Outside = record { told = g.D.Disk.told c.args.disk.now; left = left; written = g.W.Sink.written c.args.sink.now } in
     let new : Outside = record { told = g.D.Disk.told c.open.new.disk; left = left; written = g.W.Sink.written c.summarise.new.sink } in (
       tt,
-      inr (inr (recovers c.args.rooms.layout t old new c.summarise.result c.in-Ok.replica whole told refl c.in-Ok.ensures.live
-          ((subst (λ (o : Option Told). TellsSurvey c.args.rooms.layout o (Ok c.in-Ok.replica)) told c.in-Ok.ensures.answer) whole) (c.in-Ok.ensures.opened t told) c.summarise.ensures.prints)),
+      inr (inr (recovers c.args.rooms.layout t old new c.summarise.result c.in-Ok.replica whole told refl c.in-Ok.ensures.live c.in-Ok.ensures.kept (c.in-Ok.ensures.opened t told) c.summarise.ensures.prints)),
     )
 
 pub returns-clause-recovers : goal.returns-clause-recovers

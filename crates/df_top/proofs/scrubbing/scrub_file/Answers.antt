@@ -1,9 +1,8 @@
 -- The open answers of the file that the disk shows, and the tour leaves what it keeps.
 use Rattle.std.proofs.Common.{ℕ, inr, refl, subst, sym}
-use Rattle.std.specs.Prelude.{Ok, Option}
+use Rattle.std.specs.Prelude.{Option}
 use Rattle.df_disk.specs.Told.{Told}
 use Rattle.df_session.specs.Below.{State}
-use Rattle.df_session.specs.Surveying.{TellsSurvey}
 use Rattle.df_session.specs.Found.{FoundFile}
 use Rattle.df_top.specs.Outside.{Blames, Outside}
 use Rattle.df_top.specs.Scrubs.{ScrubsFile}
@@ -23,8 +22,7 @@ returns-in-Ok-clause-scrubs g c = λ left t told whole.
     let opened : Outside = record { told = g.D.Disk.told c.open.new.disk; left = left; written = g.W.Sink.written c.tour.new.sink } in (
       tt,
       inr (inr (subst (λ (o : Option Told). (found : FoundFile layout t) × ScrubsFile layout t found old (record { told = o; left = left; written = g.W.Sink.written c.tour.new.sink }) status) (sym c.tour.ensures.same)
-          (scrubs layout t old opened status c.in-Ok.replica whole told refl c.in-Ok.ensures.live
-          ((subst (λ (o : Option Told). TellsSurvey layout o (Ok c.in-Ok.replica)) told c.in-Ok.ensures.answer) whole) (c.in-Ok.ensures.opened t told) c.tour.ensures.tours))),
+          (scrubs layout t old opened status c.in-Ok.replica whole told refl c.in-Ok.ensures.live c.in-Ok.ensures.kept (c.in-Ok.ensures.opened t told) c.tour.ensures.tours))),
     )
 
 pub returns-clause-scrubs : goal.returns-clause-scrubs

@@ -17,4 +17,4 @@ invariant-loop-status g l = record {
 }
 
 abbrev pub decreases-loop-status : goal.decreases-loop-status
-decreases-loop-status g l = length (left_in (grid_with l.replica.file l.replica.blocks) (scrub_of l.replica))
+decreases-loop-status g l = length (left_in (grid_with l.replica.file l.replica.boot l.replica.blocks) (scrub_of l.replica))

@@ -1,9 +1,6 @@
 -- The file is opened and served, or it isn't.
 use Rattle.std.proofs.Common.{ℕ, refl, ap, ◌∙◌, subst}
-use Rattle.std.specs.Prelude.{Option, Ok}
-use Rattle.df_disk.specs.Told.{Told}
 use Rattle.df_session.specs.Below.{State}
-use Rattle.df_session.specs.Surveying.{TellsSurvey}
 use Rattle.df_top.specs.Outside.{Blames, Outside}
 use Rattle.df_model.specs.declared.answers.Summary.{Summary}
 use Rattle.df_pace.specs.Beats.{started}
@@ -20,8 +17,7 @@ returns-in-Ok-clause-serves g c = λ mode executes t told whole.
     let new : Outside = record { told = g.D.Disk.told c.serve_script.new.disk; left = g.S.Source.left c.serve_script.new.source; written = g.W.Sink.written c.serve_script.new.sink } in
     let session : Session = record { replica = c.in-Ok.replica; lines = c.args.lines; count = 0; pace = c.args.pace; beat = c.start-beat.result } in
     executed mode c.args.pace executes c.args.rooms.layout t old new c.serve_script.result
-    (serves c.args.pace c.args.rooms.layout t old new c.serve_script.result c.in-Ok.replica (g.D.Disk.told c.open.new.disk) whole told c.in-Ok.ensures.live c.in-Ok.ensures.kept
-    ((subst (λ (o : Option Told). TellsSurvey c.args.rooms.layout o (Ok c.in-Ok.replica)) told c.in-Ok.ensures.answer) whole) (c.in-Ok.ensures.opened t told)
+    (serves c.args.pace c.args.rooms.layout t old new c.serve_script.result c.in-Ok.replica (g.D.Disk.told c.open.new.disk) whole told c.in-Ok.ensures.live c.in-Ok.ensures.kept (c.in-Ok.ensures.opened t told)
     (state new c.serve_script.new.session) refl
     (from_start c.args.pace (g.D.Disk.told c.open.new.disk) old session c.args.rooms.layout (state new c.serve_script.new.session) c.serve_script.result c.requires.lines refl (c.start-beat.ensures ∙ ap (λ (s : Summary). started s.head) c.summary.ensures) c.serve_script.ensures.session))
 

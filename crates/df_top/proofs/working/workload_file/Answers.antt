@@ -1,12 +1,9 @@
 -- The open answers of the file that the disk shows, and the run is carried out on what it found.
 use Rattle.std.proofs.Common.{◌≡◌, ℕ, inr, refl, subst, ◌∙◌, ap}
-use Rattle.std.specs.Prelude.{Ok, Option}
 use Rattle.df_base.specs.Causes.{IsBlamed}
-use Rattle.df_disk.specs.Told.{Told}
 use Rattle.df_layout.specs.declared.layout.Layout.{Layout}
 use Rattle.df_model.specs.declared.answers.Summary.{Summary}
 use Rattle.df_session.specs.Below.{State}
-use Rattle.df_session.specs.Surveying.{TellsSurvey}
 use Rattle.df_workload.specs.Rounds.{start}
 use Rattle.df_workload.specs.declared.state.State.{State as Run}
 use Rattle.df_top.specs.Outside.{Outside}
@@ -30,8 +27,7 @@ returns-in-Ok-clause-works g c = λ left t told whole.
     let begins : c.new-generator.result ≡ start c.args.seed c.args.count layout.clients = c.new-generator.ensures ∙ ap (λ (n : ℕ). start c.args.seed c.args.count n) clients in
     let comes = subst (λ (r : Run). Comes r s (g.D.Disk.told c.open.new.disk) c.work-worked.new.generator c.work-worked.new.replica (g.D.Disk.told c.work-worked.new.disk) c.work-worked.result) begins c.work-worked.ensures.comes in (
       tt,
-      inr (inr (works_through c.args.seed c.args.count layout t old new status s (g.D.Disk.told c.open.new.disk) whole told refl c.in-Ok.ensures.live c.in-Ok.ensures.kept
-          ((subst (λ (o : Option Told). TellsSurvey layout o (Ok s)) told c.in-Ok.ensures.answer) whole) (c.in-Ok.ensures.opened t told) c.work-worked.new.generator c.work-worked.new.replica
+      inr (inr (works_through c.args.seed c.args.count layout t old new status s (g.D.Disk.told c.open.new.disk) whole told refl c.in-Ok.ensures.live c.in-Ok.ensures.kept (c.in-Ok.ensures.opened t told) c.work-worked.new.generator c.work-worked.new.replica
           (ends_run (start c.args.seed c.args.count layout.clients) s (g.D.Disk.told c.open.new.disk) c.work-worked.new.generator c.work-worked.new.replica (g.D.Disk.told c.work-worked.new.disk) (g.W.Sink.written c.args.sink.now) (g.W.Sink.written c.tell.new.sink) status c.work-worked.result comes
           c.work-worked.ensures.over c.tell.ensures.prints))),
     )

@@ -7,7 +7,7 @@ use Rattle.df_replica.proofs.AppendTests.{may_next}
 use Rattle.df_replica.proofs.replica.Replica.append.Goals as goal
 
 pub append_next-requires : goal.append_next-requires
-append_next-requires g c = may_next c.args.self.now c.args.client c.args.request c.args.body.now c.append_refusal.ensures.state c.append_refusal.ensures.table (sym (c.append_refusal.ensures.why c.args.body.now refl) ∙ c.in_default.is)
+append_next-requires g c = may_next c.args.self.now c.args.client c.args.request c.args.body.now c.append_refusal.ensures.state c.append_refusal.ensures.table c.requires.live (sym (c.append_refusal.ensures.why c.args.body.now refl) ∙ c.in_default.is)
 
 pub returns-in-Some-clause-call : goal.returns-in-Some-clause-call
 returns-in-Some-clause-call g c = refusal_serves c.args.self.now c.args.client c.args.request c.args.body.now c.append_refusal.ensures.state c.requires.live c.ranges.client.fits c.in-Some.error (sym (c.in-Some.ensures.why c.args.body.now refl)) (g.D.Disk.told c.args.disk.now)

@@ -4,7 +4,7 @@ use Rattle.std.proofs.lemmas.List.{length_push}
 use Rattle.df_journal.specs.Tail.{AreNumbered}
 use Rattle.df_replica.specs.Appending.{MayNote}
 use Rattle.df_opening.specs.Below.{AreAsked, State, running_of}
-use Rattle.df_opening.proofs.Laws.{asked_noted, course_on}
+use Rattle.df_opening.proofs.Laws.{asked_noted, course_on, level_beyond}
 use Rattle.df_sessions.specs.Requests.{sessions_of}
 use Rattle.df_theory.specs.Sessions.{Tracks, noted}
 use Rattle.df_theory.specs.Units
@@ -25,7 +25,8 @@ invariant_of-self c =
         cluster = old.cluster;
         parent = c.requires.sum;
         version = old.version;
-        plain = old.plain;
+        second = old.second;
+        booted = old.booted;
         sequence = old.sequence;
         root = old.root;
         order = omega (arith, op, old.order);
@@ -35,6 +36,8 @@ invariant_of-self c =
         few = omega (arith, may.few, more);
         places = c.apply.ensures.places ∙ old.places;
         first = λ zero_head. absurd (omega (arith, op, zero_head));
+        level = λ same. absurd (omega (arith, op, same, old.order));
+        captured = level_beyond c.self.inside.parts.file c.self.inside.parts.content c.self.inside.parts.head c.args.made.now.op c.args.made.now.checksum c.self.inside.parts.grid.blocks (running_of c.self.inside.parts.running) (omega (arith, op)) old.course;
         requests = subst AreNumbered (sym c.apply.ensures.sessions) (numbered_on c.args.made.now.client c.args.made.now.request c.args.made.now.op c.self.inside.parts.sessions.sessions old.requests may.request.1);
         asked = subst AreAsked (sym sessions) (asked_noted h (sessions_of c.self.inside.parts.sessions.sessions) old.asked may.request.0);
         tracks =
@@ -47,7 +50,6 @@ invariant_of-self c =
       rooms_fit = c.self.invariant.rooms_fit;
       grid_fits = c.self.invariant.grid_fits;
       grid_named = c.self.invariant.grid_named;
-      grid_unbooted = c.self.invariant.grid_unbooted;
       trailer_fits = c.self.invariant.trailer_fits;
       scrub_fits = c.self.invariant.scrub_fits;
     }

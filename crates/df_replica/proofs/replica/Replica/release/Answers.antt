@@ -22,7 +22,6 @@ invariant_of-self c =
       rooms_fit = old.rooms_fit;
       grid_fits = old.grid_fits;
       grid_named = old.grid_named;
-      grid_unbooted = old.grid_unbooted;
       trailer_fits = old.trailer_fits;
       scrub_fits = old.scrub_fits;
     })
@@ -37,7 +36,6 @@ invariant_of-self-2 c =
       rooms_fit = old.rooms_fit;
       grid_fits = old.grid_fits;
       grid_named = old.grid_named;
-      grid_unbooted = old.grid_unbooted;
       trailer_fits = old.trailer_fits;
       scrub_fits = old.scrub_fits;
     })
@@ -46,8 +44,8 @@ pub returns-then-not-release-clause-exact : goal.returns-then-not-release-clause
 returns-then-not-release-clause-exact c =
     let s = c.self.inside.parts in
     let dead : is_known (sum_at c.args.address s.grid.blocks.live) ≡ false = sym c.release.ensures.answer ∙ c.if-not-release.true in
-    let stays : record (state_in s) { blocks = c.release.new.self.blocks } ≡ c.args.self.now =
-    ap (λ (x : GridState). record (state_in s) { blocks = x.blocks }) c.release.ensures.released ∙ ap (λ (b : Blocks). record (state_in s) { blocks = b }) (not_live_stays s.grid.blocks c.args.address dead) ∙ c.self.view_is in
+    let stays : record (state_in s) { blocks = c.release.new.self.blocks; boot = c.release.new.self.boot } ≡ c.args.self.now =
+    ap (λ (x : GridState). record (state_in s) { blocks = x.blocks; boot = x.boot }) c.release.ensures.released ∙ ap (λ (b : Blocks). record (state_in s) { blocks = b }) (not_live_stays s.grid.blocks c.args.address dead) ∙ c.self.view_is in
     (refused_is c.args.self.now c.args.address (ap (λ (x : State). is_known (sum_at c.args.address x.blocks.live)) (sym c.self.view_is) ∙ dead), stays)
 
 pub returns-then-not-release-clause-call : goal.returns-then-not-release-clause-call
@@ -61,6 +59,6 @@ pub returns-clause-call : goal.returns-clause-call
 returns-clause-call c =
     let s = c.self.inside.parts in
     let alive : is_known (sum_at c.args.address s.grid.blocks.live) ≡ true = sym c.release.ensures.answer ∙ c.if-not-release.false in
-    let lets : record (state_in s) { blocks = c.release.new.self.blocks } ≡ released c.args.self.now c.args.address =
-    ap (λ (x : GridState). record (state_in s) { blocks = x.blocks }) c.release.ensures.released ∙ ap (λ (x : State). released x c.args.address) c.self.view_is in
+    let lets : record (state_in s) { blocks = c.release.new.self.blocks; boot = c.release.new.self.boot } ≡ released c.args.self.now c.args.address =
+    ap (λ (x : GridState). record (state_in s) { blocks = x.blocks; boot = x.boot }) c.release.ensures.released ∙ ap (λ (x : State). released x c.args.address) c.self.view_is in
     λ told. released_serves c.args.self.now c.args.address c.requires.live (none_is c.args.self.now c.args.address (ap (λ (x : State). is_known (sum_at c.args.address x.blocks.live)) (sym c.self.view_is) ∙ alive)) _ lets told

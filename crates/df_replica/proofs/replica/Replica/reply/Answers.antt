@@ -7,7 +7,7 @@ use Rattle.df_replica.proofs.ReplyTests.{may_reply}
 use Rattle.df_replica.proofs.replica.Replica.reply.Goals as goal
 
 pub reply_next-requires : goal.reply_next-requires
-reply_next-requires g c = may_reply c.args.self.now c.args.op c.args.body.now c.why_no_reply.ensures.state (sym (c.why_no_reply.ensures.why c.args.body.now refl) ∙ c.in_default.is)
+reply_next-requires g c = may_reply c.args.self.now c.args.op c.args.body.now c.why_no_reply.ensures.state c.requires.live (sym (c.why_no_reply.ensures.why c.args.body.now refl) ∙ c.in_default.is)
 
 pub returns-in-Some-clause-call : goal.returns-in-Some-clause-call
 returns-in-Some-clause-call g c = refusal_serves c.args.self.now c.args.op c.args.body.now c.why_no_reply.ensures.state c.requires.live c.in-Some.error (sym (c.in-Some.ensures.why c.args.body.now refl)) (g.D.Disk.told c.args.disk.now)

@@ -28,8 +28,8 @@ pub returns-clause-value : goal.returns-clause-value
 returns-clause-value c =
     let s : State = state_in c.self.inside.parts in
     let same : s ≡ c.args.self.now = c.self.view_is in
-    header_is s c.of.result c.first_waiting-parent.result c.client_of-client.result c.place_of_op-place.result c.fields.result.now.sequence c.session_in-session.result c.of.ensures c.client_of-client.ensures.value
-    (c.first_waiting-parent.ensures.value ∙ ap (λ (x : State). first_check x.waiting) (sym same)) c.place_of_op-place.ensures.place c.session_in-session.ensures (ap (λ (f : SuperFields). f.sequence) c.fields.ensures.value)
+    header_is s c.of.result c.first_waiting-parent.result c.client_of-client.result c.place_of_op-place.result c.fields.result.now.sequence c.fields-2.result.now.boot c.session_in-session.result c.of.ensures c.client_of-client.ensures.value
+    (c.first_waiting-parent.ensures.value ∙ ap (λ (x : State). first_check x.waiting) (sym same)) c.place_of_op-place.ensures.place c.session_in-session.ensures (ap (λ (f : SuperFields). f.sequence) c.fields.ensures.value) (ap (λ (f : SuperFields). f.boot) c.fields-2.ensures.value)
     ∙ ap (λ (x : State). reply_given x) same
 
 pub returns-clause-rules : goal.returns-clause-rules

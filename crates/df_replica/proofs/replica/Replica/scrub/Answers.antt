@@ -19,14 +19,14 @@ returns-in-Ok g c =
     let list = c.as_slice.result.now in
     let now = c.scrub-done.new in
     let items : list ≡ now.report.items = c.as_slice.ensures.value in
-    let after : record s { blocks = now.grid.blocks; tour = now.self.tour; findings = now.self.findings } ≡ toured v list =
-    ap (λ (x : GridState). record s { blocks = x.blocks; tour = now.self.tour; findings = now.self.findings }) c.scrub-done.ensures.grid
+    let after : record s { blocks = now.grid.blocks; boot = now.grid.boot; tour = now.self.tour; findings = now.self.findings } ≡ toured v list =
+    ap (λ (x : GridState). record s { blocks = x.blocks; boot = x.boot; tour = now.self.tour; findings = now.self.findings }) c.scrub-done.ensures.grid
     ∙ ap (λ (x : Tour). record s { tour = x; findings = now.self.findings }) c.in-Ok.ensures.tour
     ∙ ap (λ (x : List Finding). record s { tour = first_tour; findings = x }) c.scrub-done.ensures.findings
     ∙ ap (λ (x : List Finding). record s { tour = first_tour; findings = newest (s.findings ++ x) }) (sym items)
     ∙ ap (λ (x : State). toured x list) c.self.view_is in
     let lists = subst (λ (x : List Finding). ListsFailing i.grid told x) (sym items) c.in-Ok.ensures.failing in
-    let exact = subst (λ (x : State). ListsFailing (grid_with x.file x.blocks) told list) c.self.view_is (subst (λ (x : GridState). ListsFailing x told list) (grid_is i.file i.grid c.self.invariant.grid_fits c.self.invariant.grid_named c.self.invariant.grid_unbooted) lists) in (
+    let exact = subst (λ (x : State). ListsFailing (grid_with x.file x.boot x.blocks) told list) c.self.view_is (subst (λ (x : GridState). ListsFailing x told list) (grid_is i.file i.grid c.self.invariant.grid_fits c.self.invariant.grid_named) lists) in (
       (refl, (λ _. tt), after),
       record { after = tt; exact = exact; call = tour_serves v told list; same = c.scrub-done.ensures.same; cause = record { later = c.in-Ok.ensures.cause.later; failed = tt; same = c.in-Ok.ensures.cause.same } },
     )

@@ -17,9 +17,9 @@ returns-in-Ok-clause-call g c =
     let answer = c.in-Ok.scrubbed in
     let scrub = c.step.new.self in
     let live : s.live ≡ true = subst (λ (x : State). x.live ≡ true) (sym c.self.view_is) c.requires.live in
-    let machines = subst (λ (x : GridState). IsMachines x i.scrub.scrubber scrub told answer) (grid_is i.file i.grid c.self.invariant.grid_fits c.self.invariant.grid_named c.self.invariant.grid_unbooted) c.in-Ok.ensures.machine in
-    let after : with_scrub s scrub ≡ record (with_scrub s scrub) { blocks = c.step.new.grid.blocks } = ap (λ (x : GridState). record (with_scrub s scrub) { blocks = x.blocks }) (sym c.step.ensures.grid) in
-    subst (λ (x : State). ServesScrub x (record (with_scrub s scrub) { blocks = c.step.new.grid.blocks }) told (Ok answer)) c.self.view_is
+    let machines = subst (λ (x : GridState). IsMachines x i.scrub.scrubber scrub told answer) (grid_is i.file i.grid c.self.invariant.grid_fits c.self.invariant.grid_named) c.in-Ok.ensures.machine in
+    let after : with_scrub s scrub ≡ record (with_scrub s scrub) { blocks = c.step.new.grid.blocks; boot = c.step.new.grid.boot } = ap (λ (x : GridState). record (with_scrub s scrub) { blocks = x.blocks; boot = x.boot }) (sym c.step.ensures.grid) in
+    subst (λ (x : State). ServesScrub x (record (with_scrub s scrub) { blocks = c.step.new.grid.blocks; boot = c.step.new.grid.boot }) told (Ok answer)) c.self.view_is
     (subst (λ (x : State). ServesScrub s x told (Ok answer)) after (scrub_serves s live told answer scrub machines))
 
 pub returns-in-Err-clause-call : goal.returns-in-Err-clause-call

@@ -13,17 +13,16 @@ invariant_of-self g c =
     let s = c.self.inside.parts in
     let old = c.self.invariant in
     let h = (unit_of c.block_given-header.result c.args.body.now).header in
-    let either : IsState (record (state_in s) { blocks = c.put_block.new.grid.blocks }) × (c.put_block.new.grid.layout ≡ s.file.layout) × (c.put_block.new.grid.cluster ≡ s.file.cluster) × (c.put_block.new.grid.boot ≡ 0) =
+    let either : IsState (record (state_in s) { blocks = c.put_block.new.grid.blocks; boot = c.put_block.new.grid.boot }) × (c.put_block.new.grid.layout ≡ s.file.layout) × (c.put_block.new.grid.cluster ≡ s.file.cluster) =
     either_grid c.put_block.result s.grid c.put_block.new.grid (block_written s.grid.blocks c.block_given-header.result.op (number_of h.checksum)) c.put_block.ensures.live c.put_block.ensures.failed
-    (λ (x : GridState). IsState (record (state_in s) { blocks = x.blocks }) × (x.layout ≡ s.file.layout) × (x.cluster ≡ s.file.cluster) × (x.boot ≡ 0))
-    (live_state (state_in s) (with_entry c.block_given-header.result.op (number_of h.checksum) s.grid.blocks.live) old.state, old.grid_fits, old.grid_named, old.grid_unbooted)
-    (old.state, old.grid_fits, old.grid_named, old.grid_unbooted) in
+    (λ (x : GridState). IsState (record (state_in s) { blocks = x.blocks; boot = x.boot }) × (x.layout ≡ s.file.layout) × (x.cluster ≡ s.file.cluster))
+    (live_state (state_in s) (with_entry c.block_given-header.result.op (number_of h.checksum) s.grid.blocks.live) old.state, old.grid_fits, old.grid_named)
+    (old.state, old.grid_fits, old.grid_named) in
     record {
       state = either.0;
       rooms_fit = old.rooms_fit;
       grid_fits = either.1;
       grid_named = either.2;
-      grid_unbooted = either.3;
       trailer_fits = old.trailer_fits;
       scrub_fits = old.scrub_fits;
     }

@@ -1,5 +1,5 @@
 -- The block that is written is the trailer's next one, and the state behind it makes sense.
-use Rattle.std.proofs.Common.{◌≡◌, ◌+◌, ◌∙◌, Some, refl, sym, ap, subst}
+use Rattle.std.proofs.Common.{◌≡◌, ℕ, ◌+◌, ◌∙◌, Some, refl, sym, ap, subst}
 use Rattle.df_disk.specs.Adds.{AddsPart, after_all}
 use Rattle.df_theory.specs.Device.{AreSteps}
 use Rattle.df_checkpoint.specs.Writing.{unit_in}
@@ -9,10 +9,10 @@ use Rattle.df_grid.specs.Writes.{block_steps, made_events}
 use Rattle.df_units.specs.Format.{format_of}
 use Rattle.df_units.specs.Meaning.{number_of}
 use Rattle.df_model.specs.Blocks.{Blocks}
-use Rattle.df_opening.specs.Below.{running_state, IsRunning, State, state_in}
+use Rattle.df_opening.specs.Below.{running_state, IsRunning, IsState, State, state_in}
 use Rattle.df_replica.specs.Stepping.{MayAdvance, advanced, block_events, trailer_unit}
 use Rattle.df_replica.proofs.BeginState.{with_course}
-use Rattle.df_replica.proofs.StepState.{grid_is, of_running, running_on, taken_runs}
+use Rattle.df_replica.proofs.StepState.{grid_is, of_running, running_on, taken_level, taken_runs}
 use Rattle.df_replica.proofs.replica.Replica.write_trailer_block.Goals as goal
 
 pub invariant_of-self : goal.invariant_of-self
@@ -28,11 +28,11 @@ invariant_of-self g c =
     let on = running_on i.file i.content i.head i.grid.blocks (running_state r) sum runs may.some in
     let course = subst (λ (b : Blocks). IsRunning i.file i.content i.head b (record (running_state r) { written = r.written + 1 })) (ap (λ (x : GridState). x.blocks) (sym written)) on in
     record {
-      state = with_course s grid.blocks (Some (record (running_state r) { written = r.written + 1 })) c.self.invariant.state course;
+      state = subst (λ (n : ℕ). IsState (record s { blocks = grid.blocks; running = Some (record (running_state r) { written = r.written + 1 }); boot = n })) (ap (λ (x : GridState). x.boot) (sym written))
+          (with_course s grid.blocks (Some (record (running_state r) { written = r.written + 1 })) c.self.invariant.state course (taken_level i.head i.head_checksum i.running r (sym c.in-Some.ensures.value) c.self.invariant.state.captured));
       rooms_fit = c.self.invariant.rooms_fit;
       grid_fits = ap (λ (x : GridState). x.layout) written ∙ c.self.invariant.grid_fits;
       grid_named = ap (λ (x : GridState). x.cluster) written ∙ c.self.invariant.grid_named;
-      grid_unbooted = ap (λ (x : GridState). x.boot) written ∙ c.self.invariant.grid_unbooted;
       trailer_fits = c.self.invariant.trailer_fits;
       scrub_fits = c.self.invariant.scrub_fits;
     }
@@ -44,7 +44,7 @@ returns-in-Ok-clause-events g c =
     let old = g.D.Disk.told c.args.disk.now in
     let new = g.D.Disk.told c.write_piece-done.new.disk in
     of_running (λ x q. new ≡ after_all (block_events x q) old) (state_in i) c.args.self.now i.running r (sym c.in-Some.ensures.value) refl c.self.view_is
-    (subst (λ (x : GridState). new ≡ after_all (made_events x.layout (unit_in x r.capture r.written)) old) (grid_is i.file i.grid c.self.invariant.grid_fits c.self.invariant.grid_named c.self.invariant.grid_unbooted) c.in-Ok.ensures.events)
+    (subst (λ (x : GridState). new ≡ after_all (made_events x.layout (unit_in x r.capture r.written)) old) (grid_is i.file i.grid c.self.invariant.grid_fits c.self.invariant.grid_named) c.in-Ok.ensures.events)
 
 pub returns-in-Err-clause-events : goal.returns-in-Err-clause-events
 returns-in-Err-clause-events g c =
@@ -53,28 +53,28 @@ returns-in-Err-clause-events g c =
     let old = g.D.Disk.told c.args.disk.now in
     let new = g.D.Disk.told c.write_piece-done.new.disk in
     of_running (λ x q. AddsPart (block_events x q) old new) (state_in i) c.args.self.now i.running r (sym c.in-Some.ensures.value) refl c.self.view_is
-    (subst (λ (x : GridState). AddsPart (made_events x.layout (unit_in x r.capture r.written)) old new) (grid_is i.file i.grid c.self.invariant.grid_fits c.self.invariant.grid_named c.self.invariant.grid_unbooted) c.in-Err.ensures.events)
+    (subst (λ (x : GridState). AddsPart (made_events x.layout (unit_in x r.capture r.written)) old new) (grid_is i.file i.grid c.self.invariant.grid_fits c.self.invariant.grid_named) c.in-Err.ensures.events)
 
 pub returns-in-Ok-clause-steps : goal.returns-in-Ok-clause-steps
 returns-in-Ok-clause-steps g c =
     let i = c.self.inside.parts in
     let r = c.in-Some.running in
     of_running (λ x q. AreSteps (format_of x.file.layout x.file.cluster) (block_events x q) (block_steps (trailer_unit x q))) (state_in i) c.args.self.now i.running r (sym c.in-Some.ensures.value) refl c.self.view_is
-    (subst (λ (x : GridState). AreSteps (format_of x.layout x.cluster) (made_events x.layout (unit_in x r.capture r.written)) (block_steps (unit_in x r.capture r.written))) (grid_is i.file i.grid c.self.invariant.grid_fits c.self.invariant.grid_named c.self.invariant.grid_unbooted) c.write_piece-done.ensures.steps)
+    (subst (λ (x : GridState). AreSteps (format_of x.layout x.cluster) (made_events x.layout (unit_in x r.capture r.written)) (block_steps (unit_in x r.capture r.written))) (grid_is i.file i.grid c.self.invariant.grid_fits c.self.invariant.grid_named) c.write_piece-done.ensures.steps)
 
 pub returns-in-Err-clause-steps : goal.returns-in-Err-clause-steps
 returns-in-Err-clause-steps g c =
     let i = c.self.inside.parts in
     let r = c.in-Some.running in
     of_running (λ x q. AreSteps (format_of x.file.layout x.file.cluster) (block_events x q) (block_steps (trailer_unit x q))) (state_in i) c.args.self.now i.running r (sym c.in-Some.ensures.value) refl c.self.view_is
-    (subst (λ (x : GridState). AreSteps (format_of x.layout x.cluster) (made_events x.layout (unit_in x r.capture r.written)) (block_steps (unit_in x r.capture r.written))) (grid_is i.file i.grid c.self.invariant.grid_fits c.self.invariant.grid_named c.self.invariant.grid_unbooted) c.write_piece-done.ensures.steps)
+    (subst (λ (x : GridState). AreSteps (format_of x.layout x.cluster) (made_events x.layout (unit_in x r.capture r.written)) (block_steps (unit_in x r.capture r.written))) (grid_is i.file i.grid c.self.invariant.grid_fits c.self.invariant.grid_named) c.write_piece-done.ensures.steps)
 
 pub returns-in-Ok-clause-written : goal.returns-in-Ok-clause-written
 returns-in-Ok-clause-written g c =
     let i = c.self.inside.parts in
     let s : State = state_in i in
     let r = c.in-Some.running in
-    let to : Blocks → State = λ b. record s { blocks = b; running = Some (record (running_state r) { written = r.written + 1 }) } in
-    let sum = ap (λ (x : GridState). to (next_written i.grid.blocks (number_of (unit_in x r.capture r.written).header.checksum))) (grid_is i.file i.grid c.self.invariant.grid_fits c.self.invariant.grid_named c.self.invariant.grid_unbooted) in
-    of_running (λ x q. to c.write_piece-done.new.grid.blocks ≡ advanced x q) s c.args.self.now i.running r (sym c.in-Some.ensures.value) refl c.self.view_is
-    (ap (λ (x : GridState). to x.blocks) c.in-Ok.ensures.written ∙ sum)
+    let to : GridState → State = λ x. record s { blocks = x.blocks; running = Some (record (running_state r) { written = r.written + 1 }); boot = x.boot } in
+    let sum = ap (λ (x : GridState). record (to i.grid) { blocks = next_written i.grid.blocks (number_of (unit_in x r.capture r.written).header.checksum) }) (grid_is i.file i.grid c.self.invariant.grid_fits c.self.invariant.grid_named) in
+    of_running (λ x q. to c.write_piece-done.new.grid ≡ advanced x q) s c.args.self.now i.running r (sym c.in-Some.ensures.value) refl c.self.view_is
+    (ap to c.in-Ok.ensures.written ∙ sum)

@@ -1,0 +1,83 @@
+-- Views that are the same but for the boot are one for a life: what a file has come to, and what was acknowledged, is there in each of them.
+use Rattle.std.proofs.Common.{◌≡◌, inl, inr, ℕ, List, [], ◌∷◌, sym, ◌∙◌, ap, subst, arith, refl}
+use Rattle.std.specs.Prelude.{length, Ok}
+use Rattle.std.specs.List.{slice_get}
+use Rattle.df_base.specs.Image.{Image}
+use Rattle.df_theory.specs.Sessions.{sessions_after}
+use Rattle.df_theory.specs.Tails.{In}
+use Rattle.df_theory.specs.Units.{Session}
+use Rattle.df_theory.specs.View.{View, sessions}
+use Rattle.df_units.specs.Making.{first_view}
+use Rattle.df_model.specs.Commands as commands
+use Rattle.df_model.specs.Commands.{Answer, Command, ToAdvance, ToAppend, ToReply}
+use Rattle.df_model.specs.Views.{KeepsView}
+use Rattle.df_model.specs.Work.{kept}
+use Rattle.df_model.specs.declared.answers.Progress.TheVariants.{Done}
+use Rattle.df_replica.specs.Below.{DataFile}
+use Rattle.df_replica.specs.Session.{Act, work_after}
+use Rattle.df_replica.proofs.Laws.{keeps_on}
+use Rattle.df_session.specs.Begun.{begun_work}
+use Rattle.df_lifetime.specs.Acknowledged.{AreThere}
+use Rattle.df_lifetime.specs.Life.{Chapter, LeadsTo, MayHave}
+use Rattle.df_lifetime.specs.There.{HasPrepare, HasReply, IsThere}
+
+-- ---- what a file may have come to
+
+leads_on : (file : DataFile) (c : Chapter) (v u x : View) → LeadsTo file c v u → KeepsView u x → LeadsTo file c v x
+leads_on file c v u x (inl is) keeps = inl (record { none = is.none; no_answers = is.no_answers; same = keeps_on v u x is.same keeps })
+leads_on file c v u x (inr goes) keeps =
+    let by = goes.1 in
+    inr (
+      goes.0,
+      record {
+        whole = by.whole;
+        found = by.found;
+        unspent = by.unspent;
+        inputs = by.inputs;
+        answers_are = by.answers_are;
+        came = by.came;
+        view = keeps_on (kept (work_after file (begun_work file c.shown v) goes.0)) u x by.view keeps;
+      },
+    )
+
+pub had_on : (file : DataFile) (chapters : List Chapter) (u x : View) → MayHave file chapters u → KeepsView u x → MayHave file chapters x
+had_on file [] u x had keeps = keeps_on (first_view file.layout file.cluster) u x had keeps
+had_on file (c ∷ chapters) u x had keeps = (had.0, had.1, leads_on file c had.0 u x had.2 keeps)
+
+-- a boot update keeps the view
+pub begun_bare : (file : DataFile) (image : Image) (view : View) → KeepsView view (kept (begun_work file image view))
+begun_bare file image view = record { content = record { file = (refl, refl, refl, refl); sequence = refl; op = (refl, refl); trailer = (refl, refl, refl) }; chain = refl; parts = refl; tail = refl; replies = refl; stored = λ k. refl }
+
+-- ---- what was acknowledged
+
+module _ (v u : View) (keeps : KeepsView v u) where
+  prepare_there : (op sum client request : ℕ) (body : List ℕ) → HasPrepare v op sum client request body → HasPrepare u op sum client request body
+  prepare_there op sum client request body has = record {
+    reached = omega (arith, has.reached, keeps.content.op.0, ap length keeps.tail);
+    there = λ above.
+        let p = has.there (omega (arith, above, keeps.content.op.0)) in
+        (p.0, subst (In p.0) (sym keeps.tail) p.1, p.2, p.3, p.4, p.5, p.6);
+  }
+
+  sessions_same : sessions u ≡ sessions v
+  sessions_same = λ i. sessions_after (keeps.parts i).sessions (keeps.tail i)
+
+  reply_there : (op sum : ℕ) (body : List ℕ) → HasReply v op sum body → HasReply u op sum body
+  reply_there op sum body has = record {
+    counted = omega (arith, has.counted, keeps.replies);
+    stored = λ k s at same.
+        let r = has.stored k s (ap (λ (ss : List Session). slice_get ss k) (sym sessions_same) ∙ at) same in
+        (r.0, keeps.stored k ∙ r.1, r.2, r.3);
+  }
+
+  one_there : (command : Command) (answer : Answer) → IsThere v command answer → IsThere u command answer
+  one_there (commands.Append client request body) (ToAppend (Ok x)) there = prepare_there x.0 x.1 client request body there
+  one_there (commands.Reply op body) (ToReply (Ok sum)) there = reply_there op sum body there
+  one_there commands.Advance (ToAdvance (Ok (Done n))) there = omega (arith, there, keeps.content.sequence)
+  one_there command answer there = tt
+
+  pub are_there : (acts : List Act) (answers : List Answer) → AreThere v acts answers → AreThere u acts answers
+  are_there [] [] there = tt
+  are_there [] (x ∷ answers) there = absurd there
+  are_there (a ∷ acts) [] there = absurd there
+  are_there (a ∷ acts) (x ∷ answers) there = (one_there a.command x there.0, are_there acts answers there.1)

@@ -1,0 +1,70 @@
+-- Steps that write no block: of copies and of headers. They leave each block as it was.
+use Rattle.std.proofs.Common.{◌≡◌, ℕ, List, [], ◌∷◌, ◌++◌, Option, Some, None, refl, ◌∙◌, ap}
+use Rattle.df_theory.specs.Units.{AnyUnit, BlockPlace, Content, CopyPlace, CopyUnit, Header, Units, or_else}
+use Rattle.df_theory.specs.View.{View}
+use Rattle.df_theory.specs.UnitLog.{PutsOne, Synced, UnitLog, add, now, wrote}
+use Rattle.df_theory.specs.Runs.{Puts, Step, Syncs, after_steps}
+use Rattle.df_theory.specs.CopyPuts.{PutsCopies, update_steps}
+use Rattle.df_theory.specs.MakingLaws.{all_puts}
+use Rattle.df_theory.specs.MendLaws.{AllPutCopy, AllPutTable, PutsTable, copy_steps, header_steps, mend_steps}
+use Rattle.df_theory.specs.WholeLaws.{AllSpare}
+
+abbrev pub PutsNoBlock : Units → Type 0
+PutsNoBlock put = (a : ℕ) → put (BlockPlace a) ≡ None
+
+abbrev pub NoBlocks : List Step → Type 0
+NoBlocks [] = Unit {0}
+NoBlocks ((Puts put) ∷ ss) = PutsNoBlock put × NoBlocks ss
+NoBlocks (Syncs ∷ ss) = NoBlocks ss
+
+-- ---- what they leave
+
+-- whatever a view references is spared
+pub spare_all : (v : View) (ss : List Step) → NoBlocks ss → AllSpare v ss
+spare_all v [] none = tt
+spare_all v ((Puts put) ∷ ss) none = (λ a c is. none.0 a, spare_all v ss none.1)
+spare_all v (Syncs ∷ ss) none = spare_all v ss none
+
+pub blocks_stay : (ss : List Step) (log : UnitLog) → NoBlocks ss → (a : ℕ) → now (after_steps ss log) (BlockPlace a) ≡ now log (BlockPlace a)
+blocks_stay [] log none a = refl
+blocks_stay ((Puts put) ∷ ss) log none a = blocks_stay ss (wrote put log) none.1 a ∙ ap (λ (o : Option AnyUnit). or_else o (now log (BlockPlace a))) (none.0 a)
+blocks_stay (Syncs ∷ ss) log none a = blocks_stay ss (add Synced log) none a
+
+-- ---- which steps are such
+
+pub no_blocks_both : (ss ts : List Step) → NoBlocks ss → NoBlocks ts → NoBlocks (ss ++ ts)
+no_blocks_both [] ts one two = two
+no_blocks_both ((Puts put) ∷ ss) ts one two = (one.0, no_blocks_both ss ts one.1 two)
+no_blocks_both (Syncs ∷ ss) ts one two = no_blocks_both ss ts one two
+
+copy_no_block : (put : Units) (n : ℕ) (c : Content) → PutsOne put (CopyPlace n) (CopyUnit c) → PutsNoBlock put
+copy_no_block put n c one a = go (put (BlockPlace a)) refl
+  where
+    go : (o : Option AnyUnit) → put (BlockPlace a) ≡ o → put (BlockPlace a) ≡ None
+    go None none = none
+    go (Some y) some = absurd (let at : BlockPlace a ≡ CopyPlace n = (one.only (BlockPlace a) y some).0 in cc)
+
+pub update_no_blocks : (c : Content) (puts : PutsCopies c) → NoBlocks (update_steps puts)
+update_no_blocks c puts = (copy_no_block puts.put0 0 c puts.one0, (copy_no_block puts.put1 1 c puts.one1, (copy_no_block puts.put2 2 c puts.one2, (copy_no_block puts.put3 3 c puts.one3, tt))))
+
+sector_no_block : (table : ℕ → Header) (put : Units) → PutsTable table put → PutsNoBlock put
+sector_no_block table put all a = go (put (BlockPlace a)) refl
+  where
+    go : (o : Option AnyUnit) → put (BlockPlace a) ≡ o → put (BlockPlace a) ≡ None
+    go None none = none
+    go (Some y) some = absurd (let at = (all (BlockPlace a) y some).1 in cc)
+
+puts_no_blocks : (table : ℕ → Header) (puts : List Units) → AllPutTable table puts → NoBlocks (all_puts puts)
+puts_no_blocks table [] all = tt
+puts_no_blocks table (put ∷ puts) all = (sector_no_block table put all.0, puts_no_blocks table puts all.1)
+
+headers_no_blocks : (table : ℕ → Header) (puts : List Units) → AllPutTable table puts → NoBlocks (header_steps puts)
+headers_no_blocks table [] all = tt
+headers_no_blocks table (put ∷ puts) all = no_blocks_both (all_puts (put ∷ puts)) (Syncs ∷ []) (puts_no_blocks table (put ∷ puts) all) tt
+
+copies_no_blocks : (c : Content) (m n : ℕ) (copies : List (ℕ × Units)) → AllPutCopy c m n copies → NoBlocks (copy_steps copies)
+copies_no_blocks c m n [] all = tt
+copies_no_blocks c m n (k ∷ ks) all = (copy_no_block k.1 k.0 c all.0, copies_no_blocks c m n ks all.3)
+
+pub mend_no_blocks : (table : ℕ → Header) (headers : List Units) (c : Content) (m n : ℕ) (copies : List (ℕ × Units)) → AllPutTable table headers → AllPutCopy c m n copies → NoBlocks (mend_steps headers copies)
+mend_no_blocks table headers c m n copies puts_headers puts_copies = no_blocks_both (header_steps headers) (copy_steps copies) (headers_no_blocks table headers puts_headers) (copies_no_blocks c m n copies puts_copies)

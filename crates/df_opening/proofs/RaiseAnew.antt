@@ -1,0 +1,202 @@
+-- What an open does behind its survey keeps the bare view in a log that is begun anew, whatever the copies showed.
+use Rattle.std.proofs.Common.{◌≡◌, ◌⊎◌, inl, ℕ, ◌<◌, ◌≤◌, ◌^◌, List, length, Option, Some, None, ◌∙◌, ap, subst, arith, refl, sym}
+use Rattle.std.proofs.lemmas.Bool.{and_parts, ltb-true}
+use Rattle.std.proofs.lemmas.Option.{slice_get_within}
+use Rattle.df_base.specs.Log as Log
+use Rattle.df_base.specs.Image.{Image, IsImage, blank}
+use Rattle.df_base.specs.Moments.{EachMoment, Extends, adds}
+use Rattle.df_base.proofs.Laws.{adds_extends, extends_self, now_is_image}
+use Rattle.df_disk.specs.Told.{Told}
+use Rattle.df_format.specs.Copies.{content_with}
+use Rattle.df_format.specs.declared.header.Header.{Header}
+use Rattle.df_theory.specs.Units
+use Rattle.df_theory.specs.Units.{Content, CopyPlace, CopyUnit, HeaderPlace, HeaderUnit}
+use Rattle.df_theory.specs.CopyPuts.{PutsCopies, update_steps}
+use Rattle.df_theory.specs.Device.{AreSteps, units_log}
+use Rattle.df_theory.specs.Found.{AreOfPlaces, IsFound}
+use Rattle.df_theory.specs.Next.{IsSameBare, booted}
+use Rattle.df_theory.specs.Chance.{EachLeft}
+use Rattle.df_theory.specs.MendLaws.{mend_steps}
+use Rattle.df_theory.specs.Runs.{AtEach, Step, after_steps}
+use Rattle.df_theory.specs.Shape.{Shape}
+use Rattle.df_theory.specs.Upgrades as UnitsUpgrades
+use Rattle.df_theory.specs.Upgrades.{IsCleanBeyond, MayRaise, raise_steps}
+use Rattle.df_theory.specs.UnitLog.{UnitLog, now}
+use Rattle.df_theory.specs.View.{View}
+use Rattle.df_theory.proofs.Laws.{after_append, firm_units, moments, now_units}
+use Rattle.df_theory.proofs.Upgrades.{open_law}
+use Rattle.df_units.specs.Bytes.{unit_at}
+use Rattle.df_units.specs.Meaning.{content_of, layout_of}
+use Rattle.df_units.specs.Puts.{put_copies}
+use Rattle.df_units.proofs.Laws.{all_added, blank_empty, call_ends, is_format, of_places}
+use Rattle.df_trailer.specs.Text.{parse_of}
+use Rattle.df_superblock.specs.Steps.{repaired}
+use Rattle.df_journal.specs.Append.{ShowsRing}
+use Rattle.df_model.specs.Boots.{Raises}
+use Rattle.df_model.specs.Making.{boot_content}
+use Rattle.df_model.specs.Memory.{Memory, memory_of}
+use Rattle.df_model.specs.Sense.{IsVersionTwo, IsWork}
+use Rattle.df_model.specs.Laws.{IsKeptBy}
+use Rattle.df_model.specs.Work.{Work, raised}
+use Rattle.df_model.proofs.Laws.{found_law as sense_found, raised_kept_law, raised_law}
+use Rattle.df_damage.specs.Anew.{begun, told_after}
+use Rattle.df_damage.specs.Below.{DataFile, IsState, Represents, boot_fields, memory, shape, spelling}
+use Rattle.df_damage.specs.Plan.{AreDistinct, header_or_none, headers_in}
+use Rattle.df_damage.proofs.Laws.{added_is_told, begun_is_honest, honest_stays}
+use Rattle.df_opening.specs.Keeping.{format}
+use Rattle.df_opening.specs.Mending.{StaysFound, begun_state, first_state, raised_state, sector_puts, sectors_of}
+use Rattle.df_opening.specs.Raising.{IsPlannedOf, RaisesAnew, opening_events, opening_steps, raised_content}
+use Rattle.df_opening.specs.Survey.{Survey}
+use Rattle.df_opening.proofs.Mendable.{IsPlannedIn, content_is, planned_in}
+use Rattle.df_opening.proofs.MendSteps.{kept as kept_there, slot_ends}
+use Rattle.df_opening.proofs.Opens.{codec_of, second_found}
+use Rattle.df_opening.proofs.RaiseSteps.{raised_is, sum_of}
+
+-- there are four copies
+beyond_four : (file : DataFile) (image : Image) (n : ℕ) → 4 ≤ n → unit_at file.layout file.cluster image (CopyPlace n) ≡ None
+beyond_four file image n past =
+    (is_format file.layout file.cluster).local image blank (CopyPlace n) (λ sector has. let inside : n < 4 = ltb-true n 4 (and_parts _ _ has).0 in absurd (omega (arith, inside, past))) ∙ blank_empty file.layout file.cluster (CopyPlace n)
+
+module _ (view : View) (s : Survey) (base : Told) (four : length s.chosen.members ≡ 4) (version : s.state.file.version ≡ 2) (is : IsState s.state) (unspent : s.state.fields.boot < 2 ^ 62)
+    (plan : IsPlannedOf s (begun base)) (whole : IsImage base.shown) (found : IsFound (shape s.state.file) (unit_at s.state.file.layout s.state.file.cluster base.shown) view)
+    (distinct : AreDistinct (unit_at s.state.file.layout s.state.file.cluster base.shown)) (stands : Represents s.state (first_state s.state.file base view)) (steps : AreSteps (format s.state.file) (opening_events s) (opening_steps s)) where
+  abbrev file : DataFile
+  file = s.state.file
+
+  abbrev sh : Shape
+  sh = shape file
+
+  abbrev w : Work
+  w = first_state file base view
+
+  abbrev image : Units.Units
+  image = unit_at file.layout file.cluster base.shown
+
+  abbrev headers : List Units.Units
+  headers = sector_puts s.state.headers (sectors_of file.layout s.mends)
+
+  abbrev copies : List (ℕ × Units.Units)
+  copies = repaired s.state.fields 0 s.chosen.members
+
+  abbrev d : Content
+  d = boot_content (memory_of sh (spelling file) w) (sum_of s.state)
+
+  content_is_d : raised_content s.state ≡ d
+  content_is_d = raised_is s.state is.second.rules.version ∙ ap (λ (m : Memory). boot_content m (sum_of s.state)) stands
+
+  own_content : view.checkpoint.content ≡ content_of (content_with s.state.fields)
+  own_content = content_is file view s.state.headers s.mends s.state.fields s.chosen.members (begun base) four plan whole found distinct
+
+  places : AreOfPlaces sh image
+  places = of_places file.layout file.cluster file.named (parse_of (layout_of file.layout)) base.shown whole
+
+  two : IsVersionTwo sh view
+  two = second_found file base.shown view whole version found
+
+  sense : IsWork sh (spelling file) w
+  sense = sense_found sh (spelling file) image view (codec_of file) two places found
+
+  raises : Raises sh (spelling file) w d
+  raises = raised_law sh (spelling file) w (sum_of s.state) sense (omega (arith, ap (λ (c : Content). c.boot) own_content, unspent))
+
+  planned : IsPlannedIn sh image view (headers_in s.state.headers) headers copies
+  planned = planned_in file view s.state.headers s.mends s.state.fields s.chosen.members (begun base) four plan whole found distinct
+
+  may : MayRaise sh view.checkpoint.content.version image view (headers_in s.state.headers) headers copies d
+  may = record {
+    places = places;
+    found = found;
+    tells = planned.tells;
+    puts_headers = planned.puts_headers;
+    agreed = planned.agreed;
+    puts_copies = planned.puts_copies;
+    each_slot = planned.each_slot;
+    each_copy = planned.each_copy;
+    boot = raises.may;
+  }
+
+  there : (puts : PutsCopies d) × (opening_steps s ≡ raise_steps headers copies puts)
+  there = subst (λ (c : Content). (puts : PutsCopies c) × (opening_steps s ≡ raise_steps headers copies puts)) content_is_d (put_copies (boot_fields s.state), refl)
+
+  abbrev puts : PutsCopies d
+  puts = there.0
+
+  -- at each moment of the log of units
+  each : AtEach (λ log. EachLeft log (λ left. IsFound sh left view ⊎ IsFound sh left (booted view d))) (UnitsUpgrades.begun image) (raise_steps headers copies puts)
+  each = (open_law sh image view (headers_in s.state.headers) headers copies d puts may).0
+
+  abbrev end : Told
+  end = told_after (opening_events s) (begun base)
+
+  added : end.log ≡ adds (opening_events s) (begun base).log
+  added = all_added (opening_events s) (begun base) end (sym (added_is_told (opening_events s) (begun base)))
+
+  -- and so of that of sectors, each of which is one of a disk
+  moments_both : EachMoment (begun base).log end.log (λ l. Log.IsLog l × StaysFound file view (boot_fields s.state) l)
+  moments_both =
+      subst (λ (l : Log.Log). EachMoment (begun base).log l (λ m. Log.IsLog m × StaysFound file view (boot_fields s.state) m)) (sym added)
+      (moments (format file) (λ log. EachLeft log (λ left. IsFound sh left view ⊎ IsFound sh left (booted view d))) (λ l. Log.IsLog l × StaysFound file view (boot_fields s.state) l)
+      (λ l is left. (
+        is,
+        record {
+          left = λ m gone chance.
+              subst (λ (c : Content). IsFound sh (unit_at file.layout file.cluster m) view ⊎ IsFound sh (unit_at file.layout file.cluster m) (booted view c)) (sym content_is_d)
+              (left (unit_at file.layout file.cluster m) (firm_units (format file) (is_format file.layout file.cluster) l m gone.kept) chance);
+        },
+      )) (opening_events s) (raise_steps headers copies puts) (begun base).log (record { start = whole; events = tt }) (subst (AreSteps (format file) (opening_events s)) there.1 steps) each)
+
+  pub anew_moments : EachMoment (begun base).log end.log (StaysFound file view (boot_fields s.state))
+  anew_moments = λ l moment. (moments_both l moment).1
+
+  pub anew_bare : IsSameBare view (booted view (raised_content s.state))
+  anew_bare = subst (λ (c : Content). IsSameBare view (booted view c)) (sym content_is_d) raises.bare
+
+  -- ---- what is begun anew behind it
+
+  end_is_log : Log.IsLog end.log
+  end_is_log = (moments_both end.log (record { since = subst (λ (l : Log.Log). Extends l (begun base).log) (sym added) (adds_extends (opening_events s) (begun base).log); until = extends_self end.log })).0
+
+  shown_is : end.shown ≡ Log.now end.log
+  shown_is = λ i sector. (honest_stays (opening_events s) (begun base) (begun_is_honest base)).shows sector i
+
+  end_is_image : IsImage end.shown
+  end_is_image = subst IsImage (sym shown_is) (now_is_image end.log.start end.log.events end_is_log.start end_is_log.events)
+
+  -- what is shown there is what the steps leave
+  image_is : unit_at file.layout file.cluster end.shown ≡ now (after_steps (opening_steps s) (UnitsUpgrades.begun image))
+  image_is =
+      ap (unit_at file.layout file.cluster) shown_is ∙ sym (now_units (format file) end.log.start end.log.events)
+      ∙ ap (λ (l : UnitLog). now l) (call_ends (format file) (opening_events s) (opening_steps s) (begun base) end (record { start = whole; events = tt }) steps (sym (added_is_told (opening_events s) (begun base))))
+
+  image_raised : unit_at file.layout file.cluster end.shown ≡ now (after_steps (raise_steps headers copies puts) (UnitsUpgrades.begun image))
+  image_raised = image_is ∙ ap (λ (ss : List Step). now (after_steps ss (UnitsUpgrades.begun image))) there.1
+
+  beyond : IsCleanBeyond image view
+  beyond n c past is = let none : None ≡ Some (CopyUnit c) = sym (beyond_four file base.shown n past) ∙ is in absurd (cc)
+
+  anew_keeps : IsKeptBy sh (spelling file) (units_log (format file) (begun end).log) (begun_state file base view (boot_fields s.state))
+  anew_keeps =
+      subst (λ (c : Content). IsKeptBy sh (spelling file) (units_log (format file) (begun end).log) (raised w c)) (sym content_is_d)
+      (subst (λ (u : Units.Units). IsKeptBy sh (spelling file) (UnitsUpgrades.begun u) (raised w d)) (sym image_raised)
+      (raised_kept_law sh (spelling file) image view (headers_in s.state.headers) headers copies (sum_of s.state) puts (codec_of file) two may beyond).0)
+
+  anew_stands : Represents (raised_state s.state) (begun_state file base view (boot_fields s.state))
+  anew_stands =
+      subst (λ (c : Content). record (memory s.state) { content = c } ≡ memory_of sh (spelling file) (raised w c)) (sym content_is_d)
+      (ap (λ (m : Memory). record m { content = d }) stands ∙ sym raises.memory)
+
+  -- the header ring is as the table has it
+  anew_ring : ShowsRing file.layout file.cluster end.shown s.state.headers
+  anew_ring k h at =
+      let below : k < file.layout.slots = omega (arith, slice_get_within s.state.headers k h at, is.ring.count) in
+      let shown = slot_ends (headers_in s.state.headers) headers s.state.fields s.chosen.members (UnitsUpgrades.begun image) k planned.puts_headers (planned.each_slot k below) in
+      let behind = kept_there (HeaderPlace k) (HeaderUnit (headers_in s.state.headers k)) (update_steps (put_copies (boot_fields s.state))) (after_steps (mend_steps headers copies) (UnitsUpgrades.begun image)) (inl refl, (inl refl, (inl refl, (inl refl, tt)))) shown in
+      ap (λ (u : Units.Units). u (HeaderPlace k)) image_is ∙ ap (λ (l : UnitLog). now l (HeaderPlace k)) (after_append (mend_steps headers copies) (update_steps (put_copies (boot_fields s.state))) (UnitsUpgrades.begun image)) ∙ behind
+      ∙ ap (λ (o : Option Header). Some (HeaderUnit (header_or_none o))) at
+
+  pub raises_anew : RaisesAnew view s (begun base)
+  raises_anew = record {
+    moments = anew_moments;
+    bare = anew_bare;
+    kept_for = record { log_is = record { start = end_is_image; events = tt }; stands = anew_stands; kept_by = anew_keeps; ring = anew_ring };
+  }

@@ -1,0 +1,44 @@
+-- The boot that is set is that of the superblock that was written, and what is behind it makes sense.
+use Rattle.std.proofs.Common.{◌≡◌, ◌∙◌, ◌+◌, ℕ, true, ap, subst, sym, arith}
+use Rattle.df_format.specs.SuperRules.{IsUsable}
+use Rattle.df_format.specs.declared.superblock.SuperFields.{SuperFields}
+use Rattle.df_grid.specs.Grid.{GridState}
+use Rattle.df_damage.specs.Below.{IsState, State, state_in}
+use Rattle.df_opening.proofs.RaisedState.{raised_sense}
+use Rattle.df_opening.proofs.Refused.{unharmed_fault, unharmed_of, unharmed_ok}
+use Rattle.df_opening.proofs.mended.raise_parts.Goals as goal
+
+pub set_boot-requires : goal.set_boot-requires
+set_boot-requires g c =
+    let next : c.fields.result.now.boot ≡ c.args.parts.now.content.boot + 1 = ap (λ (f : SuperFields). f.boot) (c.fields.ensures.value ∙ c.requires.content) in
+    record { boot = (omega (arith, next), omega (arith, next, c.requires.unspent)) }
+
+pub returns-clause-state : goal.returns-clause-state
+returns-clause-state g c =
+    let s : State = state_in c.args.parts.now in
+    ap (λ (x : GridState). record s { fields = c.args.content; blocks = x.blocks; boot = x.boot; live = true }) c.set_boot.ensures
+    ∙ ap (λ (n : ℕ). record s { fields = c.args.content; boot = n; live = true }) (ap (λ (f : SuperFields). f.boot) c.fields.ensures.value)
+    ∙ ap (λ (f : SuperFields). record s { fields = f; boot = f.boot; live = true }) c.requires.content
+
+pub returns-clause-whole : goal.returns-clause-whole
+returns-clause-whole g c =
+    let s : State = state_in c.args.parts.now in
+    let old = c.requires.whole in
+    record {
+      state = subst IsState (sym (returns-clause-state g c)) (raised_sense s old.state (subst IsUsable c.requires.content c.fields.ensures.usable));
+      rooms_fit = old.rooms_fit;
+      grid_fits = ap (λ (x : GridState). x.layout) c.set_boot.ensures ∙ old.grid_fits;
+      grid_named = ap (λ (x : GridState). x.cluster) c.set_boot.ensures ∙ old.grid_named;
+      trailer_fits = old.trailer_fits;
+      scrub_fits = old.scrub_fits;
+    }
+
+pub returns-clause-unharmed : goal.returns-clause-unharmed
+returns-clause-unharmed g c = unharmed_ok {T = Unit {0}} (g.D.Disk.told c.update.new.disk) tt
+
+pub returns-in-Err-Damaged-clause-unharmed : goal.returns-in-Err-Damaged-clause-unharmed
+returns-in-Err-Damaged-clause-unharmed g c =
+    unharmed_of (Unit {0}) _ (g.D.Disk.told c.update.new.disk) c.in-Err-Damaged.field-0 c.in-Err-Damaged.place _ c.in-Err-Damaged.class _ c.in-Err-Damaged.field-0-is c.in-Err-Damaged.ensures.undamaged
+
+pub returns-in-Err-DiskFault-clause-unharmed : goal.returns-in-Err-DiskFault-clause-unharmed
+returns-in-Err-DiskFault-clause-unharmed g c = unharmed_fault _ (g.D.Disk.told c.update.new.disk)

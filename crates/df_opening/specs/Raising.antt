@@ -1,0 +1,45 @@
+-- What an open does behind its survey: it mends, and raises the boot; and what it leaves at each moment of that, by each log on which the plan rests.
+use Rattle.std.specs.Prelude.{List}
+use Rattle.df_base.specs.Log.{Event}
+use Rattle.df_base.specs.Moments.{EachMoment}
+use Rattle.df_disk.specs.Told.{Told}
+use Rattle.df_format.specs.Copies.{content_with}
+use Rattle.df_theory.specs.Next.{IsSameBare, booted}
+use Rattle.df_theory.specs.Runs.{Step}
+use Rattle.df_theory.specs.Units.{Content}
+use Rattle.df_theory.specs.View.{View}
+use Rattle.df_units.specs.Meaning.{content_of}
+use Rattle.df_damage.specs.Anew.{begun, told_after}
+use Rattle.df_damage.specs.Below.{State, boot_fields, shape}
+use Rattle.df_opening.specs.Keeping.{Firm, Grade, IsGoodFor, IsKept, format}
+use Rattle.df_opening.specs.Mending.{IsMended, IsPlanned, StaysFound, begun_state, raised_state, raising_events, raising_steps}
+use Rattle.df_opening.specs.Survey.{Survey}
+
+-- the superblock that an open writes of a state that was found
+abbrev pub raised_content : State → Content
+raised_content s = content_of (content_with (boot_fields s))
+
+-- its device calls
+abbrev pub opening_events : Survey → List Event
+opening_events s = raising_events s.state.file.layout s.state.headers s.mends s.state.fields s.chosen.members (boot_fields s.state)
+
+-- in the words of the theory
+abbrev pub opening_steps : Survey → List Step
+opening_steps s = raising_steps s.state.file.layout s.state.headers s.mends s.state.fields s.chosen.members (boot_fields s.state)
+
+-- the survey's list is planned of what this base shows
+abbrev pub IsPlannedOf : Survey → Told → Type 0
+IsPlannedOf s t = IsPlanned s.state.file s.state.headers s.mends s.state.fields s.chosen.members t
+
+-- In one log on which the view rests: each moment has the view that was found or the raised one, whose bare view is the same, and at the end the file is tidy with that.
+pub record RaisesOver (g : Grade) (view : View) (s : Survey) (base : Told) : Type 0 where
+  pub moments : EachMoment base.log (told_after (opening_events s) base).log (IsGoodFor g (format s.state.file) (shape s.state.file) view (booted view (raised_content s.state)))
+  pub bare : IsSameBare view (booted view (raised_content s.state))
+  pub raised : IsMended g s.state.file (booted view (raised_content s.state)) s.state.headers (told_after (opening_events s) base)
+  pub kept_for : IsKept g (raised_state s.state) (begun_state s.state.file base view (boot_fields s.state)) (told_after (opening_events s) base).log
+
+-- In a log that is begun anew at what was shown, whatever the copies showed: at each moment each image that is left has the bare view, and one that is begun anew behind it is kept.
+pub record RaisesAnew (view : View) (s : Survey) (base : Told) : Type 0 where
+  pub moments : EachMoment base.log (told_after (opening_events s) base).log (StaysFound s.state.file view (boot_fields s.state))
+  pub bare : IsSameBare view (booted view (raised_content s.state))
+  pub kept_for : IsKept Firm (raised_state s.state) (begun_state s.state.file base view (boot_fields s.state)) (begun (told_after (opening_events s) base)).log
