@@ -34,21 +34,21 @@ def classes_of(copies: list) -> list:
     return [copy if isinstance(copy, str) else "Stale" for copy in copies]
 
 
-def tested(file: File) -> tuple:
-    """The copies and the content that they choose; a refusal ends the run."""
+def tested(file: File, version: int) -> tuple:
+    """The copies and the content that they choose, where this version is asked for; a refusal ends the run."""
     copies = copies_of(file)
     content = choose(copies)
     if all(copy == superblock.BLANK for copy in copies):
         refuse("NotFormatted")
     if content is None:
         refuse("NoQuorum " + " ".join(classes_of(copies)))
-    test_fields(content)
+    test_fields(content, version)
     return copies, content
 
 
-def test_fields(content: superblock.Content) -> None:
+def test_fields(content: superblock.Content, version: int) -> None:
     """The field tests; a refusal ends the run."""
-    if content.version != 2 and not has("Version isn't tested"):
+    if content.version != version and not has("Version isn't tested"):
         refuse(f"Version found {content.version}")
     for field, value, fails in superblock.tests(content):
         if fails and not has(f"a field isn't tested: {field}"):
@@ -155,12 +155,12 @@ def read_back(file: File, machine: Machine) -> None:
         refuse(f"Damaged Superblock {bad[0]} {what if isinstance(what, str) else 'Stale'}")
 
 
-def survey(file: File) -> tuple:
-    """What an open finds: the copies, and what is in the slots; a refusal ends the run."""
-    tested(file)
+def survey(file: File, version: int = 2) -> tuple:
+    """What an open finds that asks for this version: the copies, and what is in the slots; a refusal ends the run."""
+    tested(file, version)
     if not has("there is no barrier"):
         file.sync()
-    copies, content = tested(file)
+    copies, content = tested(file, version)
     if content.trailer_address and not knows("blocks"):
         refuse(f"BadField TrailerAddress {content.trailer_address}")
     if has("the layout is always small"):
@@ -180,9 +180,9 @@ def survey(file: File) -> tuple:
     return copies, found
 
 
-def opened(file: File) -> Machine:
-    """Finds the state of the file, mends it, and raises its boot."""
-    copies, found = survey(file)
+def opened(file: File, version: int = 2) -> Machine:
+    """Finds the state of the file, mends it, and raises its boot; a file of version 1 is of version 2 then."""
+    copies, found = survey(file, version)
     machine = Machine(found, form.Image(b""))
     machine.file = file
     slots = [place.index for place, _ in found.to_mend if place.zone == form.WAL_HEADERS]
@@ -288,6 +288,12 @@ def scrub(file: File) -> int:
     return FOUND if len(lines) > 1 and not has("findings don't count for the status") else DONE
 
 
+def upgrade(file: File) -> int:
+    """The word `upgrade`."""
+    tell_all([f"upgraded {opened(file, 1).durable.sequence}"])
+    return DONE
+
+
 def work(file: File, seed: int, count: int) -> int:
     """The word `workload`."""
     machine = opened(file)
@@ -341,7 +347,7 @@ def main() -> int:
             tell(USAGE)
             return WORDS
         file = File(words[0])
-        calls = {"run": run, "format": make, "recover": recover, "inspect": inspect, "scrub": scrub, "workload": work, "paced": run}
+        calls = {"run": run, "format": make, "recover": recover, "inspect": inspect, "scrub": scrub, "upgrade": upgrade, "workload": work, "paced": run}
         return calls[asked[0]](file, *asked[1:])
     except End as end:
         return end.args[0]

@@ -109,8 +109,10 @@ class Rules(wrong_grid.Rules):
         return tail, sessions[: self.clients]
 
     def takes(self, rings, op: int, content) -> bool:
+        one = rings.prepares[op % content.slots]
+        if has("a named prepare is known by its op") and op <= content.pin():
+            return isinstance(one, Unit) and one.op == op
         if has("a named prepare is known by its header") and op <= content.pin():
-            one = rings.prepares[op % content.slots]
             return isinstance(one, Unit) and one.op == op and self.decision(
                 rings.headers[op % content.slots], one, op, one.boot).startswith("Take")
         return super().takes(rings, op, content)

@@ -60,6 +60,12 @@ ROWS = (
     # Four equal copies with right checksums.
     (four(version=9), "run", "", "refused Version found 9\n", 4),
     (four(version=1), "run", "", "refused Version found 1\n", 4),
+    (four(version=1), "upgrade", "append 1 1 -\n", "upgraded 1\n", 0),
+    (file_of(A5, FIRST._replace(version=1).encode(1), A5, FIRST._replace(version=1).encode(3)), "upgrade", "", "upgraded 1\n", 0),
+    (four(version=2), "upgrade", "", "refused Version found 2\n", 4),
+    (four(version=1, boot=1), "upgrade", "", "refused BadField Boot 1\n", 4),
+    (file_of(C[0], C[1], FIRST._replace(version=1).encode(2), FIRST._replace(version=1).encode(3)), "upgrade", "",
+     "refused Version found 2\n", 4),
     (four(version=1, slots=0), "run", "", "refused Version found 1\n", 4),
     (four(slots=0), "run", "", "refused BadField Slots 0\n", 4),
     (four(slots=0, cluster=0), "run", "", "refused BadField Slots 0\n", 4),

@@ -65,10 +65,10 @@ def list_of_words(t: Try) -> list:
     if random.random() < 0.4:
         # A word that stands alone, or a workload of few commands; most often with a meaning.
         count = random.choice(("1", "2", "20", "0", "01", "1000001", "9" * 40, "-", "", "x", "\u0661"))
-        listed = random.choice((["recover"], ["inspect"], ["scrub"], ["workload", cluster_word(t), count]))
+        listed = random.choice((["recover"], ["inspect"], ["scrub"], ["upgrade"], ["workload", cluster_word(t), count]))
         return listed + ["-"] if random.random() < 0.1 else listed
     choices = ("", "run", "RUN", "Run", "run ", " run", "runn", "ru", "-", "--", "--run", "-h", "--help", "format", "0",
-               "small", "recover", "inspect", "scrub", "workload", b"\xff", b"run\xc3")
+               "small", "recover", "inspect", "scrub", "upgrade", "workload", b"\xff", b"run\xc3")
     return [random.choice(choices) for _ in range(random.randint(0, 4))]
 
 

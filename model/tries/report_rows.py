@@ -38,7 +38,7 @@ def summary(sequence: int, checkpoint: int, head: int, replies: int, sessions: i
 def words() -> list:
     """Words with and without a meaning."""
     bad = ("recover 1", "inspect -", "scrub 1 1", "workload", "workload 1", "workload 1 0", "workload 1 1000001",
-           "workload 01 1", "workload 1 01", "workload -1 1", "workload 18446744073709551616 1", "workload 1 1 1", "recovers", "Scrub")
+           "workload 01 1", "workload 1 01", "upgrade 1", "upgraded", "workload -1 1", "workload 18446744073709551616 1", "workload 1 1 1", "recovers", "Scrub")
     return [
         *((NEW, text, "", USAGE, 2) for text in bad),
         (NEW, "workload 42 3", "append 9 9 -\n", WORKED, 0),
@@ -48,6 +48,8 @@ def words() -> list:
         (None, "recover", "", "refused NotFormatted\n", 4),
         (None, "inspect", "", "refused NotFormatted\n", 4),
         (b"", "scrub", "", "refused NotFormatted\n", 4),
+        (b"", "upgrade", "", "refused NotFormatted\n", 4),
+        (NEW, "upgrade", "append 1 1 -\n", "refused Version found 2\n", 4),
         (b"", "workload 1 1", "", "refused NotFormatted\n", 4),
         (NEW, "recover", "append 1 1 -\n", summary(1, 0, 0, 0, 0, 0), 0),
         (NEW, "scrub", "scrub\n", "tour 0 0\n", 0),

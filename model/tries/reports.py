@@ -1,4 +1,4 @@
-"""The words `recover`, `inspect` and `scrub`, as docs/SCRIPT.md has them: what they print, and what they do to the file."""
+"""The words `recover`, `inspect`, `scrub` and `upgrade`, as docs/SCRIPT.md has them: what they print, and what they do to the file."""
 
 from typing import Optional
 
@@ -46,10 +46,10 @@ def told(lines: list) -> list:
     return [answer(line) for line in lines]
 
 
-def opened(data: Optional[bytes]) -> tuple:
-    """The file's bytes, what an open finds in it, and the outcome where it refuses."""
+def opened(data: Optional[bytes], version: int = 2) -> tuple:
+    """The file's bytes, what an open finds in it that asks for this version, and the outcome where it refuses."""
     data = data or b""
-    found = recovery.found(data)
+    found = recovery.found(data, version=version)
     outcome = script.refused(data, found.refusal, [] if found.early else [SYNC]) if found.refusal else None
     return data, found, outcome
 
@@ -61,6 +61,16 @@ def recover(data: Optional[bytes]) -> Outcome:
         return refused
     machine = Machine(found, Image(data))
     return Outcome(data, DONE, [*opens(found, machine), *told(summary(found.view))], [(found.view, 0, 0)], machine)
+
+
+def upgrade(data: Optional[bytes]) -> Outcome:
+    """Makes a file of version 1 one of version 2: a mending, and a superblock of boot 1; and prints its sequence."""
+    data, found, refused = opened(data, 1)
+    if refused:
+        return refused
+    machine = Machine(found, Image(data))
+    sequence = found.view.checkpoint.sequence
+    return Outcome(data, DONE, [*opens(found, machine), *told([f"upgraded {sequence}"])], [(found.view, 0, 0)], machine)
 
 
 def inspect(data: Optional[bytes]) -> Outcome:

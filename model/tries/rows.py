@@ -39,6 +39,13 @@ def twice(text: str) -> bytes:
     return script.run(struck(NEW, text), b"").data
 
 
+def another() -> bytes:
+    """A file whose second prepare, which an open named, is another one with its header."""
+    file = twice(ops(2))
+    header = forged(file, "", SECOND_OP, form.WAL_HEADERS, 2, boot=1)
+    return at_rest(forged(file, "", SECOND_OP, form.WAL_PREPARES, 2, boot=1), (4, form.sector(header, 4)))
+
+
 def again_lost() -> bytes:
     """A file whose second prepare was lost with its header and is there again, behind another one of its op and of a later boot."""
     first = struck(NEW, TWO)
@@ -199,6 +206,7 @@ ROWS = (
     (struck(twice(TWO), "", (4, A5), (10, A5)), "run", "reply 2 -\n", "refused Damaged WalPrepares 2 Garbled\n", 4),
     (struck(twice(ops(2)), "", (70, A5)), "run", "", "refused Damaged ClientReplies 0 Garbled\n", 4),
     (again_lost(), "run", "reply 2 -\n", "refused Damaged WalPrepares 2 Stale\n", 4),
+    (another(), "run", "", "refused Damaged WalPrepares 2 Stale\n", 4),
     # A body that isn't the one of its checksum, and a unit of another cluster.
     (spoiled(NEW, TWO.replace("2 1 -", "2 1 aa"), SECTOR * 10 + 256), "run", "", "refused Damaged WalPrepares 2 Garbled\n", 4),
     (forged(NEW, ops(2), {"kind": units.PREPARE, "op": 4, "slot": 4, "checkpoint": 1, **CLIENT}, form.WAL_PREPARES, 2,

@@ -13,10 +13,10 @@ USAGE = b"usage: format LAYOUT CLUSTER | run\n"
 if knows("reports"):
     USAGE = b"usage: format LAYOUT CLUSTER | run | recover | inspect\n"
 if knows("all"):
-    USAGE = b"usage: format LAYOUT CLUSTER | run | recover | inspect | scrub | workload SEED COUNT | paced SCRUB EVERY STEPS\n"
+    USAGE = b"usage: format LAYOUT CLUSTER | run | recover | inspect | scrub | workload SEED COUNT | upgrade | paced SCRUB EVERY STEPS\n"
 NUMBER = re.compile(r"0|[1-9][0-9]*", re.ASCII)
 # The words that stand alone; and the greatest number of commands of a workload.
-ALONE = ("run", *(("recover", "inspect") if knows("reports") else ()), *(("scrub",) if knows("all") else ()))
+ALONE = ("run", *(("recover", "inspect") if knows("reports") else ()), *(("scrub", "upgrade") if knows("all") else ()))
 COUNT = 1_000_000
 # The greatest number of a pace.
 PIECES = 64

@@ -1,4 +1,4 @@
--- The lines that say why a file can't be made or opened, that one was made, and which line of a script is none.
+-- The lines that say why a file can't be made or opened, that one was made or upgraded, and which line of a script is none.
 use Rattle.std.specs.Prelude.{ℕ, List, [], ◌∷◌, ◌++◌, codes, decimal}
 use Rattle.df_layout.specs.declared.damage.Class.{Class}
 use Rattle.df_layout.specs.declared.fields.Field.{Field}
@@ -66,6 +66,10 @@ format_refusal formats.DiskFault = []
 -- a file of so many sectors was made
 abbrev pub formatted_text : ℕ → List ℕ
 formatted_text sectors = line_of (numbered (codes "formatted") sectors)
+
+-- a file with this sequence is of version 2 now
+abbrev pub upgraded_text : ℕ → List ℕ
+upgraded_text sequence = line_of (numbered (codes "upgraded") sequence)
 
 -- line n of a script, counted from 1, is none, or is too long, or is past the budget
 abbrev pub script_text : ℕ → List ℕ

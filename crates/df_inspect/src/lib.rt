@@ -20,4 +20,6 @@ pub use inspection::print_inspection;
 pub use line::{LINE, Line, number_line, put, put_number, text_line, write_line};
 pub use messages::{print_body, print_prepare, print_reply};
 pub use names::put_place;
-pub use opening::{print_format_refusal, print_formatted, print_open_refusal, print_script};
+pub use opening::{
+    print_format_refusal, print_formatted, print_open_refusal, print_script, print_upgraded,
+};

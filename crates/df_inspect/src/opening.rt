@@ -1,9 +1,9 @@
-// The lines that say that a file was made, why one isn't made or opened, and which line of a script is none. A failing disk has no line.
+// The lines that say that a file was made or upgraded, why one isn't made or opened, and which line of a script is none. A failing disk has no line.
 ghost use Rattle.std.specs.Prelude.{◌≡◌, ◌≤◌, ◌+◌, ◌++◌, length, decimal};
 ghost use Rattle.df_base.specs.Causes.{HasCause};
 ghost use Rattle.df_model.specs.declared.errors.OpenError.TheVariants as opens;
 ghost use Rattle.df_script_model.specs.Texts.{spaced};
-ghost use Rattle.df_inspect.specs.Opening.{format_refusal, formatted_text, layout_text, open_refusal, script_text};
+ghost use Rattle.df_inspect.specs.Opening.{format_refusal, formatted_text, layout_text, open_refusal, script_text, upgraded_text};
 ghost use Rattle.df_inspect.specs.Prints.{Prints};
 
 use crate::line::{Line, number_line, put, put_number, put_numbered, text_line, write_line};
@@ -19,6 +19,14 @@ pub fn print_formatted<W: Sink>(sink: &mut W, sectors: u64) -> Result<(), Failed
     ensures cause { HasCause (W.faults sink.old) (W.faults sink.new) result }
 {
     write_line(sink, &number_line("formatted", u128::from(sectors)))
+}
+
+/// `upgraded SEQUENCE`: the sequence of the file that is of version 2 now.
+pub fn print_upgraded<W: Sink>(sink: &mut W, sequence: u64) -> Result<(), Failed>
+    ensures prints { Prints (upgraded_text sequence) (W.written sink.old) (W.written sink.new) result }
+    ensures cause { HasCause (W.faults sink.old) (W.faults sink.new) result }
+{
+    write_line(sink, &number_line("upgraded", u128::from(sequence)))
 }
 
 /// `script LINE`: the line of a script, counted from 1, that is none, is too long, or is past the budget.

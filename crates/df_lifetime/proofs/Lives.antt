@@ -47,7 +47,7 @@ use Rattle.df_top.specs.Opening.{RefusesFile, StopsBefore}
 use Rattle.df_top.specs.Outside.{Outside}
 use Rattle.df_top.specs.Run.{ComesTo, Does, Works}
 use Rattle.df_top.specs.declared.mode.Mode.{Mode}
-use Rattle.df_top.specs.declared.mode.Mode.TheVariants.{Format, Run, Recover, Inspect, Scrub, Workload, Paced}
+use Rattle.df_top.specs.declared.mode.Mode.TheVariants.{Format, Run, Recover, Inspect, Scrub, Workload, Upgrade, Paced}
 use Rattle.df_top.specs.declared.status.Status.{Status}
 use Rattle.df_top.specs.declared.status.Status.TheVariants.{Done, Found, Words, Script, Refused, DiskFault, ReadFault, WriteFault, Memory}
 use Rattle.df_lifetime.specs.Life.{Chapter, EveryLifeGoesOn, EveryLifeIsInOrder, FormatWord, HaveAnswers, IsInOrder, MayHave, Outcome, ToAMoment, ToItsEnd, Word, calls_in, calls_made, calls_of, calls_to, chapter_of, chapters_of, outcome_of, sessions_in, word_calls}
@@ -331,6 +331,7 @@ module _ (file : DataFile) (chapters : List Chapter) (t : Told) (is : IsInOrder 
 
     works_come : (mode : Mode) (found : FoundFile layout t) (works : Works mode layout t found old new status) → Comes file chapters (word_calls mode layout t found old new status works) t n
     works_come (Format shape cluster) found works = absurd works
+    works_come Upgrade found works = absurd works
     works_come Run found serves = calls_come found.replica (script_calls serves.session) found.mending (found_one found) (found_unspent found) serves.adds serves.calls.keeps serves.calls.acknowledged
     works_come (Paced pace) found serves = calls_come found.replica (script_calls serves.session) found.mending (found_one found) (found_unspent found) serves.adds serves.calls.keeps serves.calls.acknowledged
     works_come Recover found recovers = idles found recovers.told recovers.calls
@@ -341,6 +342,7 @@ module _ (file : DataFile) (chapters : List Chapter) (t : Told) (is : IsInOrder 
     -- the disk failed before that
     before_comes : (mode : Mode) → StopsBefore mode layout t new.told → Comes file chapters None t n
     before_comes (Format shape cluster) stops = stops_comes layout new.told n to stops
+    before_comes Upgrade stops = stops_comes layout new.told n to stops
     before_comes Run stops = stops_comes layout new.told n to stops
     before_comes Recover stops = stops_comes layout new.told n to stops
     before_comes Inspect stops = part_comes new.told n to stops

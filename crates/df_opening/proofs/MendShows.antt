@@ -17,11 +17,9 @@ use Rattle.df_theory.specs.Units.{AnyUnit, BlockPlace, CopyPlace, CopyUnit, Plac
 use Rattle.df_units.specs.Bytes.{unit_at}
 use Rattle.df_units.specs.Meaning.{content_of}
 use Rattle.df_units.specs.Puts.{put_copies, put_copy}
-use Rattle.df_damage.specs.Below.{boot_fields}
+use Rattle.df_damage.specs.Below.{DataFile}
 use Rattle.df_opening.specs.Sparing.{SparesReads, image_after}
-use Rattle.df_opening.specs.Mending.{mending_steps, sector_put, sector_puts, sectors_of}
-use Rattle.df_opening.specs.Raising.{opening_events, opening_steps}
-use Rattle.df_opening.specs.Survey.{Survey}
+use Rattle.df_opening.specs.Mending.{mending_steps, raising_events, raising_steps, sector_put, sector_puts, sectors_of}
 use Rattle.df_opening.specs.Keeping.{format}
 use Rattle.df_opening.proofs.Fronts.{FrontSteps, all_front}
 use Rattle.df_opening.proofs.StepShows.{shown_by, spared_by, unit_after}
@@ -53,31 +51,34 @@ module _ (place : Place) where
       after_both (header_steps (sector_puts table ks)) (copy_steps (repaired f 0 members)) o
       ∙ ap (unit_after (copy_steps (repaired f 0 members)) place) (headers_aside table header ks o) ∙ copies_aside f copy members 0 o
 
-  -- the boot update puts copies alone
-  opening_aside : (s : Survey) → ((k : ℕ) → sector_put s.state.headers k place ≡ None) → ((n : ℕ) (f : SuperFields) → put_copy n f place ≡ None) → (o : Option AnyUnit) → unit_after (opening_steps s) place o ≡ o
-  opening_aside s header copy o =
-      let d = boot_fields s.state in
-      after_both (mending_steps s.state.file.layout s.state.headers s.mends s.state.fields s.chosen.members) (update_steps (put_copies d)) o
-      ∙ ap (unit_after (update_steps (put_copies d)) place) (mending_aside s.state.file.layout s.state.headers s.mends s.state.fields s.chosen.members header (λ n. copy n s.state.fields) o)
+  -- the update behind it puts copies alone
+  raising_aside : (layout : Layout) (table : List Header) (mends : List Mend) (f : SuperFields) (members : List Bool) (d : SuperFields) → ((k : ℕ) → sector_put table k place ≡ None) → ((n : ℕ) (g : SuperFields) → put_copy n g place ≡ None) → (o : Option AnyUnit)
+      → unit_after (raising_steps layout table mends f members d) place o ≡ o
+  raising_aside layout table mends f members d header copy o =
+      after_both (mending_steps layout table mends f members) (update_steps (put_copies d)) o
+      ∙ ap (unit_after (update_steps (put_copies d)) place) (mending_aside layout table mends f members header (λ n. copy n f) o)
       ∙ four d o
     where
-      four : (f : SuperFields) (o : Option AnyUnit) → unit_after (update_steps (put_copies f)) place o ≡ o
-      four f o =
-          ap (λ (p : Option AnyUnit). or_else (put_copy 3 f place) (or_else (put_copy 2 f place) (or_else (put_copy 1 f place) (or_else p o)))) (copy 0 f)
-          ∙ ap (λ (p : Option AnyUnit). or_else (put_copy 3 f place) (or_else (put_copy 2 f place) (or_else p o))) (copy 1 f)
-          ∙ ap (λ (p : Option AnyUnit). or_else (put_copy 3 f place) (or_else p o)) (copy 2 f)
-          ∙ ap (λ (p : Option AnyUnit). or_else p o) (copy 3 f)
+      four : (g : SuperFields) (p : Option AnyUnit) → unit_after (update_steps (put_copies g)) place p ≡ p
+      four g p =
+          ap (λ (q : Option AnyUnit). or_else (put_copy 3 g place) (or_else (put_copy 2 g place) (or_else (put_copy 1 g place) (or_else q p)))) (copy 0 g)
+          ∙ ap (λ (q : Option AnyUnit). or_else (put_copy 3 g place) (or_else (put_copy 2 g place) (or_else q p))) (copy 1 g)
+          ∙ ap (λ (q : Option AnyUnit). or_else (put_copy 3 g place) (or_else q p)) (copy 2 g)
+          ∙ ap (λ (q : Option AnyUnit). or_else q p) (copy 3 g)
 
--- each front of an open's device calls leaves them so
-pub front_spares : (s : Survey) (part : List Event) → FrontSteps (format s.state.file) part (opening_steps s) → (image : Image) → IsImage image → SparesReads s.state.file image (image_after part image)
-front_spares s part front image whole =
-    spared_by s.state.file part front.steps front.are
-    (λ k o. front.aside (PreparePlace k) o (opening_aside (PreparePlace k) s (λ n. refl) (λ n f. refl) None))
-    (λ k o. front.aside (ReplyPlace k) o (opening_aside (ReplyPlace k) s (λ n. refl) (λ n f. refl) None))
-    (λ k o. front.aside (BlockPlace k) o (opening_aside (BlockPlace k) s (λ n. refl) (λ n f. refl) None)) image whole
+module _ (file : DataFile) (table : List Header) (mends : List Mend) (f : SuperFields) (members : List Bool) (d : SuperFields) where
+  -- each front of these device calls leaves them so
+  pub front_spares : (part : List Event) → FrontSteps (format file) part (raising_steps file.layout table mends f members d) → (image : Image) → IsImage image → SparesReads file image (image_after part image)
+  front_spares part front image whole =
+      spared_by file part front.steps front.are
+      (λ k o. front.aside (PreparePlace k) o (raising_aside (PreparePlace k) file.layout table mends f members d (λ n. refl) (λ n g. refl) None))
+      (λ k o. front.aside (ReplyPlace k) o (raising_aside (ReplyPlace k) file.layout table mends f members d (λ n. refl) (λ n g. refl) None))
+      (λ k o. front.aside (BlockPlace k) o (raising_aside (BlockPlace k) file.layout table mends f members d (λ n. refl) (λ n g. refl) None)) image whole
 
-pub opening_spares : (s : Survey) → AreSteps (format s.state.file) (opening_events s) (opening_steps s) → (image : Image) → IsImage image → SparesReads s.state.file image (image_after (opening_events s) image)
-opening_spares s are = front_spares s (opening_events s) (all_front (format s.state.file) (opening_events s) (opening_steps s) are)
+  pub raising_spares : AreSteps (format file) (raising_events file.layout table mends f members d) (raising_steps file.layout table mends f members d)
+      → (image : Image) → IsImage image → SparesReads file image (image_after (raising_events file.layout table mends f members d) image)
+  raising_spares are =
+      front_spares (raising_events file.layout table mends f members d) (all_front (format file) (raising_events file.layout table mends f members d) (raising_steps file.layout table mends f members d) are)
 
 -- ---- the superblock
 
@@ -88,12 +89,11 @@ four_there f (suc (suc zero)) inside o = refl
 four_there f (suc (suc (suc zero))) inside o = refl
 four_there f (suc (suc (suc (suc n)))) inside o = absurd (omega (arith, inside))
 
--- each copy shows what an open wrote
-pub opening_copies : (s : Survey) → AreSteps (format s.state.file) (opening_events s) (opening_steps s) → (image : Image) → IsImage image → (n : ℕ) → n < 4
-    → unit_at s.state.file.layout s.state.file.cluster (image_after (opening_events s) image) (CopyPlace n) ≡ Some (CopyUnit (content_of (content_with (boot_fields s.state))))
-opening_copies s are image whole n inside =
-    let d = boot_fields s.state in
-    let first = mending_steps s.state.file.layout s.state.headers s.mends s.state.fields s.chosen.members in
-    let shown = unit_at s.state.file.layout s.state.file.cluster image (CopyPlace n) in
-    shown_by s.state.file.layout s.state.file.cluster (opening_events s) (opening_steps s) image are whole (CopyPlace n)
+-- each copy shows what was written
+pub raising_copies : (file : DataFile) (table : List Header) (mends : List Mend) (f : SuperFields) (members : List Bool) (d : SuperFields) → AreSteps (format file) (raising_events file.layout table mends f members d) (raising_steps file.layout table mends f members d)
+    → (image : Image) → IsImage image → (n : ℕ) → n < 4 → unit_at file.layout file.cluster (image_after (raising_events file.layout table mends f members d) image) (CopyPlace n) ≡ Some (CopyUnit (content_of (content_with d)))
+raising_copies file table mends f members d are image whole n inside =
+    let first = mending_steps file.layout table mends f members in
+    let shown = unit_at file.layout file.cluster image (CopyPlace n) in
+    shown_by file.layout file.cluster (raising_events file.layout table mends f members d) (raising_steps file.layout table mends f members d) image are whole (CopyPlace n)
     ∙ after_both (CopyPlace n) first (update_steps (put_copies d)) shown ∙ four_there d n inside (unit_after first (CopyPlace n) shown)

@@ -149,7 +149,7 @@ module _ (file : DataFile) (v : View) (table : List Header) (mends : List Mend) 
   image = unit_at file.layout file.cluster t.shown
 
   chosen : Quorum.IsChosen (content_at t.shown) (content_with f)
-  chosen = super_is_written_as 2 t.shown f whole plan.super
+  chosen = super_is_written_as file.version t.shown f whole plan.super
 
   is_chosen : Copies.IsChosen image (content_of (content_with f))
   is_chosen = choice_chosen file.layout file.cluster t.shown (content_with f) whole chosen
@@ -169,7 +169,7 @@ module _ (file : DataFile) (v : View) (table : List Header) (mends : List Mend) 
   }
 
   members_are : Quorum.AreMembers (content_at t.shown) (content_with f) members
-  members_are = subst (λ c. Quorum.AreMembers (content_at t.shown) c members) (written_as 2 t.shown f whole plan.super) plan.members_are
+  members_are = subst (λ c. Quorum.AreMembers (content_at t.shown) c members) (written_as file.version t.shown f whole plan.super) plan.members_are
 
   -- a copy that shows the content
   copy_shown : (n : ℕ) → content_at t.shown n ≡ Some (content_with f) → image (CopyPlace n) ≡ Some (CopyUnit v.checkpoint.content)

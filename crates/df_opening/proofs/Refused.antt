@@ -20,7 +20,7 @@ use Rattle.df_superblock.specs.declared.updates.UpdateError.TheVariants as updat
 use Rattle.df_damage.proofs.Laws.{added_is_told}
 use Rattle.df_opening.specs.Mending.{AddsRaising, IsReadBack, IsUnharmed}
 use Rattle.df_opening.specs.Opened.{refusal_of}
-use Rattle.df_opening.specs.Surveying.{TellsSurvey}
+use Rattle.df_damage.specs.Surveying.{TellsSurveyAs}
 
 -- events, and a mending that adds others behind them
 pub raising_then : {T : Type 0} (es fs : List Event) (old mid new : Option Told) (result : Result T MendError) → mid ≡ after_all es old → AddsRaising fs mid new result → AddsRaising (es ++ fs) old new result
@@ -75,11 +75,11 @@ adds_none (e ∷ es) = adds_none es
 unharmed_none : (T : Type 0) (t : Told) (events : List Event) (new : Option Told) (place : Place) (kind : Class) → new ≡ after_all events (Some t) → IsUnharmed {T = T} new (Err (Damaged place kind)) → ⊥
 unharmed_none T t events new place kind adds unharmed = subst (λ (o : Option Told). IsUnharmed {T = T} o (Err (Damaged place kind))) (adds ∙ added_is_told events t) unharmed
 
-pub refused_tells : (T : Type 0) (layout : Layout) (old synced new : Option Told) (events : List Event) (error : MendError) → synced ≡ after Sync old → AddsRaising {T = T} events synced new (Err error) → IsUnharmed {T = T} new (Err error)
-    → TellsSurvey layout old (Err (refusal_of error))
-refused_tells T layout None synced new events error barrier adds unharmed = tt
-refused_tells T layout (Some t) synced new events DiskFault barrier adds unharmed = λ whole. tt
-refused_tells T layout (Some t) synced new events (Damaged place kind) barrier adds unharmed = λ whole. absurd (unharmed_none T (did Sync t) events new place kind (adds ∙ ap (after_all events) barrier) unharmed)
+pub refused_tells : (T : Type 0) (version : ℕ) (layout : Layout) (old synced new : Option Told) (events : List Event) (error : MendError) → synced ≡ after Sync old → AddsRaising {T = T} events synced new (Err error) → IsUnharmed {T = T} new (Err error)
+    → TellsSurveyAs version layout old (Err (refusal_of error))
+refused_tells T version layout None synced new events error barrier adds unharmed = tt
+refused_tells T version layout (Some t) synced new events DiskFault barrier adds unharmed = λ whole. tt
+refused_tells T version layout (Some t) synced new events (Damaged place kind) barrier adds unharmed = λ whole. absurd (unharmed_none T (did Sync t) events new place kind (adds ∙ ap (after_all events) barrier) unharmed)
 
 pub no_refusal : (T : Type 0) (old synced new : Option Told) (events : List Event) (error : MendError) → synced ≡ after Sync old → AddsRaising {T = T} events synced new (Err error) → IsUnharmed {T = T} new (Err error)
     → (refusal_of error ≡ opens.DiskFault → ⊥) → new ≡ after Sync old

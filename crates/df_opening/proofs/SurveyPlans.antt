@@ -10,8 +10,9 @@ use Rattle.df_journal.specs.Scan.{Scan}
 use Rattle.df_journal.specs.Shows.{TellsRings}
 use Rattle.df_journal.specs.declared.table.Start.{Start}
 use Rattle.df_journal.proofs.Laws.{rings_shown}
+use Rattle.df_damage.specs.Opening.{fault_as}
 use Rattle.df_damage.proofs.Laws.{head_found}
-use Rattle.df_damage.specs.Found.{IsFound}
+use Rattle.df_damage.specs.Found.{IsFoundAs}
 use Rattle.df_damage.specs.Surveying as recovered
 use Rattle.df_damage.specs.Surveying.{IsPlannedFor, IsReadOf, TellsSurveyAs, state_found}
 use Rattle.df_damage.specs.Types.{Surveyed}
@@ -23,28 +24,29 @@ use Rattle.df_opening.specs.Surveying.{TellsMends, survey_found}
 abbrev pub IsPlannedOn : Survey → Told → Type 0
 IsPlannedOn s t = IsPlanned s.state.file s.state.headers s.mends s.state.fields s.chosen.members t
 
-module _ (y : Surveyed) (layout : Layout) (plan : IsPlannedFor y) where
-  shown_planned : (t : Told) → IsReadOf 2 layout (Some t) y.scanned → TellsSurveyAs 2 layout (Some t) (Ok (state_found y)) → IsPlannedOn (survey_found y) (did Sync t)
+module _ (version : ℕ) (y : Surveyed) (layout : Layout) (plan : IsPlannedFor y) where
+  shown_planned : (t : Told) → IsReadOf version layout (Some t) y.scanned → TellsSurveyAs version layout (Some t) (Ok (state_found y)) → IsPlannedOn (survey_found y) (did Sync t)
   shown_planned t read answer =
       let scan : Scan = y.scanned.log.slots in
-      let found : IsFound t.shown y.scanned.copies.found = read.found in
+      let found : IsFoundAs version t.shown y.scanned.copies.found = read.found in
       let own : scan.start.cluster ≡ y.scanned.file.cluster = ap (λ (x : Start). x.cluster) read.start ∙ sym read.file.cluster_is in
+      let asked : version ≡ y.scanned.file.version = sym (read.file.version_is ∙ read.copies.version_is) in
       let tells : TellsRings layout (unit_at layout scan.start.cluster t.shown) scan = rings_shown layout t scan read.rings_are in
       record {
         scan = scan;
         copies = y.scanned.copies.slots;
-        super = record { content = found.choice.content; chosen = found.choice.is; fields = sym found.choice.fields ∙ sym found.content; usable = found.super.usable };
+        super = record { content = found.choice.content; chosen = found.choice.is; fields = sym found.choice.fields ∙ sym found.content; usable = subst (λ (n : ℕ). fault_as n y.scanned.copies.found.content ≡ None) asked found.super.usable };
         members_are = found.choice.members;
         start = read.start;
         scanned =
             subst (λ (c : ℕ). TellsRings y.scanned.file.layout (unit_at y.scanned.file.layout c t.shown) scan) own
             (subst (λ (l : Layout). TellsRings l (unit_at l scan.start.cluster t.shown) scan) (sym read.file.layout_is) tells);
         top = y.traces.tail.op;
-        top_is = λ whole v is_found. head_found 2 layout t.shown (state_found y) (answer whole) v is_found;
+        top_is = λ whole v is_found. head_found version layout t.shown (state_found y) (answer whole) v is_found;
         planned = plan;
       }
 
-  pub survey_planned : (old new : Option Told) (t : Told) → new ≡ Some t → new ≡ after Sync old → IsReadOf 2 layout old y.scanned → TellsSurveyAs 2 layout old (Ok (state_found y)) → IsPlannedOn (survey_found y) t
+  pub survey_planned : (old new : Option Told) (t : Told) → new ≡ Some t → new ≡ after Sync old → IsReadOf version layout old y.scanned → TellsSurveyAs version layout old (Ok (state_found y)) → IsPlannedOn (survey_found y) t
   survey_planned None new t told barrier read answer = let no : Some t ≡ None = sym told ∙ barrier in absurd (cc)
   survey_planned (Some u) new t told barrier read answer =
       let same : did Sync u ≡ t = same_Some _ _ (sym barrier ∙ told) in

@@ -118,7 +118,7 @@ pub record IsMended (g : Grade) (file : DataFile) (view : View) (table : List He
 pub record IsPlanned (file : DataFile) (table : List Header) (mends : List Mend) (f : SuperFields) (members : List Bool) (t : Told) : Type 0 where
   pub scan : Scan
   pub copies : List Slot
-  pub super : HasSuperAs 2 t.shown f
+  pub super : HasSuperAs file.version t.shown f
   pub members_are : AreMembers (content_at t.shown) super.content members
   pub start : scan.start ≡ start_of f
   pub scanned : TellsRings file.layout (unit_at file.layout file.cluster t.shown) scan

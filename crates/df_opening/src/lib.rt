@@ -21,5 +21,6 @@ pub use df_quorum::Chosen;
 pub use following::what_is_left_may_be_opened;
 pub use making::format;
 pub use mended::mend_file;
-pub use opened::open_file;
+pub use mending::write_mends;
+pub use opened::{open_file, refusal_of};
 pub use surveying::{SurveyedFile, survey_file};

@@ -141,7 +141,7 @@ fn mend_both<D: Disk>(
 /// there was such a sector; then the copies that aren't members of the choice, in order, each durable before the next one
 /// is written. No member is written, and no other place. After an error what was being written may hold anything once the
 /// machine stops.
-pub(crate) fn write_mends<D: Disk>(
+pub fn write_mends<D: Disk>(
     disk: &mut D,
     file: &DataFile,
     headers: &HeaderTable,

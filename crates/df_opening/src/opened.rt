@@ -8,8 +8,8 @@ ghost use Rattle.df_damage.specs.Below.{AreWhole};
 use crate::{MendError, OpenError, Parts, Rooms, mend_file, survey_file};
 use df_disk::Disk;
 
-// What an open answers where the mending or the boot update failed.
-fn refusal_of(error: MendError) -> OpenError
+/// What an open answers where the mending or the boot update failed.
+pub fn refusal_of(error: MendError) -> OpenError
     ensures { result ≡ refusal_of error }
 {
     match error {

@@ -25,7 +25,7 @@ const WORDS: [&[&str]; 17] = [
 ];
 
 const USAGE: &str =
-    "usage: format LAYOUT CLUSTER | run | recover | inspect | scrub | workload SEED COUNT | paced SCRUB EVERY STEPS\n";
+    "usage: format LAYOUT CLUSTER | run | recover | inspect | scrub | workload SEED COUNT | upgrade | paced SCRUB EVERY STEPS\n";
 
 #[test]
 fn other_words_print_the_usage_line(rt: HostRuntime) -> Result<(), Fail> {

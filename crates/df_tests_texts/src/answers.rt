@@ -2,7 +2,7 @@
 use crate::printed::{Row, expect, expect_rows, failing_sink, header, new_sink};
 use df_base::{Failed, Sink};
 use df_format::Kind;
-use df_inspect::{print_formatted, print_prepare, print_reply, print_script};
+use df_inspect::{print_formatted, print_prepare, print_reply, print_script, print_upgraded};
 use df_layout::{Class, Place, Zone};
 use df_model::{Answer, AppendError, Command, LookupError, PrepareError, Receipt, ReplyError};
 use std::alloc::{AllocError, Global};
@@ -116,17 +116,18 @@ fn an_answer_is_a_word_and_a_number_and_a_refusal_says_why(rt: HostRuntime) {
 }
 
 #[test]
-fn a_file_that_is_made_and_a_bad_line_have_their_numbers(rt: HostRuntime) {
+fn a_file_that_is_made_or_upgraded_and_a_bad_line_have_their_numbers(rt: HostRuntime) {
     let mut sink = new_sink(rt.alloc());
     for sectors in &[336, 2_375_808] {
         assert!(rt; print_formatted(&mut sink, *sectors) == Ok(()));
     }
+    assert!(rt; print_upgraded(&mut sink, 9) == Ok(()));
     let done = print_script(&mut sink, 2);
     expect(
         &rt,
         done,
         &sink,
-        "formatted 336\nformatted 2375808\nscript 2\n",
+        "formatted 336\nformatted 2375808\nupgraded 9\nscript 2\n",
     );
 }
 

@@ -49,6 +49,7 @@ fn words_of_a_file_stand_alone(rt: HostRuntime) -> Result<(), AllocError> {
         ("recover", Mode::Recover),
         ("inspect", Mode::Inspect),
         ("scrub", Mode::Scrub),
+        ("upgrade", Mode::Upgrade),
     ] {
         let words = words_of(rt.alloc(), &[text])?;
         assert_eq!(rt; mode_of(&words), Some(mode), "{text}");
@@ -65,6 +66,8 @@ fn words_of_a_file_stand_alone(rt: HostRuntime) -> Result<(), AllocError> {
         &["recover", "7"],
         &["inspect "],
         &["-inspect"],
+        &["upgrade", "7"],
+        &["upgraded"],
         &["format"],
         &["format", "small"],
         &["format", "small", "7", ""],

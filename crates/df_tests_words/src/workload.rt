@@ -50,7 +50,7 @@ const ROWS: [Row; 5] = [
 ];
 
 const USAGE: &str =
-    "usage: format LAYOUT CLUSTER | run | recover | inspect | scrub | workload SEED COUNT | paced SCRUB EVERY STEPS\n";
+    "usage: format LAYOUT CLUSTER | run | recover | inspect | scrub | workload SEED COUNT | upgrade | paced SCRUB EVERY STEPS\n";
 
 #[test]
 fn generated_runs_print_their_counts(rt: HostRuntime) -> Result<(), Fail> {

@@ -27,7 +27,7 @@ use Rattle.df_top.specs.Outside.{Outside}
 use Rattle.df_top.specs.Run.{ComesTo, Does, RefusesSuperblock, Runs, ServesIn, ServesOwn, Works}
 use Rattle.df_session.specs.Links.{AreCalls, Calls, EndsCalls}
 use Rattle.df_top.specs.declared.mode.Mode.{Mode}
-use Rattle.df_top.specs.declared.mode.Mode.TheVariants.{Format, Run, Recover, Inspect, Scrub, Workload, Paced}
+use Rattle.df_top.specs.declared.mode.Mode.TheVariants.{Format, Run, Recover, Inspect, Scrub, Workload, Upgrade, Paced}
 use Rattle.df_top.specs.declared.status.Status.{Status}
 
 -- ---- reads
@@ -92,6 +92,7 @@ module _ (file : DataFile) (view : View) (t : Told) (may : MayBeHurt file view t
     word_reads : (mode : Mode) (found : FoundFile file.layout t) (works : Works mode file.layout t found old new status) (finds : FindsHad file view t found.found)
         → WordReadsOwn mode file.layout t found old new status works (begun_work file t.shown finds.found)
     word_reads (Format layout cluster) found works finds = absurd works
+    word_reads Upgrade found works finds = absurd works
     word_reads Run found serves finds =
         let c = script_calls serves.session in
         reads_own found finds serves.calls.stands c.to c.new c.acts c.answers c.failed c.calls

@@ -25,5 +25,6 @@ mod Within
 mod WorksOn
 mod Made
 mod SafelyServed
+mod Upgrades
 mod BlankFormatted
 pub mod Laws

@@ -9,7 +9,7 @@ use Rattle.df_layout.proofs.Laws.{same_layout}
 use Rattle.df_lines.proofs.Laws.{one_number}
 use Rattle.df_pace.specs.declared.pace.Pace.{Pace}
 use Rattle.df_top.specs.declared.mode.Mode.{Mode}
-use Rattle.df_top.specs.declared.mode.Mode.TheVariants.{Format, Run, Recover, Inspect, Scrub, Workload, Paced}
+use Rattle.df_top.specs.declared.mode.Mode.TheVariants.{Format, Run, Recover, Inspect, Scrub, Workload, Upgrade, Paced}
 use Rattle.df_top.specs.Mode.{HasNumbers, numbers_of, NamesLayout, Means, OneMeaning, SpellsFormat, SpellsWorkload}
 use Rattle.df_top.proofs.Commas.{fit, from_message_size, from_clients, from_block_size, from_blocks, Five, one_five}
 
@@ -143,6 +143,21 @@ one_mode words (Workload s n) Inspect one other = absurd (one_is_not_three (code
 one_mode words (Format l c) Inspect one other = absurd (one_is_not_three (codes "inspect") (codes "format") one.name (decimal c) words other one.is)
 one_mode words (Workload s n) Scrub one other = absurd (one_is_not_three (codes "scrub") (codes "workload") (decimal s) (decimal n) words other one.is)
 one_mode words (Format l c) Scrub one other = absurd (one_is_not_three (codes "scrub") (codes "format") one.name (decimal c) words other one.is)
+one_mode words Run Upgrade one other = let same : 117 ≡ 112 = one_second (codes "run") (codes "upgrade") words one other in absurd (omega (arith, same))
+one_mode words Upgrade Run one other = let same : 112 ≡ 117 = one_second (codes "upgrade") (codes "run") words one other in absurd (omega (arith, same))
+one_mode words Recover Upgrade one other = let same : 101 ≡ 112 = one_second (codes "recover") (codes "upgrade") words one other in absurd (omega (arith, same))
+one_mode words Upgrade Recover one other = let same : 112 ≡ 101 = one_second (codes "upgrade") (codes "recover") words one other in absurd (omega (arith, same))
+one_mode words Inspect Upgrade one other = let same : 110 ≡ 112 = one_second (codes "inspect") (codes "upgrade") words one other in absurd (omega (arith, same))
+one_mode words Upgrade Inspect one other = let same : 112 ≡ 110 = one_second (codes "upgrade") (codes "inspect") words one other in absurd (omega (arith, same))
+one_mode words Scrub Upgrade one other = let same : 99 ≡ 112 = one_second (codes "scrub") (codes "upgrade") words one other in absurd (omega (arith, same))
+one_mode words Upgrade Scrub one other = let same : 112 ≡ 99 = one_second (codes "upgrade") (codes "scrub") words one other in absurd (omega (arith, same))
+one_mode words Upgrade Upgrade one other = refl
+one_mode words Upgrade (Workload s n) one other = absurd (one_is_not_three (codes "upgrade") (codes "workload") (decimal s) (decimal n) words one other.is)
+one_mode words (Workload s n) Upgrade one other = absurd (one_is_not_three (codes "upgrade") (codes "workload") (decimal s) (decimal n) words other one.is)
+one_mode words Upgrade (Format m d) one other = absurd (one_is_not_three (codes "upgrade") (codes "format") other.name (decimal d) words one other.is)
+one_mode words (Format l c) Upgrade one other = absurd (one_is_not_three (codes "upgrade") (codes "format") one.name (decimal c) words other one.is)
+one_mode words Upgrade (Paced p) one other = absurd (one_is_not_four (codes "upgrade") (codes "paced") (decimal p.scrub) (decimal p.every) (decimal p.steps) words one other.is)
+one_mode words (Paced p) Upgrade one other = absurd (one_is_not_four (codes "upgrade") (codes "paced") (decimal p.scrub) (decimal p.every) (decimal p.steps) words other one.is)
 one_mode words Run (Paced p) one other = absurd (one_is_not_four (codes "run") (codes "paced") (decimal p.scrub) (decimal p.every) (decimal p.steps) words one other.is)
 one_mode words (Paced p) Run one other = absurd (one_is_not_four (codes "run") (codes "paced") (decimal p.scrub) (decimal p.every) (decimal p.steps) words other one.is)
 one_mode words Recover (Paced p) one other = absurd (one_is_not_four (codes "recover") (codes "paced") (decimal p.scrub) (decimal p.every) (decimal p.steps) words one other.is)
@@ -178,6 +193,7 @@ of_three word one two no_workload no_format Run says = one_is_not_three (codes "
 of_three word one two no_workload no_format Recover says = one_is_not_three (codes "recover") word one two (word ∷ one ∷ two ∷ []) says refl
 of_three word one two no_workload no_format Inspect says = one_is_not_three (codes "inspect") word one two (word ∷ one ∷ two ∷ []) says refl
 of_three word one two no_workload no_format Scrub says = one_is_not_three (codes "scrub") word one two (word ∷ one ∷ two ∷ []) says refl
+of_three word one two no_workload no_format Upgrade says = one_is_not_three (codes "upgrade") word one two (word ∷ one ∷ two ∷ []) says refl
 of_three word one two no_workload no_format (Paced p) says = three_is_not_four word one two (codes "paced") (decimal p.scrub) (decimal p.every) (decimal p.steps) (word ∷ one ∷ two ∷ []) refl says.is
 of_three word one two no_workload no_format (Workload s n) says = no_workload s n says
 of_three word one two no_workload no_format (Format l c) says = no_format l c says
@@ -210,6 +226,7 @@ no_pace word one two three no_paced Run says = one_is_not_four (codes "run") wor
 no_pace word one two three no_paced Recover says = one_is_not_four (codes "recover") word one two three (word ∷ one ∷ two ∷ three ∷ []) says refl
 no_pace word one two three no_paced Inspect says = one_is_not_four (codes "inspect") word one two three (word ∷ one ∷ two ∷ three ∷ []) says refl
 no_pace word one two three no_paced Scrub says = one_is_not_four (codes "scrub") word one two three (word ∷ one ∷ two ∷ three ∷ []) says refl
+no_pace word one two three no_paced Upgrade says = one_is_not_four (codes "upgrade") word one two three (word ∷ one ∷ two ∷ three ∷ []) says refl
 no_pace word one two three no_paced (Workload s n) says = three_is_not_four (codes "workload") (decimal s) (decimal n) word one two three (word ∷ one ∷ two ∷ three ∷ []) says.is refl
 no_pace word one two three no_paced (Format l c) says = three_is_not_four (codes "format") says.name (decimal c) word one two three (word ∷ one ∷ two ∷ three ∷ []) says.is refl
 no_pace word one two three no_paced (Paced p) says = let same : word ≡ codes "paced" = cc says.is in no_paced same
@@ -220,6 +237,7 @@ only_paced scrub every steps none Run says = one_is_not_four (codes "run") (code
 only_paced scrub every steps none Recover says = one_is_not_four (codes "recover") (codes "paced") scrub every steps (codes "paced" ∷ scrub ∷ every ∷ steps ∷ []) says refl
 only_paced scrub every steps none Inspect says = one_is_not_four (codes "inspect") (codes "paced") scrub every steps (codes "paced" ∷ scrub ∷ every ∷ steps ∷ []) says refl
 only_paced scrub every steps none Scrub says = one_is_not_four (codes "scrub") (codes "paced") scrub every steps (codes "paced" ∷ scrub ∷ every ∷ steps ∷ []) says refl
+only_paced scrub every steps none Upgrade says = one_is_not_four (codes "upgrade") (codes "paced") scrub every steps (codes "paced" ∷ scrub ∷ every ∷ steps ∷ []) says refl
 only_paced scrub every steps none (Workload s n) says = three_is_not_four (codes "workload") (decimal s) (decimal n) (codes "paced") scrub every steps (codes "paced" ∷ scrub ∷ every ∷ steps ∷ []) says.is refl
 only_paced scrub every steps none (Format l c) says = three_is_not_four (codes "format") says.name (decimal c) (codes "paced") scrub every steps (codes "paced" ∷ scrub ∷ every ∷ steps ∷ []) says.is refl
 only_paced scrub every steps none (Paced p) says =

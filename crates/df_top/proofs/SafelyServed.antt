@@ -27,7 +27,7 @@ use Rattle.df_top.specs.Session.{EndsWith}
 use Rattle.df_workload.specs.declared.state.State.{State as Generated}
 use Rattle.df_top.specs.Works.{Writes}
 use Rattle.df_top.specs.declared.mode.Mode.{Mode}
-use Rattle.df_top.specs.declared.mode.Mode.TheVariants.{Format, Run, Recover, Inspect, Scrub, Workload, Paced}
+use Rattle.df_top.specs.declared.mode.Mode.TheVariants.{Format, Run, Recover, Inspect, Scrub, Workload, Upgrade, Paced}
 use Rattle.df_top.specs.declared.status.Status.{Status}
 use Rattle.df_top.specs.declared.status.Status.TheVariants.{Done, Found, Script, Refused, DiskFault, ReadFault, WriteFault, Memory}
 
@@ -126,6 +126,7 @@ module _ (file : DataFile) (view : View) (t : Told) (old new : Outside) (before 
 
   carried : (mode : Mode) (found : FoundFile file.layout t) → Works mode file.layout t found old new status → IsCarriedOut mode file.layout old.left status
   carried (Format shape cluster) found works = works
+  carried Upgrade found works = works
   carried Run found serves = served idle found serves
   carried (Paced pace) found serves = served pace found serves
   carried Recover found recovers = elim recovers.prints [

@@ -14,6 +14,7 @@ use Rattle.df_session.specs.Begun.{begun_work}
 use Rattle.df_session.specs.Below.{State as Replica, IsOpened}
 use Rattle.df_session.specs.Opened.{MendsAll, StopsOpening, ToldBy}
 use Rattle.df_session.specs.Surveying.{TellsSurvey}
+use Rattle.df_upgrade.specs.Below.{TellsSurveyAs}
 use Rattle.df_pace.specs.Beats.{started}
 use Rattle.df_pace.specs.declared.pace.Pace.{Pace}
 use Rattle.df_session.specs.Found.{FoundFile}
@@ -21,7 +22,7 @@ use Rattle.df_session.specs.Links.{CallsMade}
 use Rattle.df_session.specs.Laws.{CallsKeep}
 use Rattle.df_session.proofs.Laws.{begun_here, calls_keep, ends_told}
 use Rattle.df_top.specs.Acknowledging.{script_calls}
-use Rattle.df_top.specs.Opening.{FailsToFind, RefusesFile, StopsBefore}
+use Rattle.df_top.specs.Opening.{FailsToFind, RefusesFileAs, StopsBefore}
 use Rattle.df_top.specs.Outside.{IsThrough, Outside}
 use Rattle.df_top.specs.Refusing.{PrintsError}
 use Rattle.df_top.specs.Mode.{Executes}
@@ -143,11 +144,11 @@ module _ (pace : Pace) (layout : Layout) (t : Told) (old new : Outside) (status 
 
 -- ---- it isn't
 
-pub refuses : (layout : Layout) (t : Told) (old new : Outside) (status : Status) (e : OpenError) → (e ≡ opens.DiskFault → ⊥) → IsImage t.shown → old.told ≡ Some t → TellsSurvey layout old.told (Err e) → new.left ≡ old.left → new.told ≡ after Sync old.told
-    → PrintsError e old.written new.written status → RefusesFile layout t old new status
-refuses layout t old new status e other whole told answer unread barrier prints = record {
+pub refuses : (version : ℕ) (layout : Layout) (t : Told) (old new : Outside) (status : Status) (e : OpenError) → (e ≡ opens.DiskFault → ⊥) → IsImage t.shown → old.told ≡ Some t → TellsSurveyAs version layout old.told (Err e) → new.left ≡ old.left → new.told ≡ after Sync old.told
+    → PrintsError e old.written new.written status → RefusesFileAs version layout t old new status
+refuses version layout t old new status e other whole told answer unread barrier prints = record {
   error = e;
-  is = record { why = (subst (λ (o : Option Told). TellsSurvey layout o (Err e)) told answer) whole; other = other };
+  is = record { why = (subst (λ (o : Option Told). TellsSurveyAs version layout o (Err e)) told answer) whole; other = other };
   refusal = record { prints = prints.other other; unread = unread };
   barrier = barrier ∙ ap (after Sync) told;
 }
@@ -172,7 +173,7 @@ pub not_opened : (mode : Mode) (layout : Layout) (t : Told) (old new : Outside) 
 not_opened mode layout t old new status e whole told answer unread barrier stops prints =
     by_fault (λ x. ComesTo mode layout t old new status) e
     (λ is. inr (inl (fails mode layout t old new status e is (stops whole is) unread prints)))
-    (λ no. inl (refuses layout t old new status e no whole told answer unread (barrier no) prints))
+    (λ no. inl (refuses 2 layout t old new status e no whole told answer unread (barrier no) prints))
 
 -- ---- a word that executes a script
 

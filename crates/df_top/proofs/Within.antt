@@ -25,7 +25,7 @@ use Rattle.df_top.specs.Outside.{Outside}
 use Rattle.df_top.specs.Run.{ComesTo, Does, Runs, Works}
 use Rattle.df_top.specs.Within.{WritesOwn}
 use Rattle.df_top.specs.declared.mode.Mode.{Mode}
-use Rattle.df_top.specs.declared.mode.Mode.TheVariants.{Format, Run, Recover, Inspect, Scrub, Workload, Paced}
+use Rattle.df_top.specs.declared.mode.Mode.TheVariants.{Format, Run, Recover, Inspect, Scrub, Workload, Upgrade, Paced}
 use Rattle.df_top.specs.declared.status.Status.{Status}
 
 -- ---- calls
@@ -57,10 +57,10 @@ module _ (layout : Layout) (t : Told) where
   behind : (new : Option Told) → AddsWithin layout (Some (did Sync t)) new → AddsWithin layout (Some t) new
   behind new more = record { events = Sync ∷ more.events; told = more.told; within = (tt, more.within) }
 
-  barrier_within : (new : Option Told) → new ≡ Some (did Sync t) → AddsWithin layout (Some t) new
+  pub barrier_within : (new : Option Told) → new ≡ Some (did Sync t) → AddsWithin layout (Some t) new
   barrier_within new synced = behind new (none_within layout (Some (did Sync t)) new synced)
 
-  mends_within : (file : DataFile) (new : Option Told) → file.layout ≡ layout → Mends file (Some (did Sync t)) new → AddsWithin layout (Some t) new
+  pub mends_within : (file : DataFile) (new : Option Told) → file.layout ≡ layout → Mends file (Some (did Sync t)) new → AddsWithin layout (Some t) new
   mends_within file new of mends = behind new (record { events = mends.events; told = mends.told; within = subst (λ (l : Layout). AreWithin l mends.events) of mends.within })
 
   stops_within : (new : Option Told) → StopsOpening layout t new → AddsWithin layout (Some t) new
@@ -75,6 +75,7 @@ module _ (layout : Layout) (t : Told) where
   -- where the disk failed before the file was found
   before_within : (mode : Mode) (new : Option Told) → StopsBefore mode layout t new → AddsWithin layout (Some t) new
   before_within (Format shape cluster) new stops = stops_within new stops
+  before_within Upgrade new stops = stops_within new stops
   before_within Run new stops = stops_within new stops
   before_within Recover new stops = stops_within new stops
   before_within Inspect new stops = part_within layout (Sync ∷ []) (Some t) new (tt, tt) stops
@@ -94,6 +95,7 @@ module _ (layout : Layout) (t : Told) where
 module _ (layout : Layout) (t : Told) (old new : Outside) (status : Status) where
   works_within : (mode : Mode) (found : FoundFile layout t) → Works mode layout t found old new status → AddsWithin layout (Some t) new.told
   works_within (Format shape cluster) found works = absurd works
+  works_within Upgrade found works = absurd works
   works_within Run found serves =
       let c = script_calls serves.session in
       subst (λ (o : Outside). AddsWithin layout (Some t) o.told) serves.last_is (calls_within_found layout t found c.to c.new c.acts c.answers c.failed c.calls)

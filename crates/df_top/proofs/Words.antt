@@ -1,11 +1,11 @@
 -- What the words ask for, and which clauses of a run speak of them.
-use Rattle.std.proofs.Common.{◌≡◌, ℕ, List, Some, None, sym, subst}
-use Rattle.std.proofs.lemmas.Option.{none-some}
+use Rattle.std.proofs.Common.{◌≡◌, ℕ, List, refl, subst}
 use Rattle.df_layout.specs.declared.layout.Layout.{Layout}
-use Rattle.df_top.specs.Mode.{AsksOfFile, IsOfFile, IsRunnable, Means, new_file}
+use Rattle.df_top.specs.Mode.{AsksOfFile, IsOfFile, IsRunnable, Means, task_of}
 use Rattle.df_top.specs.declared.mode.Mode.{Mode}
-use Rattle.df_top.specs.declared.mode.Mode.TheVariants.{Format, Run, Recover, Inspect, Scrub, Workload, Paced}
+use Rattle.df_top.specs.declared.mode.Mode.TheVariants.{Format, Run, Recover, Inspect, Scrub, Workload, Upgrade, Paced}
 use Rattle.df_top.specs.declared.mode.NewFile.{NewFile}
+use Rattle.df_top.specs.declared.mode.Task.TheVariants as task
 use Rattle.df_top.proofs.Modes.{one_mode}
 
 -- words that ask for a file ask for one
@@ -19,6 +19,13 @@ same_cluster_asked words layout other cluster another one two = let same : Forma
 pub makes_alone : (words : List (List ℕ)) (layout : Layout) (cluster : ℕ) (mode : Mode) → Means words (Format layout cluster) → Means words mode → IsOfFile mode → ⊥
 makes_alone words layout cluster mode one other of = subst IsOfFile (one_mode words mode (Format layout cluster) other one) of
 
+-- so do those that ask for an upgrade: they ask for no making
+pub upgrades_alone : (words : List (List ℕ)) (mode : Mode) → Means words Upgrade → Means words mode → IsOfFile mode → ⊥
+upgrades_alone words mode one other of = subst IsOfFile (one_mode words mode Upgrade other one) of
+
+pub makes_none : (words : List (List ℕ)) (layout : Layout) (cluster : ℕ) → Means words (Format layout cluster) → Means words Upgrade → ⊥
+makes_none words layout cluster one other = let no : Format layout cluster ≡ Upgrade = one_mode words (Format layout cluster) Upgrade one other in cc
+
 -- ---- a word on a file
 
 -- words that ask for such a word ask for no other
@@ -28,6 +35,7 @@ of_file_asked words mode asks means = subst IsOfFile (one_mode words asks.mode m
 -- and it can be carried out
 pub runnable : (words : List (List ℕ)) (mode : Mode) → Means words mode → IsOfFile mode → IsRunnable mode
 runnable words (Format layout cluster) means of = of
+runnable words Upgrade means of = of
 runnable words Run means of = tt
 runnable words Recover means of = tt
 runnable words Inspect means of = tt
@@ -35,25 +43,38 @@ runnable words Scrub means of = tt
 runnable words (Paced pace) means of = tt
 runnable words (Workload seed count) means of = (means.some, means.million)
 
--- what makes no file works on one
-pub works_on_file : (mode : Mode) → new_file mode ≡ None → IsOfFile mode
-works_on_file (Format layout cluster) is = absurd (none-some (record { layout = layout; cluster = cluster }) (sym is))
-works_on_file Run is = tt
-works_on_file Recover is = tt
-works_on_file Inspect is = tt
-works_on_file Scrub is = tt
-works_on_file (Paced pace) is = tt
-works_on_file (Workload seed count) is = tt
+-- what is to be done is of the word: it opens or surveys a file
+pub opens_file : (mode : Mode) → task_of mode ≡ task.Open → IsOfFile mode
+opens_file (Format layout cluster) is = absurd (let no : task.Make (record { layout = layout; cluster = cluster }) ≡ task.Open = is in cc)
+opens_file Upgrade is = absurd (let no : task.Upgrade ≡ task.Open = is in cc)
+opens_file Run is = tt
+opens_file Recover is = tt
+opens_file Inspect is = tt
+opens_file Scrub is = tt
+opens_file (Paced pace) is = tt
+opens_file (Workload seed count) is = tt
+
+-- or it upgrades one
+pub upgrades_file : (mode : Mode) → task_of mode ≡ task.Upgrade → mode ≡ Upgrade
+upgrades_file (Format layout cluster) is = absurd (let no : task.Make (record { layout = layout; cluster = cluster }) ≡ task.Upgrade = is in cc)
+upgrades_file Upgrade is = refl
+upgrades_file Run is = absurd (let no : task.Open ≡ task.Upgrade = is in cc)
+upgrades_file Recover is = absurd (let no : task.Open ≡ task.Upgrade = is in cc)
+upgrades_file Inspect is = absurd (let no : task.Open ≡ task.Upgrade = is in cc)
+upgrades_file Scrub is = absurd (let no : task.Open ≡ task.Upgrade = is in cc)
+upgrades_file (Paced pace) is = absurd (let no : task.Open ≡ task.Upgrade = is in cc)
+upgrades_file (Workload seed count) is = absurd (let no : task.Open ≡ task.Upgrade = is in cc)
 
 -- and what makes one is `format`
-pub makes_file : (mode : Mode) (file : NewFile) → new_file mode ≡ Some file → mode ≡ Format file.layout file.cluster
+pub makes_file : (mode : Mode) (file : NewFile) → task_of mode ≡ task.Make file → mode ≡ Format file.layout file.cluster
 makes_file (Format layout cluster) file is =
     let made : NewFile = record { layout = layout; cluster = cluster } in
     let same : made ≡ file = cc is in
     λ i. Format (same i).layout (same i).cluster
-makes_file Run file is = absurd (none-some file is)
-makes_file Recover file is = absurd (none-some file is)
-makes_file Inspect file is = absurd (none-some file is)
-makes_file Scrub file is = absurd (none-some file is)
-makes_file (Paced pace) file is = absurd (none-some file is)
-makes_file (Workload seed count) file is = absurd (none-some file is)
+makes_file Upgrade file is = absurd (let no : task.Upgrade ≡ task.Make file = is in cc)
+makes_file Run file is = absurd (let no : task.Open ≡ task.Make file = is in cc)
+makes_file Recover file is = absurd (let no : task.Open ≡ task.Make file = is in cc)
+makes_file Inspect file is = absurd (let no : task.Open ≡ task.Make file = is in cc)
+makes_file Scrub file is = absurd (let no : task.Open ≡ task.Make file = is in cc)
+makes_file (Paced pace) file is = absurd (let no : task.Open ≡ task.Make file = is in cc)
+makes_file (Workload seed count) file is = absurd (let no : task.Open ≡ task.Make file = is in cc)

@@ -1,20 +1,24 @@
 -- How a word ends where nothing fails: over a file that is safe to open, and `format` over a blank disk.
 use Rattle.std.specs.Prelude.{◌≡◌, ◌⊎◌, ◌<◌, ◌^◌, ℕ, List, [], Option, Some}
 use Rattle.df_base.specs.Causes.{Rose}
+use Rattle.df_base.specs.Image.{IsImage}
 use Rattle.df_disk.specs.Told.{Told}
 use Rattle.df_layout.specs.declared.layout.Layout.{Layout}
 use Rattle.df_lines.specs.Grammar.{Said}
 use Rattle.df_lines.specs.Room.{line_bound}
 use Rattle.df_lines.specs.Script.{Begins}
-use Rattle.df_session.specs.Below.{DataFile, IsUnformatted}
+use Rattle.df_session.specs.Below.{DataFile, IsUnformatted, shape}
+use Rattle.df_theory.specs.Found.{IsFound}
 use Rattle.df_theory.specs.View.{View, boot_of}
+use Rattle.df_units.specs.Bytes.{unit_at}
 use Rattle.df_session.specs.Following.{MayOpen}
 use Rattle.df_top.specs.Formats.{Formats}
 use Rattle.df_top.specs.Mode.{IsOfFile}
 use Rattle.df_top.specs.Outside.{Faults, HasCauses, Outside}
 use Rattle.df_top.specs.Run.{Runs, ServesIn, script_budget}
+use Rattle.df_top.specs.Upgrading.{RunsUpgrade}
 use Rattle.df_top.specs.declared.mode.Mode.{Mode}
-use Rattle.df_top.specs.declared.mode.Mode.TheVariants.{Format, Run, Recover, Inspect, Scrub, Workload, Paced}
+use Rattle.df_top.specs.declared.mode.Mode.TheVariants.{Format, Run, Recover, Inspect, Scrub, Workload, Upgrade, Paced}
 use Rattle.df_top.specs.declared.status.Status.{Status}
 use Rattle.df_top.specs.declared.status.Status.TheVariants.{Done, Found, Memory, Script}
 
@@ -38,6 +42,7 @@ pub record IsCut (layout : Layout) (left : Option (List ℕ)) (status : Status) 
 -- the word was carried out: a script that is whole was read to its end, and a report may list what is to be mended, or blocks that fail
 abbrev pub IsCarriedOut : Mode → Layout → Option (List ℕ) → Status → Type 0
 IsCarriedOut (Format shape cluster) layout left status = ⊥
+IsCarriedOut Upgrade layout left status = ⊥
 IsCarriedOut Run layout left status = (status ≡ Done) ⊎ IsCut layout left status
 IsCarriedOut Recover layout left status = status ≡ Done
 IsCarriedOut Inspect layout left status = (status ≡ Done) ⊎ (status ≡ Found)
@@ -56,6 +61,18 @@ abbrev pub SafeIsServed : Type 0
 SafeIsServed =
     (mode : Mode) (file : DataFile) (view : View) (t : Told) (old new : Outside) (before now : Faults) (status : Status) → MayOpen file view t → boot_of view < 2 ^ 62 → old.told ≡ Some t
     → HasCauses before now status → NoneFailed before now → ServesIn mode file.layout old new status → IsCarriedOut mode file.layout old.left status
+
+-- a file of version 1 in which an open of that version finds a view is upgraded: where nothing failed the word ends Done, or memory was wanting
+abbrev pub OldIsUpgraded : Type 0
+OldIsUpgraded =
+    (file : DataFile) (view : View) (t : Told) (old new : Outside) (before now : Faults) (status : Status) → file.version ≡ 1 → IsImage t.shown → IsFound (shape file) (unit_at file.layout file.cluster t.shown) view → old.told ≡ Some t
+    → HasCauses before now status → NoneFailed before now → RunsUpgrade old new status → (status ≡ Memory) ⊎ (status ≡ Done)
+
+-- and one of version 2 is left as it is: nothing is written to it, and it isn't synced
+abbrev pub SecondIsLeft : Type 0
+SecondIsLeft =
+    (file : DataFile) (view : View) (t : Told) (old new : Outside) (status : Status) → file.version ≡ 2 → IsImage t.shown → IsFound (shape file) (unit_at file.layout file.cluster t.shown) view → old.told ≡ Some t → RunsUpgrade old new status
+    → new.told ≡ old.told
 
 -- over a disk whose superblock is blank, and with a cluster other than 0, the word `format` makes the file, or memory was wanting
 abbrev pub BlankIsFormatted : Type 0

@@ -1,6 +1,6 @@
 -- What a word does with a file that may be hurt: sectors of it were damaged, lost or swapped before the open.
 use Rattle.std.proofs.Common.{inl, inr}
-use Rattle.std.specs.Prelude.{◌≡◌, ◌⊎◌, ◌<◌, ◌^◌, Some}
+use Rattle.std.specs.Prelude.{◌≡◌, ◌⊎◌, ◌<◌, ◌^◌, ℕ, Some}
 use Rattle.df_disk.specs.Told.{Told}
 use Rattle.df_layout.specs.declared.layout.Layout.{Layout}
 use Rattle.df_theory.specs.View.{View, boot_of}
@@ -11,7 +11,7 @@ use Rattle.df_session.specs.Found.{FoundFile}
 use Rattle.df_session.specs.Owning.{ReadsOwn}
 use Rattle.df_top.specs.Acknowledging.{run_calls, script_calls}
 use Rattle.df_top.specs.Outside.{Outside}
-use Rattle.df_top.specs.Run.{ComesTo, DidNothing, Does, RefusesSuperblock, Works}
+use Rattle.df_top.specs.Run.{ComesTo, DidNothing, Does, RefusesSuperblockAs, Works}
 use Rattle.df_top.specs.declared.mode.Mode.{Mode}
 use Rattle.df_top.specs.declared.mode.Mode.TheVariants.{Run, Workload, Paced}
 use Rattle.df_top.specs.declared.status.Status.{Status}
@@ -47,13 +47,16 @@ ServesOverHurt mode layout old new status = (file : DataFile) (view : View) (t :
 
 -- ---- the program
 
--- the superblock can't be used: that is of damage, and never comes at rest while two copies stand, nor where what is hurt isn't needed
-pub record RefusesCopies (file : DataFile) (view : View) (t : Told) (old new : Outside) (status : Status) : Type 0 where
-  pub refuses : RefusesSuperblock t old new status
+-- the superblock can't be used, where the version is asked for: that is of damage, and never comes at rest while two copies stand, nor where what is hurt isn't needed
+pub record RefusesCopiesAs (version : ℕ) (file : DataFile) (view : View) (t : Told) (old new : Outside) (status : Status) : Type 0 where
+  pub refuses : RefusesSuperblockAs version t old new status
   pub damage : MayBeOfDamage refuses.error
   pub hurt : IsHurtFile file.layout t
   pub stood : IsAtRest file t.log → HasTwoCopies t → ⊥
   pub needed : IsNeedless file t → ⊥
+
+abbrev pub RefusesCopies : DataFile → View → Told → Outside → Outside → Status → Type 0
+RefusesCopies file view t old new status = RefusesCopiesAs 2 file view t old new status
 
 -- while boots are left: memory was wanting or the disk failed in the first reads, or the superblock is refused for damage, or the word is carried out
 abbrev pub RunsOverHurt : Mode → Outside → Outside → Status → Type 0

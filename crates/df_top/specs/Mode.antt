@@ -1,11 +1,14 @@
 -- What the words of the command line ask for.
-use Rattle.std.specs.Prelude.{◌≡◌, ◌⊎◌, ◌<◌, ◌≤◌, ◌^◌, ℕ, List, [], ◌∷◌, ◌++◌, codes, decimal, Option, Some, None}
+use Rattle.std.specs.Prelude.{◌≡◌, ◌⊎◌, ◌<◌, ◌≤◌, ◌^◌, ℕ, List, [], ◌∷◌, ◌++◌, codes, decimal}
 use Rattle.df_layout.specs.declared.layout.Layout.{Layout}
 use Rattle.df_pace.specs.Beats.{idle}
 use Rattle.df_pace.specs.declared.pace.Pace.{Pace}
 use Rattle.df_top.specs.declared.mode.Mode.{Mode}
-use Rattle.df_top.specs.declared.mode.Mode.TheVariants.{Format, Run, Recover, Inspect, Scrub, Workload, Paced}
+use Rattle.df_top.specs.declared.mode.Mode.TheVariants.{Format, Run, Recover, Inspect, Scrub, Workload, Upgrade, Paced}
 use Rattle.df_top.specs.declared.mode.NewFile.{NewFile}
+use Rattle.df_top.specs.declared.mode.Task.{Task}
+use Rattle.df_top.specs.declared.mode.Task.TheVariants.{Make, Open}
+use Rattle.df_top.specs.declared.mode.Task.TheVariants as task
 
 -- the layout has these five numbers
 pub record HasNumbers (layout : Layout) (a b c d e : ℕ) : Type 0 where
@@ -53,6 +56,7 @@ Means words Recover = words ≡ codes "recover" ∷ []
 Means words Inspect = words ≡ codes "inspect" ∷ []
 Means words Scrub = words ≡ codes "scrub" ∷ []
 Means words (Workload seed count) = SpellsWorkload words seed count
+Means words Upgrade = words ≡ codes "upgrade" ∷ []
 Means words (Paced pace) = SpellsPaced words pace
 Means words (Format layout cluster) = SpellsFormat words layout cluster
 
@@ -60,23 +64,26 @@ Means words (Format layout cluster) = SpellsFormat words layout cluster
 abbrev pub OneMeaning : Type 0
 OneMeaning = (words : List (List ℕ)) (one other : Mode) → Means words one → Means words other → one ≡ other
 
--- what is asked for works on a file that is there
+-- what is asked for opens a file that is there, or surveys it: none is made, and none is brought to another version
 abbrev pub IsOfFile : Mode → Type 0
 IsOfFile (Format layout cluster) = ⊥
+IsOfFile Upgrade = ⊥
 IsOfFile mode = Unit {0}
 
 -- it can be carried out on one: a generated run has a round at least, and no more rounds than the words may ask for
 abbrev pub IsRunnable : Mode → Type 0
 IsRunnable (Format layout cluster) = ⊥
+IsRunnable Upgrade = ⊥
 IsRunnable (Workload seed count) = (1 ≤ count) × (count ≤ 1000000)
 IsRunnable mode = Unit {0}
 
--- the file that is to be made, where a making is asked for
-abbrev pub new_file : Mode → Option NewFile
-new_file (Format layout cluster) = Some (record { layout = layout; cluster = cluster })
-new_file mode = None
+-- what is to be done for it: a file is made, or one of version 1 is upgraded, or one is opened or surveyed
+abbrev pub task_of : Mode → Task
+task_of (Format layout cluster) = Make (record { layout = layout; cluster = cluster })
+task_of Upgrade = task.Upgrade
+task_of mode = Open
 
--- the words ask for what works on a file that is there
+-- the words ask for a word that opens a file, or surveys it
 pub record AsksOfFile (words : List (List ℕ)) : Type 0 where
   pub mode : Mode
   pub means : Means words mode

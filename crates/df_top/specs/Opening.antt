@@ -1,5 +1,5 @@
 -- What becomes of a file on which no word is carried out: it is refused, or the disk fails before it is found.
-use Rattle.std.specs.Prelude.{◌≡◌, ◌≢◌, ◌⊎◌, [], ◌∷◌, Option, Some, Err}
+use Rattle.std.specs.Prelude.{◌≡◌, ◌≢◌, ◌⊎◌, ℕ, [], ◌∷◌, Option, Some, Err}
 use Rattle.df_base.specs.Image.{Image}
 use Rattle.df_base.specs.Log.{Sync}
 use Rattle.df_disk.specs.Adds.{AddsPart}
@@ -8,18 +8,23 @@ use Rattle.df_inspect.specs.Opening.{open_refusal}
 use Rattle.df_layout.specs.declared.layout.Layout.{Layout}
 use Rattle.df_model.specs.declared.errors.OpenError.{OpenError}
 use Rattle.df_model.specs.declared.errors.OpenError.TheVariants as opens
-use Rattle.df_session.specs.Below.{IsLayoutShown, Refuses, Surveys}
+use Rattle.df_session.specs.Below.{IsLayoutShown, Refuses}
 use Rattle.df_session.specs.Opened.{StopsOpening}
+use Rattle.df_upgrade.specs.Below.{SurveysAs}
 use Rattle.df_top.specs.Outside.{Outside, PrintsLine}
 use Rattle.df_top.specs.declared.mode.Mode.{Mode}
 use Rattle.df_top.specs.declared.mode.Mode.TheVariants.{Inspect}
 use Rattle.df_top.specs.declared.status.Status.{Status}
 use Rattle.df_top.specs.declared.status.Status.TheVariants.{DiskFault, Refused}
 
--- the first reason of the order of open why an image isn't opened with rooms of this layout
-pub record IsRefusedFor (layout : Layout) (image : Image) (error : OpenError) : Type 0 where
-  pub why : Surveys layout image (Err error)
+-- the first reason of the order of open why an image isn't opened with rooms of this layout, where the version is asked for
+pub record IsRefusedForAs (version : ℕ) (layout : Layout) (image : Image) (error : OpenError) : Type 0 where
+  pub why : SurveysAs version layout image (Err error)
   pub other : error ≢ opens.DiskFault
+
+-- where version 2 is asked for, as an open does
+abbrev pub IsRefusedFor : Layout → Image → OpenError → Type 0
+IsRefusedFor layout image error = IsRefusedForAs 2 layout image error
 
 -- the same with rooms of its own layout, which the superblock names where it can be used
 abbrev pub RefusesImage : Image → OpenError → Type 0
@@ -30,12 +35,15 @@ pub record PrintsRefusal (error : OpenError) (old new : Outside) (status : Statu
   pub prints : PrintsLine (open_refusal error) Refused old.written new.written status
   pub unread : new.left ≡ old.left
 
--- the file is refused behind the barrier, and nothing is written to it
-pub record RefusesFile (layout : Layout) (t : Told) (old new : Outside) (status : Status) : Type 0 where
+-- the file is refused behind the barrier, where the version is asked for, and nothing is written to it
+pub record RefusesFileAs (version : ℕ) (layout : Layout) (t : Told) (old new : Outside) (status : Status) : Type 0 where
   pub error : OpenError
-  pub is : IsRefusedFor layout t.shown error
+  pub is : IsRefusedForAs version layout t.shown error
   pub refusal : PrintsRefusal error old new status
   pub barrier : new.told ≡ Some (did Sync t)
+
+abbrev pub RefusesFile : Layout → Told → Outside → Outside → Status → Type 0
+RefusesFile layout t old new status = RefusesFileAs 2 layout t old new status
 
 -- nothing is printed, and nothing is read of the source
 pub record IsSilent (old new : Outside) : Type 0 where

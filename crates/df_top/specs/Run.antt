@@ -14,12 +14,13 @@ use Rattle.df_model.specs.declared.errors.OpenError.{OpenError}
 use Rattle.df_pace.specs.Beats.{idle, started}
 use Rattle.df_pace.specs.declared.pace.Pace.{Pace}
 use Rattle.df_session.specs.Begun.{begun_work}
-use Rattle.df_session.specs.Below.{IsLayoutShown, Refuses, State as Replica, shape}
+use Rattle.df_session.specs.Below.{IsLayoutShown, State as Replica, shape}
 use Rattle.df_session.specs.Reading.{shown_of}
 use Rattle.df_session.specs.Below.{AgreeShown}
 use Rattle.df_session.specs.Found.{FoundFile}
 use Rattle.df_session.specs.Links.{events_made}
 use Rattle.df_session.specs.Laws.{CallsKeep}
+use Rattle.df_upgrade.specs.Below.{RefusesAs}
 use Rattle.df_top.specs.Acknowledging.{script_calls}
 use Rattle.df_top.specs.Mode.{IsOfFile}
 use Rattle.df_top.specs.Opening.{FailsToFind, IsSilent, PrintsRefusal, RefusesFile}
@@ -31,7 +32,7 @@ use Rattle.df_top.specs.Resulting.{IsResultOf}
 use Rattle.df_top.specs.Session.{Ended, State}
 use Rattle.df_top.specs.Usage.{usage}
 use Rattle.df_top.specs.declared.mode.Mode.{Mode}
-use Rattle.df_top.specs.declared.mode.Mode.TheVariants.{Format, Run, Recover, Inspect, Scrub, Workload, Paced}
+use Rattle.df_top.specs.declared.mode.Mode.TheVariants.{Format, Run, Recover, Inspect, Scrub, Workload, Upgrade, Paced}
 use Rattle.df_top.specs.declared.status.Status.{Status}
 use Rattle.df_top.specs.declared.status.Status.TheVariants.{DiskFault, Memory, Refused, Words, WriteFault}
 
@@ -66,6 +67,7 @@ pub record ServesScript (pace : Pace) (layout : Layout) (t : Told) (found : Foun
 -- what each word does with the file that was found: serves the script, with work beside it or with none, prints the summary, what is to be mended or which blocks fail, or carries out a generated run
 abbrev pub Works : (mode : Mode) → (layout : Layout) → (t : Told) → FoundFile layout t → (old new : Outside) → Status → Type 0
 Works (Format shape cluster) layout t found old new status = ⊥
+Works Upgrade layout t found old new status = ⊥
 Works Run layout t found old new status = ServesScript idle layout t found old new status
 Works (Paced pace) layout t found old new status = ServesScript pace layout t found old new status
 Works Recover layout t found old new status = Recovers layout t found old new status
@@ -87,12 +89,16 @@ ServesIn mode layout old new status = (t : Told) → old.told ≡ Some t → IsI
 
 -- ---- the program
 
--- the superblock that the disk shows can't be used
-pub record RefusesSuperblock (t : Told) (old new : Outside) (status : Status) : Type 0 where
+-- the superblock that the disk shows can't be used, where the version is asked for
+pub record RefusesSuperblockAs (version : ℕ) (t : Told) (old new : Outside) (status : Status) : Type 0 where
   pub error : OpenError
-  pub is : Refuses t.shown error
+  pub is : RefusesAs version t.shown error
   pub refusal : PrintsRefusal error old new status
   pub same : new.told ≡ old.told
+
+-- where version 2 is asked for, as an open does
+abbrev pub RefusesSuperblock : Told → Outside → Outside → Status → Type 0
+RefusesSuperblock t old new status = RefusesSuperblockAs 2 t old new status
 
 -- nothing was read of the source, and nothing was written to the disk or to the sink
 pub record IsWithout (old new : Outside) : Type 0 where

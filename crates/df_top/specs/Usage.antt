@@ -2,4 +2,4 @@
 use Rattle.std.specs.Prelude.{ℕ, List, codes}
 
 unfoldable pub usage : List ℕ
-usage = codes "usage: format LAYOUT CLUSTER | run | recover | inspect | scrub | workload SEED COUNT | paced SCRUB EVERY STEPS\n"
+usage = codes "usage: format LAYOUT CLUSTER | run | recover | inspect | scrub | workload SEED COUNT | upgrade | paced SCRUB EVERY STEPS\n"

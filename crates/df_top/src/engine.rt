@@ -11,12 +11,14 @@ ghost use Rattle.df_top.specs.Formats.{Formats, MakesFile};
 ghost use Rattle.df_top.specs.Hurting.{RunsOverHurt};
 ghost use Rattle.df_top.specs.Outside.{Blames, HasCauses};
 ghost use Rattle.df_top.specs.Run.{IsWithout, PrintsUsage, Runs};
-ghost use Rattle.df_top.specs.Within.{WritesOwn};
+ghost use Rattle.df_top.specs.Upgrading.{RunsUpgrade, UpgradesOverHurt};
+ghost use Rattle.df_top.specs.Within.{WritesOwn, WritesOwnAs};
 
 use crate::making::make_file;
-use crate::mode::{Mode, mode_of, new_file};
+use crate::mode::{Mode, Task, mode_of, task_of};
 use crate::serving::{carry_out, refuse_file};
 use crate::status::Status;
+use crate::upgrading::upgrade_old;
 use df_base::{OutOfMemory, Sink, Source};
 use df_buffers::ProbeRoom;
 use df_disk::Disk;
@@ -27,7 +29,7 @@ use std::alloc::Global;
 
 /// The line that says which words have a meaning.
 pub const USAGE: &[u8] =
-    b"usage: format LAYOUT CLUSTER | run | recover | inspect | scrub | workload SEED COUNT | paced SCRUB EVERY STEPS\n";
+    b"usage: format LAYOUT CLUSTER | run | recover | inspect | scrub | workload SEED COUNT | upgrade | paced SCRUB EVERY STEPS\n";
 
 // The memory of a session over a file.
 #[derive(Drop)]
@@ -112,7 +114,7 @@ pub fn run<D: Disk, S: Source, W: Sink>(
     ensures makes { (layout : Layout) (cluster : ℕ) → Means (map string_bytes words.now) (Mode.Format layout cluster)
         → MakesFile layout cluster (D.told disk.old) (D.told disk.new) result }
 
-    // The other words refuse a file by the first reason of the order of open. `run` serves the script as the machine does, and
+    // The words that open a file or survey it refuse it by the first reason of the order of open. `run` serves the script as the machine does, and
     // keeps what it answered at every moment and at its end; `paced` does so too, with the work that is due behind each line; `recover` prints the summary of a file that is mended and
     // whose boot is raised, as each word does it but `inspect`, which prints the report of what it finds, and adds nothing but the sync of its barrier; `scrub` prints
     // the referenced blocks that fail; `workload` carries out a generated run as the machine does, keeps what was answered, and
@@ -122,13 +124,24 @@ pub fn run<D: Disk, S: Source, W: Sink>(
         (record { told = D.told disk.new; left = S.left source.new; written = W.written sink.new }) result }
     ensures inspects { Means (map string_bytes words.now) Mode.Inspect → AddsPart (Sync ∷ []) (D.told disk.old) (D.told disk.new) }
 
+    // `upgrade` asks for version 1: it refuses a file by the first reason of the order of open, or makes it one of version 2 and prints its
+    // sequence. At each moment whatever is left has the state that was found, by the version of its own superblock.
+    ensures upgrades { Means (map string_bytes words.now) Mode.Upgrade → RunsUpgrade
+        (record { told = D.told disk.old; left = S.left source.old; written = W.written sink.old })
+        (record { told = D.told disk.new; left = S.left source.new; written = W.written sink.new }) result }
+
     // Every write lies within the zones of the file: of the one that is made, or of the one whose superblock is shown.
     ensures made_within { (layout : Layout) (cluster : ℕ) → Means (map string_bytes words.now) (Mode.Format layout cluster) → AddsWithin layout (D.told disk.old) (D.told disk.new) }
     ensures within { (mode : Mode) → IsOfFile mode → Means (map string_bytes words.now) mode → WritesOwn (D.told disk.old) (D.told disk.new) }
+    ensures upgraded_within { Means (map string_bytes words.now) Mode.Upgrade → WritesOwnAs 1 (D.told disk.old) (D.told disk.new) }
 
     // Where sectors of the file were damaged, lost or swapped before, they find a state that the file really had, or refuse it
     // because of a sector that is hurt; and a read of a script gives what is the state's own, as it was written.
     ensures hurt { (mode : Mode) → IsOfFile mode → Means (map string_bytes words.now) mode → RunsOverHurt mode
+        (record { told = D.told disk.old; left = S.left source.old; written = W.written sink.old })
+        (record { told = D.told disk.new; left = S.left source.new; written = W.written sink.new }) result }
+
+    ensures upgraded_hurt { Means (map string_bytes words.now) Mode.Upgrade → UpgradesOverHurt
         (record { told = D.told disk.old; left = S.left source.old; written = W.written sink.old })
         (record { told = D.told disk.new; left = S.left source.new; written = W.written sink.new }) result }
 
@@ -141,9 +154,10 @@ pub fn run<D: Disk, S: Source, W: Sink>(
         (record { told = D.told disk.new; left = S.left source.new; written = W.written sink.new }) }
 {
     match mode_of(words) {
-        Some(mode) => match new_file(mode) {
-            Some(file) => make_file(alloc, disk, sink, &file.layout, file.cluster),
-            None => run_file(alloc, mode, source, sink, disk),
+        Some(mode) => match task_of(mode) {
+            Task::Make { file } => make_file(alloc, disk, sink, &file.layout, file.cluster),
+            Task::Upgrade => upgrade_old(alloc, sink, disk),
+            Task::Open => run_file(alloc, mode, source, sink, disk),
         },
         None => print_usage(sink),
     }

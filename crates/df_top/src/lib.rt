@@ -16,10 +16,11 @@ mod session;
 mod status;
 mod telling;
 mod turns;
+mod upgrading;
 mod working;
 mod works;
 
-pub use completeness::{a_blank_disk_is_formatted, a_safe_file_is_served};
+pub use completeness::{a_blank_disk_is_formatted, a_safe_file_is_served, an_old_file_is_upgraded};
 pub use df_pace::Pace;
 pub use df_session::Rooms;
 pub use engine::run;

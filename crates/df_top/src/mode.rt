@@ -3,7 +3,7 @@ ghost use Rattle.std.specs.Prelude.{◌≡◌, ◌<◌, ◌≤◌, ◌^◌, ℕ,
 ghost use Rattle.std.specs.Prelude.{IfSome, IfNone};
 ghost use Rattle.df_layout.specs.declared.layout.Layout.{Layout};
 ghost use Rattle.df_top.specs.declared.mode.Mode.{Mode};
-ghost use Rattle.df_top.specs.Mode.{Means, NamesLayout, OneMeaning, new_file, numbers_of};
+ghost use Rattle.df_top.specs.Mode.{Means, NamesLayout, OneMeaning, numbers_of, task_of};
 
 use df_layout::Layout;
 use df_lines::{u32_of, u64_of, u128_of};
@@ -30,6 +30,8 @@ pub enum Mode {
     Scrub,
     /// Opens the file, as `recover` does, carries out a generated run of `count` rounds and prints what it did: `workload SEED COUNT`.
     Workload { seed: u64, count: u64 },
+    /// Makes a file of version 1 one of version 2: `upgrade`.
+    Upgrade,
     /// Serves the script with this work beside it: `paced SCRUB EVERY STEPS`.
     Paced { pace: Pace },
 }
@@ -43,18 +45,32 @@ pub struct NewFile {
     pub cluster: u128,
 }
 
-/// The file that is to be made, or None where what is asked for works on a file that is there.
-pub(crate) fn new_file(mode: Mode) -> Option<NewFile>
-    ensures { result ≡ new_file mode }
+/// What is to be done for a word.
+#[derive(Clone, Copy, Debug, PartialEq, Eq)]
+pub enum Task {
+    /// This file is made.
+    Make { file: NewFile },
+    /// The file that is there is upgraded.
+    Upgrade,
+    /// The file that is there is opened or surveyed.
+    Open,
+}
+
+/// What is to be done for what is asked for.
+pub(crate) fn task_of(mode: Mode) -> Task
+    ensures { result ≡ task_of mode }
 {
     match mode {
-        Mode::Format { layout, cluster } => Some(NewFile { layout, cluster }),
+        Mode::Format { layout, cluster } => Task::Make {
+            file: NewFile { layout, cluster },
+        },
+        Mode::Upgrade => Task::Upgrade,
         Mode::Run
         | Mode::Recover
         | Mode::Inspect
         | Mode::Scrub
         | Mode::Workload { seed: _, count: _ }
-        | Mode::Paced { pace: _ } => None,
+        | Mode::Paced { pace: _ } => Task::Open,
     }
 }
 
@@ -94,7 +110,10 @@ fn plain_mode(word: &str) -> Option<Mode>
         return Some(Mode::Inspect);
     }
     if word == "scrub" {
-        Some(Mode::Scrub)
+        return Some(Mode::Scrub);
+    }
+    if word == "upgrade" {
+        Some(Mode::Upgrade)
     } else {
         None
     }

@@ -103,7 +103,8 @@ pub(crate) fn carry_out<D: Disk, S: Source, W: Sink>(
         Mode::Scrub => scrub_file(rooms, sink, disk),
         Mode::Workload { seed, count } => workload_file(rooms, seed, count, sink, disk),
         Mode::Paced { pace } => serve_file(pace, rooms, lines, source, sink, disk),
-        Mode::Format {
+        Mode::Upgrade
+        | Mode::Format {
             layout: _,
             cluster: _,
         } => unreachable!(),

@@ -23,7 +23,7 @@ use Rattle.df_opening.specs.Survey.{Survey, survey_in}
 use Rattle.df_opening.specs.Surveying.{TellsSurvey}
 use Rattle.df_opening.proofs.Barriers.{barrier_rests}
 use Rattle.df_opening.proofs.Hurts.{tells_hurt}
-use Rattle.df_opening.proofs.MendShows.{front_spares, opening_copies, opening_spares}
+use Rattle.df_opening.proofs.MendShows.{front_spares, raising_copies, raising_spares}
 use Rattle.df_opening.proofs.Opens.{front_moments, mend_stops, open_settles, own_raising, planned_same, stands_anew, stands_over}
 use Rattle.df_opening.proofs.Refused.{blamed_open, fault_adds, no_refusal, refused_tells}
 use Rattle.df_opening.proofs.opened.open_file.Goals as goal
@@ -46,7 +46,7 @@ returns-in-Ok-mend_file-clause-told g c =
 pub returns-in-Err-mend_file-clause-answer : goal.returns-in-Err-mend_file-clause-answer
 returns-in-Err-mend_file-clause-answer g c =
     subst (λ (e : OpenError). TellsSurvey c.args.rooms.layout (g.D.Disk.told c.args.disk.now) (Err e)) (sym c.refusal_of.ensures)
-    (refused_tells _ c.args.rooms.layout (g.D.Disk.told c.args.disk.now) (g.D.Disk.told c.survey_file.new.disk) (g.D.Disk.told c.mend_file.new.disk) (opening_events (survey_in c.in-Ok.surveyed)) c.in-Err-mend_file.error c.in-Ok.ensures.barrier c.in-Err-mend_file.ensures.events c.in-Err-mend_file.ensures.unharmed)
+    (refused_tells _ 2 c.args.rooms.layout (g.D.Disk.told c.args.disk.now) (g.D.Disk.told c.survey_file.new.disk) (g.D.Disk.told c.mend_file.new.disk) (opening_events (survey_in c.in-Ok.surveyed)) c.in-Err-mend_file.error c.in-Ok.ensures.barrier c.in-Err-mend_file.ensures.events c.in-Err-mend_file.ensures.unharmed)
 
 pub returns-in-Err-mend_file-clause-hurt : goal.returns-in-Err-mend_file-clause-hurt
 returns-in-Err-mend_file-clause-hurt g c = tells_hurt c.args.rooms.layout (g.D.Disk.told c.args.disk.now) (Err c.refusal_of.result) (returns-in-Err-mend_file-clause-answer g c)
@@ -77,10 +77,10 @@ returns-in-Ok-mend_file-clause-opened g c = λ t is.
         events = es;
         told = c.in-Ok-mend_file.ensures.events ∙ ap (after_all es) synced;
         within = steps_within s.state.file.layout s.state.file.cluster es (opening_steps s) c.in-Ok-mend_file.ensures.steps;
-        spares = opening_spares s c.in-Ok-mend_file.ensures.steps;
+        spares = raising_spares s.state.file s.state.headers s.mends s.state.fields s.chosen.members (boot_fields s.state) c.in-Ok-mend_file.ensures.steps;
       };
       own = λ whole. own_raising c.args.rooms.layout (g.D.Disk.told c.args.disk.now) t s is c.in-Ok.ensures.kept c.in-Ok.ensures.mends whole;
-      copies = λ whole. opening_copies s c.in-Ok-mend_file.ensures.steps t.shown whole;
+      copies = λ whole. raising_copies s.state.file s.state.headers s.mends s.state.fields s.chosen.members (boot_fields s.state) c.in-Ok-mend_file.ensures.steps t.shown whole;
       over = λ grade view base same may stands.
           let planned = planned_same s.state.file s.state.headers s.mends s.state.fields s.chosen.members (did Sync t) (did Sync base) same plan in
           let on = barrier_rests grade s.state.file view base may (subst (λ (m : Image). StandsFor grade (unit_at s.state.file.layout s.state.file.cluster m) view) (sym same) stands) in
@@ -110,7 +110,7 @@ returns-in-Err-mend_file-clause-stopped g c = λ t is whole fault.
         events = part.part;
         told = part.is;
         within = steps_within s.state.file.layout s.state.file.cluster part.part done.steps done.are;
-        spares = front_spares s part.part done;
+        spares = front_spares s.state.file s.state.headers s.mends s.state.fields s.chosen.members (boot_fields s.state) part.part done;
       };
       own = λ image. record {
         events = es;

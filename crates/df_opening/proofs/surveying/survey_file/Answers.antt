@@ -12,7 +12,7 @@ returns-in-Ok-clause-kept g c = ap (λ (s : Survey). s.state.file.layout) c.part
 pub returns-in-Ok-clause-planned : goal.returns-in-Ok-clause-planned
 returns-in-Ok-clause-planned g c = λ t is.
     subst (λ (s : Survey). IsPlannedOn s t) (sym c.parts_of.ensures.seen)
-    (survey_planned c.in-Ok.surveyed c.args.rooms.layout c.in-Ok.ensures.planned (g.D.Disk.told c.args.disk.now) (g.D.Disk.told c.survey_version.new.disk) t is c.in-Ok.ensures.barrier c.in-Ok.ensures.read c.in-Ok.ensures.answer)
+    (survey_planned 2 c.in-Ok.surveyed c.args.rooms.layout c.in-Ok.ensures.planned (g.D.Disk.told c.args.disk.now) (g.D.Disk.told c.survey_version.new.disk) t is c.in-Ok.ensures.barrier c.in-Ok.ensures.read c.in-Ok.ensures.answer)
 
 pub returns-in-Ok-clause-answer : goal.returns-in-Ok-clause-answer
 returns-in-Ok-clause-answer g c = subst (λ (s : Survey). TellsSurvey c.args.rooms.layout (g.D.Disk.told c.args.disk.now) (Ok s.state)) (sym c.parts_of.ensures.seen) c.in-Ok.ensures.answer

@@ -1,5 +1,5 @@
 -- Words ask for one thing at most, so that the clauses of the others say nothing.
-use Rattle.std.proofs.Common.{ℕ, sym, ◌∙◌, subst}
+use Rattle.std.proofs.Common.{ℕ, refl, sym, ◌∙◌, subst}
 use Rattle.std.specs.Prelude.{map, string_bytes}
 use Rattle.df_layout.specs.declared.layout.Layout.{Layout}
 use Rattle.df_units.specs.Within.{AddsWithin}
@@ -8,26 +8,27 @@ use Rattle.df_top.specs.Formats.{Formats, MakesFile}
 use Rattle.df_top.specs.Outside.{Outside}
 use Rattle.df_top.specs.Run.{Runs}
 use Rattle.df_top.specs.declared.mode.Mode.{Mode}
-use Rattle.df_top.specs.declared.mode.Mode.TheVariants.{Format, Inspect}
+use Rattle.df_top.specs.declared.mode.Mode.TheVariants.{Format, Inspect, Upgrade}
 use Rattle.df_top.proofs.Hurts.{runs_over_hurt}
 use Rattle.df_top.proofs.Modes.{one_mode}
+use Rattle.df_top.proofs.Upgrades.{upgrades_over_hurt, upgrades_within}
 use Rattle.df_top.proofs.Within.{runs_within}
-use Rattle.df_top.proofs.Words.{makes_alone, makes_file, runnable, same_cluster_asked, same_layout_asked, works_on_file}
+use Rattle.df_top.proofs.Words.{makes_alone, makes_file, makes_none, opens_file, runnable, same_cluster_asked, same_layout_asked, upgrades_alone, upgrades_file}
 use Rattle.df_top.proofs.engine.run.Goals as goal
 
 -- ---- a word on a file
 
 pub run_file-requires : goal.run_file-requires
 run_file-requires g c = record {
-  runnable = runnable (map string_bytes c.args.words.now) c.in-Some.mode c.in-Some.ensures.found (works_on_file c.in-Some.mode (sym c.new_file.ensures ∙ c.in-None-new_file.is));
+  runnable = runnable (map string_bytes c.args.words.now) c.in-Some.mode c.in-Some.ensures.found (opens_file c.in-Some.mode (sym c.task_of.ensures ∙ c.in-Open.is));
 }
 
-pub returns-in-None-new_file : goal.returns-in-None-new_file
-returns-in-None-new_file g c =
+pub returns-in-Open : goal.returns-in-Open
+returns-in-Open g c =
     let words = map string_bytes c.args.words.now in
     let mode = c.in-Some.mode in
     let mine = c.in-Some.ensures.found in
-    let of = works_on_file mode (sym c.new_file.ensures ∙ c.in-None-new_file.is) in
+    let of = opens_file mode (sym c.task_of.ensures ∙ c.in-Open.is) in
     let old : Outside = record { told = g.D.Disk.told c.args.disk.now; left = g.S.Source.left c.args.source.now; written = g.W.Sink.written c.args.sink.now } in
     let new : Outside = record { told = g.D.Disk.told c.run_file.new.disk; left = g.S.Source.left c.run_file.new.source; written = g.W.Sink.written c.run_file.new.sink } in
     record {
@@ -42,68 +43,117 @@ returns-in-None-new_file g c =
       made_within = λ layout cluster asks. absurd (makes_alone words layout cluster mode asks mine of);
       within = λ other of_other asks. runs_within mode old new c.run_file.result c.run_file.ensures.runs;
       hurt = λ other of_other asks. runs_over_hurt other old new c.run_file.result (subst (λ (m : Mode). Runs m old new c.run_file.result) (one_mode words mode other mine asks) c.run_file.ensures.runs);
+      upgrades = λ asks. absurd (upgrades_alone words mode asks mine of);
+      upgraded_within = λ asks. absurd (upgrades_alone words mode asks mine of);
+      upgraded_hurt = λ asks. absurd (upgrades_alone words mode asks mine of);
       causes = c.run_file.ensures.causes;
       memory = c.run_file.ensures.memory;
     }
 
+-- ---- `upgrade`
+
+pub returns-in-Upgrade : goal.returns-in-Upgrade
+returns-in-Upgrade g c =
+    let words = map string_bytes c.args.words.now in
+    let left = g.S.Source.left c.args.source.now in
+    let mine = subst (Means words) (upgrades_file c.in-Some.mode (sym c.task_of.ensures ∙ c.in-Upgrade.is)) c.in-Some.ensures.found in
+    let old : Outside = record { told = g.D.Disk.told c.args.disk.now; left = left; written = g.W.Sink.written c.args.sink.now } in
+    let new : Outside = record { told = g.D.Disk.told c.upgrade_old.new.disk; left = left; written = g.W.Sink.written c.upgrade_old.new.sink } in
+    record {
+      usage = λ nothing. absurd (nothing Upgrade mine);
+      untouched = λ nothing. absurd (nothing Upgrade mine);
+      unread = λ no. refl;
+      words = λ is. absurd (c.upgrade_old.ensures.usage is);
+      formats = λ layout cluster asks. absurd (makes_none words layout cluster asks mine);
+      makes = λ layout cluster asks. absurd (makes_none words layout cluster asks mine);
+      runs = λ mode of asks. absurd (upgrades_alone words mode mine asks of);
+      inspects = λ asks. absurd (upgrades_alone words Inspect mine asks tt);
+      upgrades = λ asks. c.upgrade_old.ensures.upgrades left;
+      made_within = λ layout cluster asks. absurd (makes_none words layout cluster asks mine);
+      within = λ mode of asks. absurd (upgrades_alone words mode mine asks of);
+      upgraded_within = λ asks. upgrades_within old new c.upgrade_old.result (c.upgrade_old.ensures.upgrades left);
+      hurt = λ mode of asks. absurd (upgrades_alone words mode mine asks of);
+      upgraded_hurt = λ asks. upgrades_over_hurt old new c.upgrade_old.result (c.upgrade_old.ensures.upgrades left);
+      causes = c.upgrade_old.ensures.causes (g.S.Source.faults c.args.source.now);
+      memory = c.upgrade_old.ensures.memory left;
+    }
+
 -- ---- `format`
 
-pub returns-in-Some-new_file-clause-usage : goal.returns-in-Some-new_file-clause-usage
-returns-in-Some-new_file-clause-usage g c = λ nothing. absurd (nothing c.in-Some.mode c.in-Some.ensures.found)
+pub returns-in-Make-clause-usage : goal.returns-in-Make-clause-usage
+returns-in-Make-clause-usage g c = λ nothing. absurd (nothing c.in-Some.mode c.in-Some.ensures.found)
 
-pub returns-in-Some-new_file-clause-untouched : goal.returns-in-Some-new_file-clause-untouched
-returns-in-Some-new_file-clause-untouched g c = λ nothing. absurd (nothing c.in-Some.mode c.in-Some.ensures.found)
+pub returns-in-Make-clause-untouched : goal.returns-in-Make-clause-untouched
+returns-in-Make-clause-untouched g c = λ nothing. absurd (nothing c.in-Some.mode c.in-Some.ensures.found)
 
-pub returns-in-Some-new_file-clause-formats : goal.returns-in-Some-new_file-clause-formats
-returns-in-Some-new_file-clause-formats g c = λ layout cluster asks.
+pub returns-in-Make-clause-formats : goal.returns-in-Make-clause-formats
+returns-in-Make-clause-formats g c = λ layout cluster asks.
     let words = map string_bytes c.args.words.now in
-    let file = c.in-Some-new_file.file in
-    let mine = subst (Means (map string_bytes c.args.words.now)) (makes_file c.in-Some.mode file (sym c.new_file.ensures ∙ c.in-Some-new_file.is)) c.in-Some.ensures.found in
+    let file = c.in-Make.file in
+    let mine = subst (Means (map string_bytes c.args.words.now)) (makes_file c.in-Some.mode file (sym c.task_of.ensures ∙ c.in-Make.is)) c.in-Some.ensures.found in
     subst (λ (l : Layout). Formats l cluster (g.D.Disk.told c.args.disk.now) (g.D.Disk.told c.make_file.new.disk) (g.W.Sink.written c.args.sink.now) (g.W.Sink.written c.make_file.new.sink) c.make_file.result)
     (same_layout_asked words file.layout layout file.cluster cluster mine asks)
-    (subst (λ (n : ℕ). Formats c.in-Some-new_file.file.layout n (g.D.Disk.told c.args.disk.now) (g.D.Disk.told c.make_file.new.disk) (g.W.Sink.written c.args.sink.now) (g.W.Sink.written c.make_file.new.sink) c.make_file.result)
+    (subst (λ (n : ℕ). Formats c.in-Make.file.layout n (g.D.Disk.told c.args.disk.now) (g.D.Disk.told c.make_file.new.disk) (g.W.Sink.written c.args.sink.now) (g.W.Sink.written c.make_file.new.sink) c.make_file.result)
     (same_cluster_asked words file.layout layout file.cluster cluster mine asks) c.make_file.ensures.formats)
 
-pub returns-in-Some-new_file-clause-makes : goal.returns-in-Some-new_file-clause-makes
-returns-in-Some-new_file-clause-makes g c = λ layout cluster asks.
+pub returns-in-Make-clause-makes : goal.returns-in-Make-clause-makes
+returns-in-Make-clause-makes g c = λ layout cluster asks.
     let words = map string_bytes c.args.words.now in
-    let file = c.in-Some-new_file.file in
-    let mine = subst (Means (map string_bytes c.args.words.now)) (makes_file c.in-Some.mode file (sym c.new_file.ensures ∙ c.in-Some-new_file.is)) c.in-Some.ensures.found in
+    let file = c.in-Make.file in
+    let mine = subst (Means (map string_bytes c.args.words.now)) (makes_file c.in-Some.mode file (sym c.task_of.ensures ∙ c.in-Make.is)) c.in-Some.ensures.found in
     subst (λ (l : Layout). MakesFile l cluster (g.D.Disk.told c.args.disk.now) (g.D.Disk.told c.make_file.new.disk) c.make_file.result)
     (same_layout_asked words file.layout layout file.cluster cluster mine asks)
-    (subst (λ (n : ℕ). MakesFile c.in-Some-new_file.file.layout n (g.D.Disk.told c.args.disk.now) (g.D.Disk.told c.make_file.new.disk) c.make_file.result)
+    (subst (λ (n : ℕ). MakesFile c.in-Make.file.layout n (g.D.Disk.told c.args.disk.now) (g.D.Disk.told c.make_file.new.disk) c.make_file.result)
     (same_cluster_asked words file.layout layout file.cluster cluster mine asks) c.make_file.ensures.makes)
 
-pub returns-in-Some-new_file-clause-made_within : goal.returns-in-Some-new_file-clause-made_within
-returns-in-Some-new_file-clause-made_within g c = λ layout cluster asks.
-    let file = c.in-Some-new_file.file in
-    let mine = subst (Means (map string_bytes c.args.words.now)) (makes_file c.in-Some.mode file (sym c.new_file.ensures ∙ c.in-Some-new_file.is)) c.in-Some.ensures.found in
+pub returns-in-Make-clause-made_within : goal.returns-in-Make-clause-made_within
+returns-in-Make-clause-made_within g c = λ layout cluster asks.
+    let file = c.in-Make.file in
+    let mine = subst (Means (map string_bytes c.args.words.now)) (makes_file c.in-Some.mode file (sym c.task_of.ensures ∙ c.in-Make.is)) c.in-Some.ensures.found in
     subst (λ (l : Layout). AddsWithin l (g.D.Disk.told c.args.disk.now) (g.D.Disk.told c.make_file.new.disk))
     (same_layout_asked (map string_bytes c.args.words.now) file.layout layout file.cluster cluster mine asks) c.make_file.ensures.within
 
-pub returns-in-Some-new_file-clause-runs : goal.returns-in-Some-new_file-clause-runs
-returns-in-Some-new_file-clause-runs g c = λ mode of asks.
-    let file = c.in-Some-new_file.file in
-    let mine = subst (Means (map string_bytes c.args.words.now)) (makes_file c.in-Some.mode file (sym c.new_file.ensures ∙ c.in-Some-new_file.is)) c.in-Some.ensures.found in
+pub returns-in-Make-clause-runs : goal.returns-in-Make-clause-runs
+returns-in-Make-clause-runs g c = λ mode of asks.
+    let file = c.in-Make.file in
+    let mine = subst (Means (map string_bytes c.args.words.now)) (makes_file c.in-Some.mode file (sym c.task_of.ensures ∙ c.in-Make.is)) c.in-Some.ensures.found in
     absurd (makes_alone (map string_bytes c.args.words.now) file.layout file.cluster mode mine asks of)
 
-pub returns-in-Some-new_file-clause-inspects : goal.returns-in-Some-new_file-clause-inspects
-returns-in-Some-new_file-clause-inspects g c = λ asks.
-    let file = c.in-Some-new_file.file in
-    let mine = subst (Means (map string_bytes c.args.words.now)) (makes_file c.in-Some.mode file (sym c.new_file.ensures ∙ c.in-Some-new_file.is)) c.in-Some.ensures.found in
+pub returns-in-Make-clause-inspects : goal.returns-in-Make-clause-inspects
+returns-in-Make-clause-inspects g c = λ asks.
+    let file = c.in-Make.file in
+    let mine = subst (Means (map string_bytes c.args.words.now)) (makes_file c.in-Some.mode file (sym c.task_of.ensures ∙ c.in-Make.is)) c.in-Some.ensures.found in
     absurd (makes_alone (map string_bytes c.args.words.now) file.layout file.cluster Inspect mine asks tt)
 
-pub returns-in-Some-new_file-clause-within : goal.returns-in-Some-new_file-clause-within
-returns-in-Some-new_file-clause-within g c = λ mode of asks.
-    let file = c.in-Some-new_file.file in
-    let mine = subst (Means (map string_bytes c.args.words.now)) (makes_file c.in-Some.mode file (sym c.new_file.ensures ∙ c.in-Some-new_file.is)) c.in-Some.ensures.found in
+pub returns-in-Make-clause-within : goal.returns-in-Make-clause-within
+returns-in-Make-clause-within g c = λ mode of asks.
+    let file = c.in-Make.file in
+    let mine = subst (Means (map string_bytes c.args.words.now)) (makes_file c.in-Some.mode file (sym c.task_of.ensures ∙ c.in-Make.is)) c.in-Some.ensures.found in
     absurd (makes_alone (map string_bytes c.args.words.now) file.layout file.cluster mode mine asks of)
 
-pub returns-in-Some-new_file-clause-hurt : goal.returns-in-Some-new_file-clause-hurt
-returns-in-Some-new_file-clause-hurt g c = λ mode of asks.
-    let file = c.in-Some-new_file.file in
-    let mine = subst (Means (map string_bytes c.args.words.now)) (makes_file c.in-Some.mode file (sym c.new_file.ensures ∙ c.in-Some-new_file.is)) c.in-Some.ensures.found in
+pub returns-in-Make-clause-hurt : goal.returns-in-Make-clause-hurt
+returns-in-Make-clause-hurt g c = λ mode of asks.
+    let file = c.in-Make.file in
+    let mine = subst (Means (map string_bytes c.args.words.now)) (makes_file c.in-Some.mode file (sym c.task_of.ensures ∙ c.in-Make.is)) c.in-Some.ensures.found in
     absurd (makes_alone (map string_bytes c.args.words.now) file.layout file.cluster mode mine asks of)
+
+pub returns-in-Make-clause-upgrades : goal.returns-in-Make-clause-upgrades
+returns-in-Make-clause-upgrades g c = λ asks.
+    let file = c.in-Make.file in
+    let mine = subst (Means (map string_bytes c.args.words.now)) (makes_file c.in-Some.mode file (sym c.task_of.ensures ∙ c.in-Make.is)) c.in-Some.ensures.found in
+    absurd (makes_none (map string_bytes c.args.words.now) file.layout file.cluster mine asks)
+
+pub returns-in-Make-clause-upgraded_within : goal.returns-in-Make-clause-upgraded_within
+returns-in-Make-clause-upgraded_within g c = λ asks.
+    let file = c.in-Make.file in
+    let mine = subst (Means (map string_bytes c.args.words.now)) (makes_file c.in-Some.mode file (sym c.task_of.ensures ∙ c.in-Make.is)) c.in-Some.ensures.found in
+    absurd (makes_none (map string_bytes c.args.words.now) file.layout file.cluster mine asks)
+
+pub returns-in-Make-clause-upgraded_hurt : goal.returns-in-Make-clause-upgraded_hurt
+returns-in-Make-clause-upgraded_hurt g c = λ asks.
+    let file = c.in-Make.file in
+    let mine = subst (Means (map string_bytes c.args.words.now)) (makes_file c.in-Some.mode file (sym c.task_of.ensures ∙ c.in-Make.is)) c.in-Some.ensures.found in
+    absurd (makes_none (map string_bytes c.args.words.now) file.layout file.cluster mine asks)
 
 -- ---- words without a meaning
 
@@ -127,3 +177,12 @@ returns-in-None-clause-hurt g c = λ mode of asks. absurd (c.in-None.ensures.non
 
 pub returns-in-None-clause-within : goal.returns-in-None-clause-within
 returns-in-None-clause-within g c = λ mode of asks. absurd (c.in-None.ensures.none mode asks)
+
+pub returns-in-None-clause-upgrades : goal.returns-in-None-clause-upgrades
+returns-in-None-clause-upgrades g c = λ asks. absurd (c.in-None.ensures.none Upgrade asks)
+
+pub returns-in-None-clause-upgraded_within : goal.returns-in-None-clause-upgraded_within
+returns-in-None-clause-upgraded_within g c = λ asks. absurd (c.in-None.ensures.none Upgrade asks)
+
+pub returns-in-None-clause-upgraded_hurt : goal.returns-in-None-clause-upgraded_hurt
+returns-in-None-clause-upgraded_hurt g c = λ asks. absurd (c.in-None.ensures.none Upgrade asks)

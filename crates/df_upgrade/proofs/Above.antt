@@ -1,0 +1,127 @@
+-- Behind the mending each copy says what the choice did, and the superblock of an upgrade is above that.
+use Rattle.std.proofs.Common.{◌≡◌, inl, inr, ℕ, ◌+◌, ◌*◌, ◌<◌, ◌≤◌, List, [], ◌∷◌, ◌++◌, length, get_or, Bool, true, false, Option, Some, None, refl, sym, ◌∙◌, ap, subst, arith}
+use Rattle.std.proofs.lemmas.Bool.{cases_Bool}
+use Rattle.std.proofs.lemmas.Bool.Decides.{nat_tests}
+use Rattle.df_base.specs.Image.{Image, covers}
+use Rattle.df_base.specs.Log.{Event, Log, Sync, add, now}
+use Rattle.df_base.specs.Moments.{adds}
+use Rattle.df_disk.specs.Told.{Told}
+use Rattle.df_disk.specs.Adds.{after_all}
+use Rattle.df_layout.specs.declared.layout.Layout.{Layout}
+use Rattle.df_layout.specs.declared.places.Zone.TheVariants.{WalHeaders}
+use Rattle.df_layout.specs.Spans.{sectors_before, span_of}
+use Rattle.df_layout.specs.Zones.{first_sector, zone_sectors}
+use Rattle.df_format.specs.Copies.{Content, content_at, content_with}
+use Rattle.df_format.specs.Own.{place_in}
+use Rattle.df_format.specs.SuperRules.{IsUsable}
+use Rattle.df_format.specs.declared.header.Header.{Header}
+use Rattle.df_format.specs.declared.superblock.SuperFields.{SuperFields}
+use Rattle.df_headers.specs.Ring.{sector_writes}
+use Rattle.df_quorum.specs.Quorum.{IsChosen}
+use Rattle.df_superblock.specs.Events.{repair_events}
+use Rattle.df_superblock.proofs.Mends.{Spares, member_spared, other_written, written_shows}
+use Rattle.df_superblock.proofs.Puts.{copy_put}
+use Rattle.df_superblock.proofs.Sights.{seen_apart}
+use Rattle.df_damage.proofs.Laws.{added_is_told, super_as}
+use Rattle.df_damage.specs.Anew.{told_after}
+use Rattle.df_opening.specs.Mending.{header_events, sectors_of}
+use Rattle.df_opening.specs.Raising.{IsPlannedOf}
+use Rattle.df_opening.specs.Sparing.{image_after}
+use Rattle.df_opening.specs.Survey.{Survey}
+use Rattle.df_opening.proofs.Laws.{shown_after}
+use Rattle.df_upgrade.specs.Base.{IsAbove, base_fields}
+use Rattle.df_upgrade.specs.Upgrading.{restoring_events}
+
+-- ---- images
+
+after_both : (xs ys : List Event) (image : Image) → image_after (xs ++ ys) image ≡ image_after ys (image_after xs image)
+after_both [] ys image = refl
+after_both (x ∷ xs) ys image = after_both xs ys _
+
+now_adds : (es : List Event) (log : Log) → now (adds es log) ≡ image_after es (now log)
+now_adds [] log = refl
+now_adds (e ∷ es) log = now_adds es (add e log)
+
+-- ---- header sectors stand behind the copies
+
+header_behind : (layout : Layout) (slot : ℕ) → 4 ≤ (span_of layout (place_in WalHeaders slot)).first
+unfolding span_of sectors_before first_sector zone_sectors
+header_behind layout slot = omega arith
+
+not_reached : (at : ℕ) (bytes : List ℕ) (n : ℕ) → n < at → covers at bytes n ≡ false
+unfolding covers
+not_reached at bytes n less = grind (arith, nat_tests)
+
+module _ (layout : Layout) (table : List Header) (n : ℕ) (below : n < 4) where
+  writes_stay : (ks : List ℕ) (image : Image) → content_at (image_after (sector_writes layout table ks) image) n ≡ content_at image n
+  writes_stay [] image = refl
+  writes_stay (k ∷ ks) image = writes_stay ks _ ∙ seen_apart _ _ image n (not_reached _ _ n (omega (arith, below, header_behind layout (16 * k))))
+
+  headers_stay : (ks : List ℕ) (image : Image) → content_at (image_after (header_events layout table ks) image) n ≡ content_at image n
+  headers_stay [] image = refl
+  headers_stay (k ∷ ks) image = ap (λ (i : Image). content_at i n) (after_both (sector_writes layout table (k ∷ ks)) (Sync ∷ []) image) ∙ writes_stay (k ∷ ks) image
+
+-- ---- copies
+
+-- a copy that isn't written stays
+spared_stays : (f : SuperFields) → IsUsable f → (n number : ℕ) (members : List Bool) (image : Image) → number + length members ≤ 4 → Spares n number members → content_at (image_after (repair_events f number members) image) n ≡ content_at image n
+spared_stays f usable n number [] image fits spared = refl
+spared_stays f usable n number (true ∷ members) image fits spared = spared_stays f usable n (number + 1) members image (omega (arith, fits)) spared
+spared_stays f usable n number (false ∷ members) image fits spared =
+    spared_stays f usable n (number + 1) members _ (omega (arith, fits)) spared.1 ∙ seen_apart number _ image n ((copy_put f usable number (omega (arith, fits))).alone n spared.0)
+
+module _ (s : Survey) (t : Told) (four : length s.chosen.members ≡ 4) (usable : IsUsable s.state.fields) (plan : IsPlannedOf s t) where
+  abbrev behind : Image
+  behind = image_after (restoring_events s) t.shown
+
+  abbrev mid : Image
+  mid = image_after (header_events s.state.file.layout s.state.headers (sectors_of s.state.file.layout s.mends)) t.shown
+
+  parts : behind ≡ image_after (repair_events s.state.fields 0 s.chosen.members) mid
+  parts = after_both (header_events s.state.file.layout s.state.headers (sectors_of s.state.file.layout s.mends)) (repair_events s.state.fields 0 s.chosen.members) t.shown
+
+  -- each shows a content with the fields of the choice
+  each_says : (n : ℕ) → n < 4 → (c : Content) × (content_at behind n ≡ Some c) × (c.fields ≡ s.state.fields)
+  each_says n below = elim (cases_Bool (get_or s.chosen.members n false)) [
+    | inl member ↦
+        let here : 0 + n ≡ n = omega arith in
+        let spared : Spares n 0 s.chosen.members = subst (λ (k : ℕ). Spares k 0 s.chosen.members) here (member_spared 0 n s.chosen.members member) in (
+          plan.super.content,
+          ap (λ (i : Image). content_at i n) parts ∙ spared_stays s.state.fields usable n 0 s.chosen.members mid (omega (arith, four)) spared
+              ∙ headers_stay s.state.file.layout s.state.headers n below (sectors_of s.state.file.layout s.mends) t.shown ∙ (plan.members_are n below).0 member,
+          plan.super.fields,
+        )
+    | inr other ↦
+        let here : 0 + n ≡ n = omega arith in
+        let log : Log = record { start = mid; events = [] } in (
+          content_with s.state.fields,
+          ap (λ (i : Image). content_at i n) (parts ∙ sym (now_adds (repair_events s.state.fields 0 s.chosen.members) log))
+              ∙ ap (λ (k : ℕ). content_at (now (adds (repair_events s.state.fields 0 s.chosen.members) log)) k) (sym here)
+              ∙ written_shows s.state.fields (content_with s.state.fields) (copy_put s.state.fields usable) (0 + n) 0 s.chosen.members log (omega (arith, four)) (other_written 0 n s.chosen.members (omega (arith, below, four)) other),
+          refl,
+        )
+  ]
+
+  -- so the choice has them
+  chosen_says : (c : Content) → IsChosen (content_at behind) c → c.fields ≡ s.state.fields
+  chosen_says c chosen =
+      let there = each_says chosen.agreed.first (omega (arith, chosen.agreed.apart, chosen.agreed.inside)) in
+      let same : there.0 ≡ c = (let both : Some there.0 ≡ Some c = sym there.1 ∙ chosen.agreed.at_first in cc) in
+      ap (λ (x : Content). x.fields) (sym same) ∙ there.2
+
+-- which is below the superblock of an upgrade, by its boot
+above_told : (s : Survey) (t : Told) → length s.chosen.members ≡ 4 → IsUsable s.state.fields → s.state.file.version ≡ 1 → IsPlannedOf s t → IsAbove (Some (told_after (restoring_events s) t)) (base_fields s.state)
+above_told s t four usable one plan = λ whole c chosen.
+    let asked = super_as s.state.file.version s.state.fields plan.super.usable in
+    let none : s.state.fields.boot ≡ 0 = elim asked.1.version [ inl first ↦ first.boot | inr second ↦ absurd (omega (arith, second.version, asked.0, one)) ] in
+    let says = chosen_says s t four usable plan c (subst (λ (i : Image). IsChosen (content_at i) c) (shown_after (restoring_events s) t) chosen) in
+    omega (arith, none, ap (λ (f : SuperFields). f.boot) says, ap (λ (f : SuperFields). f.sequence) says)
+
+none_told : (es : List Event) → after_all es None ≡ None
+none_told [] = refl
+none_told (e ∷ es) = none_told es
+
+pub is_above : (s : Survey) (old new : Option Told) → length s.chosen.members ≡ 4 → IsUsable s.state.fields → s.state.file.version ≡ 1 → ((t : Told) → old ≡ Some t → IsPlannedOf s t) → new ≡ after_all (restoring_events s) old → IsAbove new (base_fields s.state)
+is_above s None new four usable one plan added = subst (λ (o : Option Told). IsAbove o (base_fields s.state)) (sym (added ∙ none_told (restoring_events s))) tt
+is_above s (Some t) new four usable one plan added =
+    subst (λ (o : Option Told). IsAbove o (base_fields s.state)) (sym (added ∙ added_is_told (restoring_events s) t)) (above_told s t four usable one (plan t refl))

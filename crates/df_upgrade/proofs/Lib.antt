@@ -1,0 +1,9 @@
+pub mod Filled
+pub mod FillSteps
+pub mod FillChances
+pub mod Reread
+pub mod Records
+pub mod Above
+pub mod Anew
+pub mod Asked
+pub mod Laws

@@ -1,0 +1,136 @@
+-- The superblock of an upgrade passes its tests, and says what the machine records of the state that was found.
+use Rattle.std.proofs.Common.{◌≡◌, inl, inr, ℕ, ◌+◌, ◌<◌, ◌^◌, List, [], None, false, true, refl, sym, ◌∙◌, ap, subst, arith}
+use Rattle.std.proofs.lemmas.List.Elements.{All-drop}
+use Rattle.df_format.specs.Copies.{content_with}
+use Rattle.df_format.specs.Spelling.{no_checksum}
+use Rattle.df_format.specs.SuperRules.{IsFirstSuper, IsUsable, fault_of}
+use Rattle.df_format.specs.declared.superblock.SuperFields.{SuperFields}
+use Rattle.df_format.proofs.Laws.{faults}
+use Rattle.df_sessions.specs.Table.{IsTable}
+use Rattle.df_theory.specs.Shape.{Shape}
+use Rattle.df_theory.specs.Units.{Content, Parts, Units}
+use Rattle.df_theory.specs.Upgrades.{as_version}
+use Rattle.df_theory.specs.View.{View}
+use Rattle.df_units.specs.Meaning.{content_of, number_of}
+use Rattle.df_model.specs.Making as making
+use Rattle.df_model.specs.Making.{boot_content, named_sums}
+use Rattle.df_model.specs.Memory.{Memory, memory_of}
+use Rattle.df_model.specs.Work.{opened}
+use Rattle.df_damage.specs.Below.{IsState, MayRecord, State, memory}
+use Rattle.df_damage.specs.Surveying.{state_found}
+use Rattle.df_damage.specs.Types.{Surveyed}
+use Rattle.df_damage.proofs.Laws.{recorded_content, recorded_is_super}
+use Rattle.df_upgrade.specs.Base.{base_fields}
+use Rattle.df_upgrade.specs.Old.{IsOld}
+use Rattle.df_upgrade.specs.Upgrading.{second}
+
+-- ---- it passes its tests
+
+-- the state with a superblock of version 2 that records an empty tail, whose head is the checkpoint's prepare; the root doesn't matter
+abbrev in_second : State → State
+in_second s = record s { file = second s.file; fields = record s.fields { version = 2; head_checksum = s.fields.op_checksum }; root = [] }
+
+module _ (y : Surveyed) (old : IsOld y) (usable : IsUsable y.scanned.copies.found.content) (table : IsTable y.scanned.sessions) where
+  abbrev f : SuperFields
+  f = y.scanned.copies.found.content
+
+  abbrev s : State
+  s = state_found y
+
+  first : IsFirstSuper f
+  first = elim usable.rules.version [ inl one ↦ one | inr two ↦ absurd (omega (arith, two.version, old.found.read.version, old.version)) ]
+
+  sense : IsState (in_second s)
+  sense = record {
+    cluster = subst (λ (n : ℕ). n < 2 ^ 128) (sym old.found.read.named) usable.fits.cluster;
+    parent = old.found.ends.checksum;
+    version = refl;
+    second = record {
+      rules = record {
+        version = refl;
+        boot = omega (arith, first.boot);
+        no_head = λ none. usable.rules.op_checksum (omega (arith, none, usable.rules.head.0));
+        head_is_op = λ level. refl;
+        spare = All-drop (λ (check : List ℕ). check ≡ no_checksum) f.clients f.reply_checksums first.named.replies;
+      };
+      of = record {
+        slots = old.found.read.fields.slots;
+        message_size = old.found.read.fields.message_size;
+        clients = old.found.read.fields.clients;
+        block_size = old.found.read.fields.block_size;
+        blocks = old.found.read.fields.blocks;
+        cluster_is = old.found.read.fields.cluster_is;
+      };
+      names = usable.fits.reply_checksums;
+      first_nonzero = usable.rules.zero;
+    };
+    booted = λ live. absurd (let none : false ≡ true = live in cc);
+    sequence = usable.rules.sequence;
+    root = omega arith;
+    order = old.found.ends.from;
+    room = old.found.ends.within;
+    head_to = old.found.ends.most;
+    waiting = old.found.waiting;
+    few = omega (arith, old.found.waiting, old.found.ends.few);
+    places = old.found.read.places;
+    first = λ zero_head. old.found.ends.empty (omega (arith, old.found.ends.from, zero_head)) ∙ usable.rules.op_checksum (omega (arith, old.found.ends.from, zero_head));
+    level = old.found.ends.empty;
+    captured = tt;
+    requests = old.found.sessions.numbered;
+    asked = old.found.sessions.asked;
+    tracks = old.found.sessions.tracks;
+    ring = old.planned.is_table;
+    course = old.found.read.idle;
+  }
+
+  may : MayRecord (in_second s) (record f { version = 2; boot = 1 })
+  may = record {
+    version = refl;
+    boot = omega arith;
+    layout = usable.rules.layout;
+    places = old.found.read.fields.clients;
+    cluster = usable.rules.cluster;
+    sequence = usable.rules.sequence;
+    op = old.found.ends.from;
+    room = omega (arith, old.found.ends.within, old.found.read.fields.slots);
+    op_checksum = usable.rules.op_checksum;
+    level = old.found.ends.empty;
+    trailer = usable.rules.trailer;
+    trailer_checksum = usable.rules.trailer_checksum;
+    no_trailer = usable.rules.no_trailer;
+    trailer_size = usable.rules.trailer_size;
+    zero = usable.rules.zero;
+  }
+
+  pub base_passes : fault_of (base_fields s) ≡ None
+  base_passes = (faults (base_fields s)).1 (recorded_is_super (in_second s) (record f { version = 2; boot = 1 }) sense table may)
+
+-- ---- in the words of the machine
+
+-- what is named doesn't depend on the version
+names_same : (sh : Shape) (spell : Parts → List ℕ) (image : Units) (v : View) → named_sums (memory_of sh spell (opened sh image v)) ≡ named_sums (memory_of sh spell (opened sh image (as_version 2 v)))
+unfolding named_sums
+names_same sh spell image v = refl
+
+-- it is the content of a boot update of the view as version 2 has it, but for what version 1 leaves empty: its own has nothing there
+pub base_content : (s : State) (sh : Shape) (spell : Parts → List ℕ) (image : Units) (v : View) → v.checkpoint.content.boot ≡ 0 → memory s ≡ memory_of sh spell (opened sh image v)
+    → record (content_of (content_with (base_fields s))) { rest = v.checkpoint.content.rest } ≡ boot_content (memory_of sh spell (opened sh image (as_version 2 v))) (number_of (content_with (base_fields s)).checksum)
+base_content s sh spell image v boot stands =
+    let sum : ℕ = number_of (content_with (base_fields s)).checksum in
+    let c : Content = v.checkpoint.content in
+    let m : Memory = memory_of sh spell (opened sh image v) in
+    let one : 1 ≡ c.boot + 1 = omega (arith, boot) in
+    let recorded_is = recorded_content s (record s.fields { version = 2; boot = 1 }) refl in
+    ap (λ (e : Content). record e { rest = c.rest }) recorded_is
+    ∙ ap (λ (n : Memory). record (making.recorded n (record n.content { version = 2; boot = 1 })) { checksum = sum; rest = c.rest }) stands
+    ∙ (λ i. record c {
+      checksum = sum;
+      version = 2;
+      boot = one i;
+      head = m.head;
+      replies = m.replies;
+      pin = m.head;
+      pin_checksum = m.head_checksum;
+      answered = m.replies + 1;
+      reply_checksums = names_same sh spell image v i;
+    })

@@ -1,0 +1,43 @@
+// The four copies of version 2.
+ghost use Rattle.std.specs.Prelude.{◌≡◌, None, OnOk};
+ghost use Rattle.df_upgrade.specs.Base.{IsAbove};
+ghost use Rattle.df_upgrade.specs.Below.{AddsUpdate, AreStepsOfCopies, EndsEqual, IsBlamed, IsJudged, IsUndamaged, ShowsEqual, fault_of, is_update_fault, put_copies, update_events, update_steps};
+
+use df_buffers::ProbeRoom;
+use df_disk::Disk;
+use df_format::{Super, SuperFields, test_fields};
+use df_superblock::{UpdateError, update};
+
+// A superblock that passes its tests.
+fn passed(base: &SuperFields) -> Super
+    requires { fault_of base.now ≡ None }
+    ensures { result ≡ base.now }
+{
+    match test_fields(base) {
+        Ok(content) => content,
+        Err(_) => unreachable!(),
+    }
+}
+
+/// Writes the superblock of version 2: the copies 0, 1, 2 and 3, each durable before the next one is written, and reads all four back. It
+/// is to pass its tests, and to be above the chosen one, by sequence and then by boot. A disk that tells what it shows is told of no
+/// damage.
+pub fn upgrade<D: Disk>(
+    disk: &mut D,
+    room: &mut ProbeRoom,
+    base: &SuperFields,
+) -> Result<(), UpdateError>
+    requires version { base.now.version ≡ 2 }
+    requires rules { fault_of base.now ≡ None }
+    requires above { IsAbove (D.told disk.old) base.now }
+    ensures events { AddsUpdate (update_events base.now) (D.told disk.old) (D.told disk.new) result }
+    ensures steps { AreStepsOfCopies (update_events base.now) (update_steps (put_copies base.now)) }
+    ensures read_back { IsJudged (D.told disk.new) base.now result }
+    ensures undamaged { IsUndamaged (D.told disk.new) result }
+    ensures shown { OnOk result (ShowsEqual base.now (D.told disk.new)) }
+    ensures equal { OnOk result (EndsEqual base.now (D.told disk.new)) }
+    ensures cause { IsBlamed is_update_fault (D.faults disk.old) (D.faults disk.new) result }
+{
+    let content = passed(base);
+    update(disk, room, &content)
+}
