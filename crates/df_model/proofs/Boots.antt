@@ -16,8 +16,7 @@ use Rattle.df_theory.specs.WholeLaws.{IsStanding}
 use Rattle.df_theory.specs.WriterLaws.{Updates}
 use Rattle.df_theory.specs.TidyLaws.{IsGoodWhole, IsTidy}
 use Rattle.df_theory.specs.Upgrades.{as_version}
-use Rattle.df_theory.proofs.BootSounds.{boot_sound}
-use Rattle.df_theory.proofs.Laws.{boot_law, found_sound, low_steps, low_update, may_raise, prepare_agrees, stands_law, whole_update_law}
+use Rattle.df_theory.proofs.Laws.{boot_law, boot_sound, found_sound, low_steps, low_update, may_raise, prepare_agrees, stands_law, whole_update_law}
 use Rattle.df_model.specs.Work.{Work, opened, raised}
 use Rattle.df_model.specs.Memory.{Memory, memory_of}
 use Rattle.df_model.specs.Making.{boot_content, named_sums}
