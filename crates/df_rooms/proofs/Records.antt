@@ -16,7 +16,7 @@ use Rattle.df_model.specs.Memory.{joined}
 use Rattle.df_model.specs.Making as making
 use Rattle.df_model.specs.Making.{named_places, named_sums, sum_or_zero}
 use Rattle.df_checkpoint.specs.Below.{content_of, number_of}
-use Rattle.df_units.specs.Meaning.{offset_list, reply_checksums_of, rest_of}
+use Rattle.df_units.specs.Meaning.{offset_list, or_nothing, reply_checksums_of, rest_of}
 use Rattle.df_units.specs.Superblocks.{AreFieldsOf}
 use Rattle.df_units.proofs.Laws.{by_second, no_number}
 use Rattle.df_rooms.specs.State.{IsSecond, IsState, State, memory, reply_sum, stored_sum}
@@ -64,7 +64,7 @@ recorded_content s f second = λ i. record (content_of (content_with f)) {
     names = by_second g (map number_of (stored_checks s.table.sessions)) [] second ∙ names_are s
 
     rest : rest_of g ≡ rest_of f
-    rest = ap (λ (l : List ℕ). l ++ offset_list f.first_nonzero) (by_second g [] (number_of s.head_checksum ∷ map number_of (stored_checks s.table.sessions)) second ∙ sym (by_second f [] (number_of f.head_checksum ∷ map number_of f.reply_checksums) second))
+    rest = ap (λ (l : List ℕ). l ++ offset_list f.first_nonzero) (by_second g [] (or_nothing (number_of s.head_checksum ∷ map number_of (stored_checks s.table.sessions))) second ∙ sym (by_second f [] (or_nothing (number_of f.head_checksum ∷ map number_of f.reply_checksums)) second))
 
 -- ---- it can be used
 
