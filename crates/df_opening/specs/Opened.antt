@@ -8,6 +8,7 @@ use Rattle.df_disk.specs.Adds.{AddsPart, after_all}
 use Rattle.df_layout.specs.declared.layout.Layout.{Layout}
 use Rattle.df_quorum.specs.declared.choice.Chosen.{Chosen}
 use Rattle.df_format.specs.Copies.{content_with}
+use Rattle.df_format.specs.declared.superblock.SuperFields.{SuperFields}
 use Rattle.df_damage.specs.Anew.{begun, told_after}
 use Rattle.df_damage.specs.Answers.{TellsHurt}
 use Rattle.df_theory.specs.Found.{IsFound}
@@ -61,18 +62,25 @@ pub record Mends (file : DataFile) (old new : Option Told) : Type 0 where
   pub within : AreWithin file.layout events
   pub spares : (image : Image) → IsImage image → SparesReads file image (image_after events image)
 
--- These are the device calls of an open behind its survey, each once and in this order: of what is to be mended of the image that was shown the header sectors, from the table
--- in memory, and a sync, where there is one; then the copies that aren't members of the choice, each with a sync; then the four copies with the next boot, each with a sync.
-pub record AreRaising (t : Told) (found : State) (events : List Event) : Type 0 where
+-- These are the device calls by which a file that was surveyed gets this superblock, each once and in this order: of what is to be mended of the image that was shown the header sectors,
+-- from the table in memory, and a sync, where there is one; then the copies that aren't members of the choice, each with a sync; then the four copies of this superblock, each with a sync.
+pub record AreRaisingTo (d : SuperFields) (t : Told) (found : State) (events : List Event) : Type 0 where
   pub chosen : Chosen
   pub choice : IsChoiceOf t.shown chosen
-  pub are : events ≡ raising_events found.file.layout found.headers (mends_of found.file.layout t.shown found.fields found.head chosen.members) found.fields chosen.members (boot_fields found)
+  pub are : events ≡ raising_events found.file.layout found.headers (mends_of found.file.layout t.shown found.fields found.head chosen.members) found.fields chosen.members d
 
 -- they were begun: the first of them were made, and no others
-pub record BeginsRaising (t : Told) (found : State) (later : Option Told) : Type 0 where
+pub record BeginsRaisingTo (d : SuperFields) (t : Told) (found : State) (later : Option Told) : Type 0 where
   pub events : List Event
-  pub own : AreRaising t found events
+  pub own : AreRaisingTo d t found events
   pub part : AddsPart events (Some (did Sync t)) later
+
+-- those of an open: the superblock has the next boot
+abbrev pub AreRaising : Told → State → List Event → Type 0
+AreRaising t found events = AreRaisingTo (boot_fields found) t found events
+
+abbrev pub BeginsRaising : Told → State → Option Told → Type 0
+BeginsRaising t found later = BeginsRaisingTo (boot_fields found) t found later
 
 -- The file was found in what was shown, mended and raised, and then each copy shows the superblock that was written: so it is by each log that shows what the disk showed, and by which the file
 -- may be opened, the told one or one that is begun anew there; and whatever its copies showed, by the log that is begun anew there.
