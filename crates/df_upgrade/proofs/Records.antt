@@ -112,7 +112,7 @@ names_same : (sh : Shape) (spell : Parts → List ℕ) (image : Units) (v : View
 unfolding named_sums
 names_same sh spell image v = refl
 
--- it is the content of a boot update of the view as version 2 has it, but for what version 1 leaves empty: its own has nothing there
+-- it is the content of a boot update of the view as version 2 has it, with what that leaves empty
 pub base_content : (s : State) (sh : Shape) (spell : Parts → List ℕ) (image : Units) (v : View) → v.checkpoint.content.boot ≡ 0 → memory s ≡ memory_of sh spell (opened sh image v)
     → record (content_of (content_with (base_fields s))) { rest = v.checkpoint.content.rest } ≡ boot_content (memory_of sh spell (opened sh image (as_version 2 v))) (number_of (content_with (base_fields s)).checksum)
 base_content s sh spell image v boot stands =

@@ -15,7 +15,7 @@ pub use Rattle.df_theory.specs.Found.{IsFound}
 pub use Rattle.df_theory.specs.View.{View}
 pub use Rattle.df_units.specs.Bytes.{unit_at}
 pub use Rattle.df_units.specs.Puts.{put_copies}
-pub use Rattle.df_damage.specs.Anew.{begun}
+pub use Rattle.df_damage.specs.Anew.{MayBegin, begun}
 pub use Rattle.df_damage.specs.Below.{Represents, shape}
 pub use Rattle.df_damage.specs.Disks.{MayBeHurtAs}
 pub use Rattle.df_damage.specs.Found.{IsLayoutShownAs, Syncs, TellsLayoutAs}

@@ -13,10 +13,10 @@ use Rattle.df_damage.specs.Anew.{begun}
 use Rattle.df_damage.specs.Surveying.{TellsSurveyAs}
 use Rattle.df_opening.specs.Keeping.{format}
 use Rattle.df_opening.specs.Survey.{Survey}
-use Rattle.df_opening.proofs.Laws.{blamed_open, fault_adds, front_moments, front_spares, mend_stops, no_refusal, planned_same, raising_spares, refused_tells}
+use Rattle.df_opening.proofs.Laws.{blamed_open, fault_adds, front_moments, front_spares, mend_stops, no_refusal, own_raising, planned_same, raising_spares, refused_tells}
 use Rattle.df_upgrade.specs.Base.{base_fields}
 use Rattle.df_upgrade.specs.Upgrading.{StaysBare, upgrading_events, upgrading_steps}
-use Rattle.df_upgrade.proofs.Asked.{hurt_old, own_upgrading, stands_old}
+use Rattle.df_upgrade.proofs.Asked.{hurt_old, stands_old}
 use Rattle.df_upgrade.proofs.upgraded.upgrade_file.Goals as goal
 
 pub returns-in-Ok-upgrade_surveyed-clause-answer : goal.returns-in-Ok-upgrade_surveyed-clause-answer
@@ -51,7 +51,7 @@ returns-in-Ok-upgrade_surveyed-clause-upgraded g c = λ t is.
         within = steps_within s.state.file.layout s.state.file.cluster es (upgrading_steps s) c.in-Ok-upgrade_surveyed.ensures.steps;
         spares = raising_spares s.state.file s.state.headers s.mends s.state.fields s.chosen.members (base_fields s.state) c.in-Ok-upgrade_surveyed.ensures.steps;
       };
-      own = own_upgrading c.args.rooms.layout (g.D.Disk.told c.args.disk.now) t s is c.in-Ok.ensures.kept c.in-Ok.ensures.mends;
+      own = own_raising (base_fields s.state) c.args.rooms.layout (g.D.Disk.told c.args.disk.now) t s is c.in-Ok.ensures.kept c.in-Ok.ensures.mends;
       anew = λ view whole found distinct.
           c.in-Ok-upgrade_surveyed.ensures.anew t view (planned_same s.state.file s.state.headers s.mends s.state.fields s.chosen.members (did Sync t) (begun t) refl plan) whole found distinct (stands_old c.args.rooms.layout t s.state view c.in-Ok.ensures.kept answer whole found);
     }
@@ -96,7 +96,7 @@ returns-in-Err-upgrade_surveyed-clause-stopped g c = λ t is whole fault.
       };
       own = λ image. record {
         events = es;
-        own = own_upgrading c.args.rooms.layout (g.D.Disk.told c.args.disk.now) t s is c.in-Ok.ensures.kept c.in-Ok.ensures.mends image;
+        own = own_raising (base_fields s.state) c.args.rooms.layout (g.D.Disk.told c.args.disk.now) t s is c.in-Ok.ensures.kept c.in-Ok.ensures.mends image;
         part = subst (λ (o : Option Told). AddsPart es o (g.D.Disk.told c.upgrade_surveyed.new.disk)) synced adds;
       };
       anew = λ view image found distinct.
