@@ -107,17 +107,7 @@ module _ (view : View) (s : Survey) (base : Told) (four : length s.chosen.member
   planned = planned_in file view s.state.headers s.mends s.state.fields s.chosen.members (begun base) four plan whole found distinct
 
   may : MayRaise sh view.checkpoint.content.version image view (headers_in s.state.headers) headers copies d
-  may = record {
-    places = places;
-    found = found;
-    tells = planned.tells;
-    puts_headers = planned.puts_headers;
-    agreed = planned.agreed;
-    puts_copies = planned.puts_copies;
-    each_slot = planned.each_slot;
-    each_copy = planned.each_copy;
-    boot = raises.may;
-  }
+  may = record { places = places; found = found; tells = planned.tells; puts_headers = planned.puts_headers; agreed = planned.agreed; puts_copies = planned.puts_copies; each_slot = planned.each_slot; each_copy = planned.each_copy; boot = raises.may }
 
   there : (puts : PutsCopies d) × (opening_steps s ≡ raise_steps headers copies puts)
   there = subst (λ (c : Content). (puts : PutsCopies c) × (opening_steps s ≡ raise_steps headers copies puts)) content_is_d (put_copies (boot_fields s.state), refl)
