@@ -23,8 +23,7 @@ use Rattle.df_theory.specs.Upgrades as UnitsUpgrades
 use Rattle.df_theory.specs.Upgrades.{IsCleanBeyond, MayRaise, raise_steps}
 use Rattle.df_theory.specs.UnitLog.{UnitLog, now}
 use Rattle.df_theory.specs.View.{View}
-use Rattle.df_theory.proofs.Laws.{after_append, firm_units, moments, now_units}
-use Rattle.df_theory.proofs.Upgrades.{open_law}
+use Rattle.df_theory.proofs.Laws.{after_append, firm_units, moments, now_units, open_law}
 use Rattle.df_units.specs.Bytes.{unit_at}
 use Rattle.df_units.specs.Meaning.{content_of, layout_of}
 use Rattle.df_units.specs.Puts.{put_copies}
