@@ -24,8 +24,7 @@ use Rattle.df_theory.specs.UnitLog.{UnitLog, now}
 use Rattle.df_theory.specs.Upgrades as upgrades
 use Rattle.df_theory.specs.Upgrades.{BeginsRaised, EndsRaised, HasBare, IsRaised, MayRaise, as_version, of_version}
 use Rattle.df_theory.specs.View.{View, boot_of}
-use Rattle.df_theory.proofs.Laws.{firm_units, moments, now_units, one_chosen_law, raise_anew_law, raise_ends_law}
-use Rattle.df_theory.proofs.Upgrades.{upgrade_law}
+use Rattle.df_theory.proofs.Laws.{firm_units, moments, now_units, one_chosen_law, raise_anew_law, raise_ends_law, upgrade_law}
 use Rattle.df_units.specs.Bytes.{unit_at}
 use Rattle.df_units.specs.Meaning.{content_of, layout_of, number_of, offset_list}
 use Rattle.df_units.specs.Puts.{put_copies}
@@ -34,7 +33,7 @@ use Rattle.df_trailer.specs.Text.{parse_of}
 use Rattle.df_superblock.specs.Copies.{AreEqual}
 use Rattle.df_superblock.specs.Events.{update_events}
 use Rattle.df_superblock.specs.Steps.{repaired}
-use Rattle.df_superblock.proofs.Written.{ends_equal}
+use Rattle.df_superblock.proofs.Laws.{ends_equal}
 use Rattle.df_model.proofs.Laws.{boot_may_law}
 use Rattle.df_damage.specs.Anew.{IsStill, begun, told_after}
 use Rattle.df_damage.specs.Below.{DataFile, Represents, shape, spelling}
