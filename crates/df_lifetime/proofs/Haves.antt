@@ -7,7 +7,6 @@ use Rattle.df_theory.specs.Sessions.{sessions_after}
 use Rattle.df_theory.specs.Tails.{In}
 use Rattle.df_theory.specs.Units.{Session}
 use Rattle.df_theory.specs.View.{View, sessions}
-use Rattle.df_units.specs.Making.{first_view}
 use Rattle.df_model.specs.Commands as commands
 use Rattle.df_model.specs.Commands.{Answer, Command, ToAdvance, ToAppend, ToReply}
 use Rattle.df_model.specs.Views.{KeepsView}
@@ -40,9 +39,9 @@ leads_on file c v u x (inr goes) keeps =
       },
     )
 
-pub had_on : (file : DataFile) (chapters : List Chapter) (u x : View) → MayHave file chapters u → KeepsView u x → MayHave file chapters x
-had_on file [] u x had keeps = keeps_on (first_view file.layout file.cluster) u x had keeps
-had_on file (c ∷ chapters) u x had keeps = (had.0, had.1, leads_on file c had.0 u x had.2 keeps)
+pub had_on : (file : DataFile) (first : View) (chapters : List Chapter) (u x : View) → MayHave file first chapters u → KeepsView u x → MayHave file first chapters x
+had_on file first [] u x had keeps = keeps_on first u x had keeps
+had_on file first (c ∷ chapters) u x had keeps = (had.0, had.1, leads_on file c had.0 u x had.2 keeps)
 
 -- a boot update keeps the view
 pub begun_bare : (file : DataFile) (image : Image) (view : View) → KeepsView view (kept (begun_work file image view))

@@ -173,7 +173,7 @@ calls_keep_on : (g : Grade) (file : DataFile) (view : View) (t base : Told) (fou
     → MayOpen file view base → StandsFor g (unit_at file.layout file.cluster t.shown) view → KeepsOn file g (begun_work file t.shown view) base found.mending.events c
 calls_keep_on g file view t base found c calls from adds same may stands =
     let here = found_shown file g view t base same may in
-    let one : found.replica.file ≡ file = file_there file.layout t found ∙ one_file file file.layout t.shown view found.found here found.is_opened in
+    let one : found.replica.file ≡ file = file_there file.layout t found ∙ one_file 2 file file.layout t.shown view found.found here found.is_opened in
     let there = subst (λ (f : DataFile). IsFound (shape f) (unit_at f.layout f.cluster t.shown) view) (sym one) here in
     let work : IsWork (shape file) (spelling file) (begun_work file t.shown view) = subst (λ (f : DataFile). IsWork (shape f) (spelling f) (begun_work f t.shown view)) one (calls.stands view there).0 in
     keeps_on file g view t base same may work found.mending.events c (subst (λ (f : DataFile). KeepsOver f t c.acts c.answers c.failed found.mending.events (events_made c)) one calls.keeps g view base same may stands)

@@ -1,6 +1,7 @@
 mod Files
 mod Acts
 mod Haves
+mod Along
 mod Orders
 mod Bases
 mod Lives
@@ -10,6 +11,7 @@ mod Done
 mod Found
 mod HurtSessions
 mod HurtLives
+mod Upgrades
 mod KeptReads
 mod Alike
 mod OneText

@@ -4,4 +4,5 @@ pub mod Acknowledged
 pub mod NewDisks
 pub mod Reads
 pub mod Hurt
+pub mod Upgraded
 pub mod Printed
