@@ -7,7 +7,7 @@ use Rattle.df_theory.specs.View.{View, boot_of}
 use Rattle.df_theory.specs.Holds.{Holds}
 use Rattle.df_theory.specs.Next.{IsSameBare, MayBoot, booted}
 use Rattle.df_theory.specs.UnitLog.{UnitLog, now}
-use Rattle.df_theory.specs.Grown.{IsSafe}
+use Rattle.df_theory.specs.Grown.{Grown, IsSafe}
 use Rattle.df_theory.specs.Rests.{IsDry, RestsOn}
 use Rattle.df_theory.specs.Runs.{AtEach, Step, after_steps}
 use Rattle.df_theory.specs.MendLaws.{MayMend, mend_steps}
@@ -67,6 +67,13 @@ OpenLivedLaw =
 abbrev pub RestLivedLaw : Type 0
 RestLivedLaw = (sh : Shape) (log before : UnitLog) (logs : List UnitLog) (v : View) → IsLived sh (log ∷ before ∷ logs) → RestsOn sh log v → IsLivedMoment sh (before ∷ logs) log
 
--- a history begins with a safe log from the empty image, or from one whose units are older than its superblock
+-- a history begins with a log that grew from the empty image, or from one whose units are older than its superblock
+abbrev pub BeginsHistory : Shape → Units → Type 0
+BeginsHistory sh image = ((place : Place) → image place ≡ None) ⊎ ((w : View) × Holds sh image w × Starts image [] w)
+
+abbrev pub FirstGrownLaw : Type 0
+FirstGrownLaw = (sh : Shape) (log : UnitLog) → Grown sh log → BeginsHistory sh log.start → IsLived sh (log ∷ [])
+
+-- and so it is at each moment at which that log is safe
 abbrev pub FirstLivedLaw : Type 0
-FirstLivedLaw = (sh : Shape) (log : UnitLog) → IsSafe sh log → ((place : Place) → log.start place ≡ None) ⊎ ((w : View) × Holds sh log.start w × Starts log.start [] w) → IsLivedMoment sh [] log
+FirstLivedLaw = (sh : Shape) (log : UnitLog) → IsSafe sh log → BeginsHistory sh log.start → IsLivedMoment sh [] log
