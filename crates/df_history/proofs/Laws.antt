@@ -1,6 +1,6 @@
 -- What the crates above cite: the laws of histories, as lemmas.
 -- ---- what an open finds
-pub use Rattle.df_history.proofs.Since.{found_since_law, next_clean, start_shows, synced_settled}
+pub use Rattle.df_history.proofs.Since.{choice_stays_law, found_since_law, synced_settled}
 -- ---- a history goes on
 pub use Rattle.df_history.proofs.Moments.{begins_law, boot_lived_law, first_grown_law, first_lived_law, rest_lived_law}
 pub use Rattle.df_history.proofs.Mendings.{mend_lived_law}

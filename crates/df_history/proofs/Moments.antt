@@ -21,7 +21,7 @@ use Rattle.df_history.specs.Histories.{Among, GrowsOn, IsFirstLog, IsLived, IsLi
 use Rattle.df_history.specs.OpenLaws.{BeginsLaw, BootLivedLaw, FirstGrownLaw, FirstLivedLaw, RestLivedLaw}
 use Rattle.df_history.proofs.Joins.{EndsWith, on_holds, settled_ends}
 use Rattle.df_history.proofs.Mores.{AreShown, grows_more}
-use Rattle.df_history.proofs.Since.{among_low, next_clean, old_boots}
+use Rattle.df_history.proofs.Since.{among_low, choice_stays_law, old_boots}
 
 pub same_bare : (v : View) → IsSameBare v v
 same_bare v = record {
@@ -245,7 +245,7 @@ one_bare w x y is_x is_y = subst (λ (z : View). IsSameBare z y) (sym is_x) (sub
 
 pub begins_law : BeginsLaw
 begins_law sh log logs shown w lived may places f =
-    let clean = next_clean sh log logs shown w lived may f.chosen in
+    let clean = (choice_stays_law sh log logs shown w.checkpoint.content lived may f.chosen).clean w refl in
     let rests = clean_start_law sh shown w places f clean in (
       rests,
       asleep_moment sh log logs lived (boot_of w) (λ x. x ≡ w) (λ x y is_x is_y boot. one_bare w x y is_x is_y) (record { start = shown; events = [] })

@@ -2,11 +2,16 @@
 
 ghost use Rattle.df_history.specs.Upgraded.{StoppedUpgradeLaw, UpgradedLaw};
 ghost use Rattle.df_history.specs.Awakened.{GrownLivedLaw, RaiseLivedLaw, SafeLivedLaw};
-ghost use Rattle.df_history.specs.OpenLaws.{AwakeLivedLaw, BeginsLaw, BootLivedLaw, FirstGrownLaw, FirstLivedLaw, FoundSinceLaw, MendLivedLaw, OpenLivedLaw, RestLivedLaw};
+ghost use Rattle.df_history.specs.OpenLaws.{AwakeLivedLaw, BeginsLaw, BootLivedLaw, ChoiceStaysLaw, FirstGrownLaw, FirstLivedLaw, FoundSinceLaw, MendLivedLaw, OpenLivedLaw, RestLivedLaw};
 
 /// What an open finds was had since the last log that raised its boot.
 pub fn found_since_the_last_boot()
     ensures { FoundSinceLaw }
+{}
+
+/// Whatever else is hurt, the superblock that is chosen is that of the log before, and no copy can mislead a repair.
+pub fn choice_stays()
+    ensures { ChoiceStaysLaw }
 {}
 
 /// The log that is begun at what an open found rests on that view, and the history with it is lived.
