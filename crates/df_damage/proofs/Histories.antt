@@ -15,14 +15,13 @@ use Rattle.df_theory.specs.Grown.{Grown}
 use Rattle.df_theory.specs.Trailer.{IsReference}
 use Rattle.df_theory.specs.UnitLog.{Stopped, Synced, UnitEvent, Wrote}
 use Rattle.df_theory.specs.Units.{Units}
-use Rattle.df_theory.specs.View.{PassesTests}
-use Rattle.df_theory.proofs.Laws.{disk_stop_law, firm_units, now_units}
-use Rattle.df_theory.proofs.Bridge.{changed_kept}
+use Rattle.df_theory.specs.View.{PassesTests, View}
+use Rattle.df_theory.proofs.Laws.{changed_kept, disk_stop_law, firm_units, now_units}
 use Rattle.df_model.specs.Work.{opened}
 use Rattle.df_history.specs.Awakened.{IsLater}
 use Rattle.df_history.specs.Histories.{IsLivedMoment, MayHurtCopies, MayStart}
 use Rattle.df_history.specs.OpenLaws.{StartsWith}
-use Rattle.df_history.proofs.Laws.{choice_stays_law, first_grown_law, found_since_law, grown_lived_law, rest_lived_law, synced_settled}
+use Rattle.df_history.proofs.Laws.{begins_law, choice_stays_law, first_grown_law, found_since_law, grown_lived_law, rest_lived_law, synced_settled}
 use Rattle.df_recovery.specs.Below.{parse_of, DataFile, Represents, State, shape}
 use Rattle.df_recovery.specs.Surveys.{IsOpenedAs}
 use Rattle.df_recovery.proofs.Laws.{same_file}
@@ -30,8 +29,8 @@ use Rattle.df_units.specs.Bytes.{unit_at}
 use Rattle.df_units.specs.Format.{format_of}
 use Rattle.df_units.specs.Meaning.{content_of, layout_of}
 use Rattle.df_units.specs.Superblocks.{AreFieldsOf}
-use Rattle.df_units.proofs.Laws.{choice_chosen, is_format, passing_is_usable, shown_checks}
-use Rattle.df_damage.specs.Histories.{FindsSince, FirstGoesOn, FoundWasSince, HasLived, IsLivedDisk, MayReopen, RaisedGoesOn, StoppedGoesOn, units_in, units_logs}
+use Rattle.df_units.proofs.Laws.{choice_chosen, is_format, of_places, passing_is_usable, shown_checks}
+use Rattle.df_damage.specs.Histories.{BegunGoesOn, FindsSince, FirstGoesOn, FoundWasSince, HasLived, IsLivedDisk, MayReopen, RaisedGoesOn, StoppedGoesOn, units_in, units_logs}
 
 -- ---- what an open finds
 
@@ -43,6 +42,12 @@ module _ (file : DataFile) (log : Log) (older : List Log) (image : Image) (may :
     chance = may.chance;
     copies = subst (λ (was : Units). MayHurtCopies was (unit_at file.layout file.cluster image)) (sym (now_units (format_of file.layout file.cluster) log.start (Sync ∷ log.events))) may.copies;
   }
+
+  -- a log is begun anew there
+  pub begun_on : (view : View) → IsFound (shape file) (unit_at file.layout file.cluster image) view → IsLivedMoment (shape file) (units_logs file (logs.add Sync log ∷ older)) (units_in file (record { start = image; events = [] }))
+  begun_on view found =
+      (begins_law (shape file) (units_in file (logs.add Sync log)) (units_logs file older) (unit_at file.layout file.cluster image) view may.lived starts
+      (of_places file.layout file.cluster file.named (parse_of (layout_of file.layout)) image may.whole) found).1
 
   -- the superblock that is chosen is the file's
   chosen : (c : Content) → Quorum.IsChosen (content_at image) c → StartsWith (shape file) (units_in file (logs.add Sync log)) (unit_at file.layout file.cluster image) (content_of c)
@@ -117,6 +122,9 @@ first_goes_on file log safe begins = record {
   synced = first_grown_law (shape file) (units_in file (logs.add Sync log)) safe.synced begins;
   stopped = λ changes loose chance. first_grown_law (shape file) (units_in file (logs.add (Stop changes) log)) (safe.stopped changes loose chance) begins;
 }
+
+pub begun_goes_on : BegunGoesOn
+begun_goes_on file view log older image may found = moment_on_disk file (logs.add Sync log ∷ older) (record { start = image; events = [] }) (begun_on file log older image may view found)
 
 pub raised_goes_on : RaisedGoesOn
 raised_goes_on file log later before older raised lived grew safe =

@@ -2,7 +2,7 @@
 use Rattle.std.specs.Prelude.{◌≡◌, ℕ, List, [], ◌∷◌, Option, Some, Result, Ok, Err}
 use Rattle.df_base.specs.Image.{Image, IsImage, changed}
 use Rattle.df_base.specs.Log.{AreLoose, Log, Stop, Sync, add, now}
-use Rattle.df_base.specs.Moments.{Extends}
+use Rattle.df_base.specs.Moments.{EachMoment, Extends}
 use Rattle.df_disk.specs.Told.{Told}
 use Rattle.df_layout.specs.declared.layout.Layout.{Layout}
 use Rattle.df_model.specs.Work.{opened}
@@ -54,6 +54,11 @@ pub record IsLivedDisk (file : DataFile) (logs : List Log) (log : Log) : Type 0 
 abbrev pub HasRaised : DataFile → (log before : Log) → List Log → Type 0
 HasRaised file log before logs = IsAwakened (shape file) (units_in file log) (units_in file before) (units_logs file logs)
 
+-- What follows behind the barrier of an open keeps the history lived at each moment, and at the end the boot of the newest log is raised.
+pub record LivesOn (file : DataFile) (before : Log) (older : List Log) (entry exit : Log) : Type 0 where
+  pub moments : EachMoment entry exit (IsLivedDisk file (before ∷ older))
+  pub raised : HasRaised file exit before older
+
 -- ---- what an open finds
 
 -- a view was had since the last open that raised its boot, that open's own log included
@@ -87,6 +92,12 @@ TellsLived layout told result = (file : DataFile) (t : Told) (log : Log) (logs :
 -- it begins with a log from an empty disk, or from one as an upgrade leaves it, and is lived wherever that is safe
 abbrev pub FirstGoesOn : Type 0
 FirstGoesOn = (file : DataFile) (log : Log) → IsSafeDisk (format_of file.layout file.cluster) (shape file) log → BeginsHistory (shape file) (unit_at file.layout file.cluster log.start) → IsLivedDisk file [] log
+
+-- it goes on with a log that is begun anew at what an open finds
+abbrev pub BegunGoesOn : Type 0
+BegunGoesOn =
+    (file : DataFile) (view : View) (log : Log) (logs : List Log) (image : Image) → MayReopen file log logs image → IsFound (shape file) (unit_at file.layout file.cluster image) view
+    → IsLivedDisk file (add Sync log ∷ logs) (record { start = image; events = [] })
 
 -- it goes on behind an open that raised the boot: it is lived wherever the newest log is safe, whatever was done in between
 abbrev pub RaisedGoesOn : Type 0

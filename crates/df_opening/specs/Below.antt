@@ -8,6 +8,7 @@ pub use Rattle.df_theory.specs.Device.{AreSteps}
 pub use Rattle.df_damage.specs.Anew.{begun, told_after}
 pub use Rattle.df_journal.specs.Below.{EachMoment}
 pub use Rattle.df_damage.specs.Answers.{FindsHad, IsNeedless, RefusesHurt, TellsHurt}
+pub use Rattle.df_damage.specs.Histories.{FindsSince, HasLived, HasRaised, IsLivedDisk, LivesOn, MayReopen, TellsLived, WasHadSince, units_logs}
 pub use Rattle.df_format.specs.First.{first_super}
 pub use Rattle.df_units.specs.Format.{format_of}
 pub use Rattle.df_damage.specs.Hurt.{HasTwoCopies, IsHurtFile}

@@ -1,7 +1,7 @@
 -- What an open leaves of a file, and what it leaves where the disk failed in it.
-use Rattle.std.specs.Prelude.{◌≡◌, ◌⊎◌, ◌<◌, ℕ, List, Option, Some, Result, Ok, Err}
+use Rattle.std.specs.Prelude.{◌≡◌, ◌⊎◌, ◌<◌, ℕ, List, ◌∷◌, Option, Some, Result, Ok, Err}
 use Rattle.df_base.specs.Image.{Image, IsImage}
-use Rattle.df_base.specs.Log.{Event, Sync}
+use Rattle.df_base.specs.Log.{Event, Log, Sync, add}
 use Rattle.df_base.specs.Moments.{EachMoment}
 use Rattle.df_disk.specs.Told.{Told, did}
 use Rattle.df_disk.specs.Adds.{AddsPart, after_all}
@@ -11,6 +11,7 @@ use Rattle.df_format.specs.Copies.{content_with}
 use Rattle.df_format.specs.declared.superblock.SuperFields.{SuperFields}
 use Rattle.df_damage.specs.Anew.{begun, told_after}
 use Rattle.df_damage.specs.Answers.{TellsHurt}
+use Rattle.df_damage.specs.Histories.{IsLivedDisk, LivesOn, MayReopen, TellsLived}
 use Rattle.df_theory.specs.Found.{IsFound}
 use Rattle.df_theory.specs.Units.{CopyPlace, CopyUnit}
 use Rattle.df_theory.specs.Next.{IsSameBare}
@@ -83,7 +84,8 @@ abbrev pub BeginsRaising : Told → State → Option Told → Type 0
 BeginsRaising t found later = BeginsRaisingTo (boot_fields found) t found later
 
 -- The file was found in what was shown, mended and raised, and then each copy shows the superblock that was written: so it is by each log that shows what the disk showed, and by which the file
--- may be opened, the told one or one that is begun anew there; and whatever its copies showed, by the log that is begun anew there.
+-- may be opened, the told one or one that is begun anew there; and whatever its copies showed, by the log that is begun anew there. Whatever history
+-- of damage and opens the file has, it is lived with that log at each moment, and at the end its boot is raised.
 pub record MendsAll (t : Told) (s : State) (later : Option Told) : Type 0 where
   pub found : State
   pub opened : IsImage t.shown → IsOpenedAs 2 found.file.layout t.shown found
@@ -94,8 +96,9 @@ pub record MendsAll (t : Told) (s : State) (later : Option Told) : Type 0 where
   pub over : (g : Grade) (view : View) (base : Told) → base.shown ≡ t.shown → MayOpen s.file view base → StandsFor g (unit_at s.file.layout s.file.cluster t.shown) view
       → OpensOver g view s base (told_after mending.events (did Sync base))
   pub anew : (view : View) → IsImage t.shown → IsFound (shape s.file) (unit_at s.file.layout s.file.cluster t.shown) view → AreDistinct (unit_at s.file.layout s.file.cluster t.shown) → OpensAnew view s t (told_after mending.events (begun t))
+  pub lived : (log : Log) (logs : List Log) → MayReopen s.file log logs t.shown → LivesOn s.file (add Sync log) logs (did Sync (begun t)).log (told_after mending.events (did Sync (begun t))).log
 
--- the file was found, and the disk failed within its mending or its boot update: at each moment whatever a stop leaves has the view that was found or the raised one, by each of these logs
+-- the file was found, and the disk failed within its mending or its boot update: at each moment whatever a stop leaves has the view that was found or the raised one, by each of these logs; and the history is lived with the new one
 pub record MendsPartly (layout : Layout) (t : Told) (later : Option Told) : Type 0 where
   pub found : State
   pub opened : IsOpenedAs 2 layout t.shown found
@@ -106,6 +109,7 @@ pub record MendsPartly (layout : Layout) (t : Told) (later : Option Told) : Type
       × IsSameBare view (kept (begun_state found.file base view (boot_fields found)))
   pub anew : (view : View) → IsImage t.shown → IsFound (shape found.file) (unit_at found.file.layout found.file.cluster t.shown) view → AreDistinct (unit_at found.file.layout found.file.cluster t.shown)
       → EachMoment (begun t).log (told_after mending.events (begun t)).log (StaysFound found.file view (boot_fields found))
+  pub lived : (log : Log) (logs : List Log) → MayReopen found.file log logs t.shown → EachMoment (did Sync (begun t)).log (told_after mending.events (did Sync (begun t))).log (IsLivedDisk found.file (add Sync log ∷ logs))
 
 -- it failed in the barrier, which added a sync or nothing, or in a read behind it; or within the mending
 abbrev pub StopsOpening : Layout → Told → Option Told → Type 0
@@ -125,3 +129,8 @@ TellsOpened layout told (Err e) = TellsSurvey layout told (Err e)
 abbrev pub TellsHurtOpened : Layout → Option Told → Result State OpenError → Type 0
 TellsHurtOpened layout told (Ok s) = (found : State) × (s ≡ raised_state found) × TellsHurt layout told (Ok found)
 TellsHurtOpened layout told (Err e) = TellsHurt layout told (Err e)
+
+-- and behind damage before any number of opens, so: the state behind the boot update of one that the file had since the last of them that raised its boot
+abbrev pub TellsLivedOpened : Layout → Option Told → Result State OpenError → Type 0
+TellsLivedOpened layout told (Ok s) = (found : State) × (s ≡ raised_state found) × TellsLived layout told (Ok found)
+TellsLivedOpened layout told (Err e) = TellsLived layout told (Err e)
