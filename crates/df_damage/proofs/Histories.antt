@@ -5,6 +5,8 @@ use Rattle.df_base.specs.Log as logs
 use Rattle.df_base.specs.Log.{Event, Log, Stop, Sync, Write}
 use Rattle.df_base.specs.Moments.{Extends}
 use Rattle.df_base.proofs.Laws.{extends_add}
+use Rattle.df_layout.specs.declared.layout.Layout.{Layout}
+use Rattle.df_layout.proofs.Laws.{same_layout}
 use Rattle.df_format.specs.Copies.{Content, content_at}
 use Rattle.df_format.specs.SuperRules.{IsSuper}
 use Rattle.df_format.specs.declared.superblock.SuperFields.{SuperFields}
@@ -23,6 +25,7 @@ use Rattle.df_history.specs.Histories.{IsLivedMoment, MayHurtCopies, MayStart}
 use Rattle.df_history.specs.OpenLaws.{StartsWith}
 use Rattle.df_history.proofs.Laws.{begins_law, choice_stays_law, first_grown_law, found_since_law, grown_lived_law, rest_lived_law, synced_settled}
 use Rattle.df_recovery.specs.Below.{parse_of, DataFile, Represents, State, shape}
+use Rattle.df_recovery.specs.Found.{IsLayoutShownAs}
 use Rattle.df_recovery.specs.Surveys.{IsOpenedAs}
 use Rattle.df_recovery.proofs.Laws.{same_file}
 use Rattle.df_units.specs.Bytes.{unit_at}
@@ -30,7 +33,7 @@ use Rattle.df_units.specs.Format.{format_of}
 use Rattle.df_units.specs.Meaning.{content_of, layout_of}
 use Rattle.df_units.specs.Superblocks.{AreFieldsOf}
 use Rattle.df_units.proofs.Laws.{choice_chosen, is_format, of_places, passing_is_usable, shown_checks}
-use Rattle.df_damage.specs.Histories.{BegunGoesOn, FindsSince, FirstGoesOn, FoundWasSince, HasLived, IsLivedDisk, MayReopen, RaisedGoesOn, StoppedGoesOn, units_in, units_logs}
+use Rattle.df_damage.specs.Histories.{BegunGoesOn, FindsSince, FirstGoesOn, FoundWasSince, HasLived, IsLivedDisk, LayoutStays, MayReopen, RaisedGoesOn, StoppedGoesOn, units_in, units_logs}
 
 -- ---- what an open finds
 
@@ -60,6 +63,19 @@ module _ (file : DataFile) (log : Log) (older : List Log) (image : Image) (may :
       let reference : IsReference (layout_of file.layout) (content_of c) = subst (IsReference (layout_of file.layout)) (sym from.content) from.holds.bears.sound.checkpoint.trailer.reference in
       passing_is_usable file.version file.layout file.cluster file.named (parse_of (layout_of file.layout)) c (inr may.version) (shown_checks image is.agreed.first c may.whole is.agreed.at_first) tests reference
 
+  -- its layout is the file's
+  pub own_layout : (layout : Layout) → IsLayoutShownAs 2 image layout → layout ≡ file.layout
+  own_layout layout shown =
+      let of = (rules shown.super.content shown.super.chosen).0 in
+      let is = shown.numbers in
+      let fields = sym shown.super.fields in
+      same_layout layout file.layout
+      (is.slots ∙ ap (λ (g : SuperFields). g.slots) fields ∙ of.slots)
+      (is.message_size ∙ ap (λ (g : SuperFields). g.message_size) fields ∙ of.message_size)
+      (is.clients ∙ ap (λ (g : SuperFields). g.clients) fields ∙ of.clients)
+      (is.block_size ∙ ap (λ (g : SuperFields). g.block_size) fields ∙ of.block_size)
+      (is.blocks ∙ ap (λ (g : SuperFields). g.blocks) fields ∙ of.blocks)
+
   -- so what is opened is this file
   opened_file : (s : State) → IsOpenedAs 2 file.layout image s → s.file ≡ file
   opened_file s is =
@@ -81,6 +97,9 @@ module _ (file : DataFile) (log : Log) (older : List Log) (image : Image) (may :
 
 pub found_was_since : FoundWasSince
 found_was_since file log older image s may is = found_since file log older image may s is
+
+pub lived_layout : LayoutStays
+lived_layout file log older image may layout shown = own_layout file log older image may layout shown
 
 -- ---- a later moment of a log of sectors is one of its log of units
 

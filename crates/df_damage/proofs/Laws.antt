@@ -9,7 +9,7 @@ pub use Rattle.df_damage.proofs.Answered.{answer_is_of_hurt_as}
 -- ---- where version 2 is asked for, as an open does
 pub use Rattle.df_damage.proofs.Seconds.{answer_is_of_hurt, found_is_not_refused, found_is_usable, headers_may_be_hurt, probe_is_of_hurt, two_copies_are_enough}
 -- ---- damage before any number of opens
-pub use Rattle.df_damage.proofs.Histories.{begun_goes_on, first_goes_on, found_was_since, moment_on_disk, raised_goes_on, stopped_goes_on}
+pub use Rattle.df_damage.proofs.Histories.{begun_goes_on, first_goes_on, found_was_since, lived_layout, moment_on_disk, raised_goes_on, stopped_goes_on}
 -- ---- what was written
 pub use Rattle.df_damage.proofs.Written.{had_is_written, opened_is_written}
 -- ---- logs begun anew

@@ -17,6 +17,7 @@ use Rattle.df_history.specs.Histories.{IsLived, MayHurtCopies, NoChanceOver, Was
 use Rattle.df_history.specs.OpenLaws.{BeginsHistory}
 use Rattle.df_units.specs.Bytes.{unit_at}
 use Rattle.df_units.specs.Format.{format_of}
+use Rattle.df_recovery.specs.Found.{IsLayoutShownAs}
 use Rattle.df_recovery.specs.Surveys.{IsOpenedAs}
 use Rattle.df_recovery.specs.Below.{DataFile, Represents, State, shape}
 use Rattle.df_damage.specs.Anew.{MayBegin}
@@ -77,6 +78,10 @@ pub record FindsSince (file : DataFile) (log : Log) (logs : List Log) (image : I
 -- so it is of each state that an open finds behind a history
 abbrev pub FoundWasSince : Type 0
 FoundWasSince = (file : DataFile) (log : Log) (logs : List Log) (image : Image) (s : State) → MayReopen file log logs image → IsOpenedAs 2 file.layout image s → FindsSince file log logs image s
+
+-- and a look at the copies alone finds the file's layout
+abbrev pub LayoutStays : Type 0
+LayoutStays = (file : DataFile) (log : Log) (logs : List Log) (image : Image) → MayReopen file log logs image → (shown : Layout) → IsLayoutShownAs 2 image shown → shown ≡ file.layout
 
 -- the answer of an open with rooms of the file's layout: nothing is said here of a refusal
 abbrev pub AnswersLived : DataFile → Log → List Log → Image → Result State OpenError → Type 0
