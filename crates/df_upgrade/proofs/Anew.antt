@@ -75,26 +75,26 @@ module _ (view : View) (s : Survey) (base : Told) (four : length s.chosen.member
   abbrev file : DataFile
   file = s.state.file
 
+  abbrev c : Content
+  c = view.checkpoint.content
+
+  abbrev d : Content
+  d = content_of (content_with (base_fields s.state))
+
+  abbrev headers : List Units.Units
+  headers = sector_puts s.state.headers (sectors_of file.layout s.mends)
+
   abbrev sh : Shape
   sh = shape file
 
   abbrev later : Shape
   later = shape (second file)
 
-  abbrev image : Units.Units
-  image = unit_at file.layout file.cluster base.shown
-
-  abbrev headers : List Units.Units
-  headers = sector_puts s.state.headers (sectors_of file.layout s.mends)
-
   abbrev copies : List (ℕ × Units.Units)
   copies = repaired s.state.fields 0 s.chosen.members
 
-  abbrev c : Content
-  c = view.checkpoint.content
-
-  abbrev d : Content
-  d = content_of (content_with (base_fields s.state))
+  abbrev image : Units.Units
+  image = unit_at file.layout file.cluster base.shown
 
   own_content : c ≡ content_of (content_with s.state.fields)
   own_content = content_is file view s.state.headers s.mends s.state.fields s.chosen.members (begun base) four plan whole found distinct
@@ -125,17 +125,7 @@ module _ (view : View) (s : Survey) (base : Told) (four : length s.chosen.member
       (boot_may_law sh (spelling file) image view (number_of (content_with (base_fields s.state)).checksum) (codec_of file) (omega (arith, file.layout.clients_within.1)) places found (omega (arith, unbooted)))
 
   may : MayRaise sh 2 image view (headers_in s.state.headers) headers copies d
-  may = record {
-    places = places;
-    found = found;
-    tells = planned.tells;
-    puts_headers = planned.puts_headers;
-    agreed = planned.agreed;
-    puts_copies = planned.puts_copies;
-    each_slot = planned.each_slot;
-    each_copy = planned.each_copy;
-    boot = may_boot;
-  }
+  may = record { places = places; found = found; tells = planned.tells; puts_headers = planned.puts_headers; agreed = planned.agreed; puts_copies = planned.puts_copies; each_slot = planned.each_slot; each_copy = planned.each_copy; boot = may_boot }
 
   -- ---- the law
 
