@@ -9,7 +9,7 @@ ghost use Rattle.df_top.specs.declared.mode.Mode.{Mode};
 ghost use Rattle.df_top.specs.Mode.{AsksScript, IsOfFile, IsRunnable, Means, MeansNothing, ReadsScript};
 ghost use Rattle.df_top.specs.Formats.{Formats, MakesFile};
 ghost use Rattle.df_top.specs.Hurting.{RunsOverHurt};
-ghost use Rattle.df_top.specs.Outside.{Blames, HasCauses};
+ghost use Rattle.df_top.specs.Outside.{Blames, HasCauses, around, counts};
 ghost use Rattle.df_top.specs.Run.{IsWithout, PrintsUsage, Runs};
 ghost use Rattle.df_top.specs.Upgrading.{RunsUpgrade, UpgradesOverHurt};
 ghost use Rattle.df_top.specs.Within.{WritesOwn, WritesOwnAs};
@@ -57,17 +57,11 @@ fn run_file<D: Disk, S: Source, W: Sink>(
     disk: &mut D,
 ) -> Status
     requires runnable { IsRunnable mode }
-    ensures runs { Runs mode
-        (record { told = D.told disk.old; left = S.left source.old; written = W.written sink.old })
-        (record { told = D.told disk.new; left = S.left source.new; written = W.written sink.new }) result }
+    ensures runs { Runs mode (around (D.told disk.old) (S.left source.old) (W.written sink.old)) (around (D.told disk.new) (S.left source.new) (W.written sink.new)) result }
     ensures inspects { mode ≡ Mode.Inspect → AddsPart (Sync ∷ []) (D.told disk.old) (D.told disk.new) }
     ensures unread { (ReadsScript mode → ⊥) → S.left source.new ≡ S.left source.old }
-    ensures causes { HasCauses
-        (record { disk = D.faults disk.old; source = S.faults source.old; sink = W.faults sink.old })
-        (record { disk = D.faults disk.new; source = S.faults source.new; sink = W.faults sink.new }) result }
-    ensures memory { result ≡ Status.Memory → IsWithout
-        (record { told = D.told disk.old; left = S.left source.old; written = W.written sink.old })
-        (record { told = D.told disk.new; left = S.left source.new; written = W.written sink.new }) }
+    ensures causes { HasCauses (counts (D.faults disk.old) (S.faults source.old) (W.faults sink.old)) (counts (D.faults disk.new) (S.faults source.new) (W.faults sink.new)) result }
+    ensures memory { result ≡ Status.Memory → IsWithout (around (D.told disk.old) (S.left source.old) (W.written sink.old)) (around (D.told disk.new) (S.left source.new) (W.written sink.new)) }
     ensures usage { result ≡ Status.Words → ⊥ }
 {
     let Ok(mut room) = ProbeRoom::reserve(alloc) else {
