@@ -10,6 +10,7 @@ ghost use Rattle.df_top.specs.Mode.{AsksScript, IsOfFile, IsRunnable, Means, Mea
 ghost use Rattle.df_top.specs.Formats.{Formats, MakesFile};
 ghost use Rattle.df_top.specs.Hurting.{RunsOverHurt};
 ghost use Rattle.df_top.specs.Outside.{Blames, HasCauses, around, counts};
+ghost use Rattle.df_top.specs.Reopening.{RunsOverHistory};
 ghost use Rattle.df_top.specs.Run.{IsWithout, PrintsUsage, Runs};
 ghost use Rattle.df_top.specs.Upgrading.{RunsUpgrade, UpgradesOverHurt};
 ghost use Rattle.df_top.specs.Within.{WritesOwn, WritesOwnAs};
@@ -132,6 +133,12 @@ pub fn run<D: Disk, S: Source, W: Sink>(
     // Where sectors of the file were damaged, lost or swapped before, they find a state that the file really had, or refuse it
     // because of a sector that is hurt; and a read of a script gives what is the state's own, as it was written.
     ensures hurt { (mode : Mode) → IsOfFile mode → Means (map string_bytes words.now) mode → RunsOverHurt mode
+        (record { told = D.told disk.old; left = S.left source.old; written = W.written sink.old })
+        (record { told = D.told disk.new; left = S.left source.new; written = W.written sink.new }) result }
+
+    // Where they were before other opens, too, while two superblock copies were spared before each, the state is one that the file had
+    // since the last open that raised its boot; and from the barrier on the history stays such a one at each moment.
+    ensures lived { (mode : Mode) → IsOfFile mode → Means (map string_bytes words.now) mode → RunsOverHistory mode
         (record { told = D.told disk.old; left = S.left source.old; written = W.written sink.old })
         (record { told = D.told disk.new; left = S.left source.new; written = W.written sink.new }) result }
 

@@ -4,6 +4,7 @@ ghost use Rattle.df_base.specs.Log.{Sync};
 ghost use Rattle.df_disk.specs.Adds.{AddsPart};
 ghost use Rattle.df_lines.specs.Room.{IsFresh, line_bound};
 ghost use Rattle.df_top.specs.Hurting.{ServesOverHurt};
+ghost use Rattle.df_top.specs.Reopening.{ServesOverHistory};
 ghost use Rattle.df_top.specs.declared.mode.Mode.{Mode};
 ghost use Rattle.df_top.specs.Mode.{AsksOfFile, AsksScript, Executes, IsRunnable, Means, ReadsScript};
 ghost use Rattle.df_top.specs.Outside.{Blames, EndsWithFile, HasCauses, around, counts};
@@ -123,6 +124,9 @@ pub fn serve<D: Disk, S: Source, W: Sink>(
         (record { told = D.told disk.new; left = S.left source.new; written = W.written sink.new }) result }
     ensures inspects { Means (map string_bytes words.now) Mode.Inspect → AddsPart (Sync ∷ []) (D.told disk.old) (D.told disk.new) }
     ensures hurt { (mode : Mode) → Means (map string_bytes words.now) mode → ServesOverHurt mode rooms.layout
+        (record { told = D.told disk.old; left = S.left source.old; written = W.written sink.old })
+        (record { told = D.told disk.new; left = S.left source.new; written = W.written sink.new }) result }
+    ensures lived { (mode : Mode) → Means (map string_bytes words.now) mode → ServesOverHistory mode rooms.layout
         (record { told = D.told disk.old; left = S.left source.old; written = W.written sink.old })
         (record { told = D.told disk.new; left = S.left source.new; written = W.written sink.new }) result }
     ensures within { WritesIn rooms.layout (D.told disk.old) (D.told disk.new) }
