@@ -9,7 +9,7 @@ use Rattle.df_lifetime.specs.Life.Life.{Begun, Ended, Made, Ran, Spared, Stopped
 use Rattle.df_lifetime.proofs.Lives.{every_life_goes_on}
 use Rattle.df_lifetime.proofs.Orders.{made_grew}
 
-start_stays : (file : DataFile) (first : View) (t : Told) (chapters : List Chapter) (life : Life file first t chapters) → t.log.start ≡ began_with file first t chapters life
+pub start_stays : (file : DataFile) (first : View) (t : Told) (chapters : List Chapter) (life : Life file first t chapters) → t.log.start ≡ began_with file first t chapters life
 start_stays _ _ _ _ (Made layout cluster t n makable honest word) = (made_grew layout cluster t n word.formats.0.events).2
 start_stays _ _ _ _ (Begun layout cluster t n m status changes makable honest word wanting moment there loose chance held) = moment.since.2
 start_stays _ _ _ _ (Taken file first t may) = refl

@@ -11,6 +11,7 @@ mod Done
 mod Found
 mod HurtSessions
 mod HurtLives
+mod Agains
 mod Upgrades
 mod KeptReads
 mod Alike

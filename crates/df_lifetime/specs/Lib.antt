@@ -6,3 +6,4 @@ pub mod Reads
 pub mod Hurt
 pub mod Upgraded
 pub mod Printed
+pub mod Again

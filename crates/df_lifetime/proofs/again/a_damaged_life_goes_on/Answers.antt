@@ -1,0 +1,12 @@
+-- The laws are proved.
+use Rattle.df_lifetime.proofs.Agains.{every_life_is_lived, every_open_finds_since, life_begins_anew}
+use Rattle.df_lifetime.proofs.again.a_damaged_life_goes_on.Goals as goal
+
+pub returns-clause-lived : goal.returns-clause-lived
+returns-clause-lived c = every_life_is_lived
+
+pub returns-clause-since : goal.returns-clause-since
+returns-clause-since c = every_open_finds_since
+
+pub returns-clause-anew : goal.returns-clause-anew
+returns-clause-anew c = life_begins_anew

@@ -1,0 +1,48 @@
+-- A life with damage: before any number of opens sectors of the file may be damaged, lost or swapped, and the machine may stop at any time.
+use Rattle.std.specs.Prelude.{◌≡◌, ℕ, List, [], ◌∷◌, Some}
+use Rattle.df_base.specs.Image.{Image, IsImage, changed}
+use Rattle.df_base.specs.Log.{AreLoose, Log, Stop, Sync, add, now}
+use Rattle.df_base.specs.Moments.{Extends}
+use Rattle.df_disk.specs.Adds.{AddsPart}
+use Rattle.df_disk.specs.Told.{IsHonest, Told, did}
+use Rattle.df_history.specs.Histories.{MayHurtCopies, NoChanceOver}
+use Rattle.df_history.specs.OpenLaws.{BeginsHistory}
+use Rattle.df_theory.specs.Device.{NoChanceOf}
+use Rattle.df_theory.specs.Holds.{Stands}
+use Rattle.df_theory.specs.View.{View}
+use Rattle.df_units.specs.Bytes.{unit_at}
+use Rattle.df_replica.specs.Below.{DataFile, FindsSince, IsOpened, State as Replica, begun, shape, units_logs}
+use Rattle.df_replica.specs.Serving.{format}
+use Rattle.df_top.specs.Reopening.{IsLivedFile}
+use Rattle.df_lifetime.specs.Hurt.{began_with}
+use Rattle.df_lifetime.specs.Life.{Chapter, GoesAlong, Life, Word}
+
+-- What a disk shows behind these logs of a file, whatever was done to its sectors: no unit came about by chance, and at most two superblock copies are hurt, none where the four weren't equal.
+pub record IsSpared (file : DataFile) (log : Log) (older : List Log) (image : Image) : Type 0 where
+  pub whole : IsImage image
+  pub chance : NoChanceOver (units_logs file (add Sync log ∷ older)) (unit_at file.layout file.cluster image)
+  pub copies : MayHurtCopies (unit_at file.layout file.cluster (now log)) (unit_at file.layout file.cluster image)
+
+-- The life of a file so far: which file it is, its logs behind which each next one was begun, the newest first, and what the newest of all tells.
+pub data Again : DataFile → List Log → Told → Type 0 where
+  -- a life without damage, on a disk that was empty at first, or held what an upgrade leaves
+  Once : (file : DataFile) (first : View) (b : Told) (chapters : List Chapter) (life : Life file first b chapters) → BeginsHistory (shape file) (unit_at file.layout file.cluster (began_with file first b chapters life)) → Again file [] b
+  -- then sectors were damaged, lost or swapped, or none were, and a word was run over what the disk showed, to its end or up to a moment. It wrote to the file, so its open began a log at its barrier; a word that
+  -- wrote nothing leaves a file as it was
+  Damaged : (file : DataFile) (older : List Log) (b t n p m : Told) (word : Word t n) → Again file older b → IsSpared file b.log older t.shown → (AddsPart (Sync ∷ []) (Some t) (Some n) → ⊥)
+      → Extends n.log p.log → GoesAlong (did Sync t) p (did Sync (begun t)) m → IsHonest m → Again file (add Sync b.log ∷ older) m
+  -- or the machine stopped, and left any bytes in the sectors that were loose
+  Halted : (file : DataFile) (older : List Log) (b : Told) (changes : List (ℕ × List ℕ)) → Again file older b → AreLoose b.log.events changes → NoChanceOf (format file) b.log (changed changes (now b.log)) → Again file older (did (Stop changes) b)
+
+-- whatever life a file has had, its log is safe now, whatever a stop leaves has a view, and its history is lived
+abbrev pub EveryLifeIsLived : Type 0
+EveryLifeIsLived = (file : DataFile) (older : List Log) (b : Told) → Again file older b → (file.version ≡ 2) × IsHonest b × IsLivedFile file older b.log
+
+-- So after any number of sessions, stops and damages a state that an open finds is one that the file had since the last open that raised its boot, that one's own log included.
+abbrev pub EveryOpenFindsSince : Type 0
+EveryOpenFindsSince = (file : DataFile) (older : List Log) (b : Told) (image : Image) (s : Replica) → Again file older b → IsSpared file b.log older image → IsOpened file.layout image s → FindsSince file b.log older image s
+
+-- And a life begins anew with what it finds, where each block stands that this references: all that is acknowledged from there on is found, as long as nothing more is hurt.
+abbrev pub LifeBeginsAnew : Type 0
+LifeBeginsAnew =
+    (file : DataFile) (older : List Log) (b t : Told) (s : Replica) → Again file older b → (spared : IsSpared file b.log older t.shown) → (finds : FindsSince file b.log older t.shown s) → Stands (unit_at file.layout file.cluster t.shown) finds.found → Life file finds.found (begun t) []
