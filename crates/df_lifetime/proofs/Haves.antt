@@ -26,18 +26,7 @@ leads_on : (file : DataFile) (c : Chapter) (v u x : View) → LeadsTo file c v u
 leads_on file c v u x (inl is) keeps = inl (record { none = is.none; no_answers = is.no_answers; same = keeps_on v u x is.same keeps })
 leads_on file c v u x (inr goes) keeps =
     let by = goes.1 in
-    inr (
-      goes.0,
-      record {
-        whole = by.whole;
-        found = by.found;
-        unspent = by.unspent;
-        inputs = by.inputs;
-        answers_are = by.answers_are;
-        came = by.came;
-        view = keeps_on (kept (work_after file (begun_work file c.shown v) goes.0)) u x by.view keeps;
-      },
-    )
+    inr (goes.0, record { whole = by.whole; found = by.found; unspent = by.unspent; inputs = by.inputs; answers_are = by.answers_are; came = by.came; view = keeps_on (kept (work_after file (begun_work file c.shown v) goes.0)) u x by.view keeps })
 
 pub had_on : (file : DataFile) (first : View) (chapters : List Chapter) (u x : View) → MayHave file first chapters u → KeepsView u x → MayHave file first chapters x
 had_on file first [] u x had keeps = keeps_on first u x had keeps

@@ -1,11 +1,12 @@
 // The laws by which sessions compose, and where a life begins.
-ghost use Rattle.df_lifetime.specs.Acknowledged.{AcknowledgedIsFound};
-ghost use Rattle.df_lifetime.specs.NewDisks.{NewDisksAreMadeOn};
 ghost use Rattle.df_lifetime.specs.Life.{EveryLifeGoesOn, EveryLifeIsInOrder, EveryWordGoesAlong};
+ghost use Rattle.df_lifetime.specs.Acknowledged.{AcknowledgedIsFound};
 ghost use Rattle.df_lifetime.specs.Upgraded.{DoneIsUpgraded, StoppedIsUpgraded, UpgradedBegins};
+ghost use Rattle.df_lifetime.specs.NewDisks.{NewDisksAreMadeOn};
 
 /// A life begins on a disk that was never written. Whatever life a file has had, it is in order, and the next open finds what it has
-/// come to: in it is all that was acknowledged in any of its sessions. Its log goes along with what the disk tells of each word.
+/// come to: in it is all that was acknowledged in any of its sessions. Its log goes along with what the disk tells of each word, also
+/// where the disk told more before that log began.
 pub fn sessions_compose()
     ensures begins { NewDisksAreMadeOn }
     ensures order { EveryLifeIsInOrder }
