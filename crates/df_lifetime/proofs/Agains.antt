@@ -16,8 +16,9 @@ use Rattle.df_history.specs.OpenLaws.{BeginsHistory}
 use Rattle.df_units.specs.Bytes.{unit_at}
 use Rattle.df_units.proofs.Laws.{is_format}
 use Rattle.df_replica.specs.Below.{DataFile, FindsSince, IsLivedDisk, IsOpened, MayReopen, State as Replica, begun, shape, told_after}
+use Rattle.df_replica.specs.Following.{MayOpen}
 use Rattle.df_replica.specs.Serving.{format}
-use Rattle.df_replica.proofs.Laws.{added_is_told, first_goes_on, found_was_since, layout_shown, lived_layout, stopped_goes_on}
+use Rattle.df_replica.proofs.Laws.{added_is_told, begun_may_open, first_goes_on, found_was_since, layout_shown, lived_layout, stopped_goes_on}
 use Rattle.df_session.specs.Found.{FoundFile}
 use Rattle.df_session.specs.Opened.{StopsOpening}
 use Rattle.df_top.specs.Opening.{StopsBefore}
@@ -28,13 +29,14 @@ use Rattle.df_top.specs.declared.mode.Mode.{Mode}
 use Rattle.df_top.specs.declared.mode.Mode.TheVariants.{Format, Run, Recover, Inspect, Scrub, Workload, Upgrade, Paced}
 use Rattle.df_top.specs.declared.status.Status.{Status}
 use Rattle.df_top.proofs.Laws.{runs_over_history, serves_over_history}
-use Rattle.df_lifetime.specs.Again.{Again, EveryLifeIsLived, EveryOpenFindsSince, IsSpared, LifeBeginsAnew}
+use Rattle.df_lifetime.specs.Again.{Again, EveryLifeIsLived, EveryOpenFindsSince, IsSpared, LifeBeginsAnew, RunsKeepSince, ScriptsKeepSince}
 use Rattle.df_lifetime.specs.Again.Again.{Damaged, Halted, Once}
 use Rattle.df_lifetime.specs.Hurt.{began_with}
 use Rattle.df_lifetime.specs.Life.{Chapter, GoesAlong, IsCarried, IsInOrder, Life, Word}
 use Rattle.df_lifetime.specs.Life.Life.{Taken}
 use Rattle.df_lifetime.proofs.Along.{after_along, moment_along}
 use Rattle.df_lifetime.proofs.HurtLives.{start_stays}
+use Rattle.df_lifetime.proofs.HurtSessions.{runs_keep_on, scripts_keep_on}
 use Rattle.df_lifetime.proofs.Lives.{every_life_is_in_order, left_by}
 
 abbrev IsSound : DataFile → List Log → Told → Type 0
@@ -164,3 +166,19 @@ every_open_finds_since file older b image s life spared is = found_was_since fil
 
 pub life_begins_anew : LifeBeginsAnew
 life_begins_anew file older b t s life spared finds stands = Taken file finds.found t (record { version = (every_life_is_lived file older b life).0; begins = finds.begins; stands = stands })
+
+-- ---- a session
+
+-- it may be opened by the log that is begun anew
+opens_anew : (file : DataFile) (older : List Log) (b t : Told) (s : Replica) → Again file older b → (finds : FindsSince file b.log older t.shown s) → MayOpen file finds.found (begun t)
+opens_anew file older b t s life finds = begun_may_open file finds.found t (every_life_is_lived file older b life).0 finds.begins
+
+pub scripts_keep_since : ScriptsKeepSince
+scripts_keep_since file older b t old new status pace found serves life spared =
+    let finds : FindsSince file b.log older t.shown found.found = every_open_finds_since file older b t.shown found.found life spared found.is_opened in
+    record { finds = finds; keeps = λ g stands. scripts_keep_on g file finds.found t (begun t) old new status pace found serves refl (opens_anew file older b t found.found life finds) stands }
+
+pub runs_keep_since : RunsKeepSince
+runs_keep_since file older b t old new status seed count found works life spared =
+    let finds : FindsSince file b.log older t.shown found.found = every_open_finds_since file older b t.shown found.found life spared found.is_opened in
+    record { finds = finds; keeps = λ g stands. runs_keep_on g file finds.found t (begun t) old new status seed count found works refl (opens_anew file older b t found.found life finds) stands }

@@ -12,9 +12,18 @@ use Rattle.df_theory.specs.Holds.{Stands}
 use Rattle.df_theory.specs.View.{View}
 use Rattle.df_units.specs.Bytes.{unit_at}
 use Rattle.df_replica.specs.Below.{DataFile, FindsSince, IsOpened, State as Replica, begun, shape, units_logs}
-use Rattle.df_replica.specs.Serving.{format}
+use Rattle.df_replica.specs.Serving.{Grade, StandsFor, format}
+use Rattle.df_session.specs.Begun.{begun_work}
+use Rattle.df_session.specs.Found.{FoundFile}
+use Rattle.df_session.specs.Links.{CallsMade}
+use Rattle.df_pace.specs.declared.pace.Pace.{Pace}
+use Rattle.df_top.specs.Acknowledging.{run_calls, script_calls}
+use Rattle.df_top.specs.Outside.{Outside}
 use Rattle.df_top.specs.Reopening.{IsLivedFile}
-use Rattle.df_lifetime.specs.Hurt.{began_with}
+use Rattle.df_top.specs.Run.{ServesScript}
+use Rattle.df_top.specs.Working.{WorksThrough}
+use Rattle.df_top.specs.declared.status.Status.{Status}
+use Rattle.df_lifetime.specs.Hurt.{KeepsOn, began_with}
 use Rattle.df_lifetime.specs.Life.{Chapter, GoesAlong, Life, Word}
 
 -- What a disk shows behind these logs of a file, whatever was done to its sectors: no unit came about by chance, and at most two superblock copies are hurt, none where the four weren't equal.
@@ -46,3 +55,21 @@ EveryOpenFindsSince = (file : DataFile) (older : List Log) (b : Told) (image : I
 abbrev pub LifeBeginsAnew : Type 0
 LifeBeginsAnew =
     (file : DataFile) (older : List Log) (b t : Told) (s : Replica) → Again file older b → (spared : IsSpared file b.log older t.shown) → (finds : FindsSince file b.log older t.shown s) → Stands (unit_at file.layout file.cluster t.shown) finds.found → Life file finds.found (begun t) []
+
+-- Each session keeps its file from there on, by the log that is begun anew at its open: the next open goes on from there with all that was answered, behind its end or behind a stop at any moment, as long as nothing more is hurt.
+-- At the lower grade nothing more is asked of what it found; at the higher one each block stands that this references, and stays.
+pub record KeepsSince (file : DataFile) (log : Log) (older : List Log) (t : Told) (found : FoundFile file.layout t) (c : CallsMade) : Type 0 where
+  pub finds : FindsSince file log older t.shown found.found
+  pub keeps : (g : Grade) → StandsFor g (unit_at file.layout file.cluster t.shown) finds.found → KeepsOn file g (begun_work file t.shown finds.found) (begun t) found.mending.events c
+
+-- so a script does that is served, with work beside it or with none
+abbrev pub ScriptsKeepSince : Type 0
+ScriptsKeepSince =
+    (file : DataFile) (older : List Log) (b t : Told) (old new : Outside) (status : Status) (pace : Pace) (found : FoundFile file.layout t) (serves : ServesScript pace file.layout t found old new status) → Again file older b → IsSpared file b.log older t.shown
+    → KeepsSince file b.log older t found (script_calls serves.session)
+
+-- and a generated run
+abbrev pub RunsKeepSince : Type 0
+RunsKeepSince =
+    (file : DataFile) (older : List Log) (b t : Told) (old new : Outside) (status : Status) (seed count : ℕ) (found : FoundFile file.layout t) (works : WorksThrough seed count file.layout t found old new status) → Again file older b → IsSpared file b.log older t.shown
+    → KeepsSince file b.log older t found (run_calls works.worked)
