@@ -18,7 +18,7 @@ use Rattle.df_theory.specs.Runs.{AtEach, Puts, Step, Syncs, after_steps}
 use Rattle.df_theory.specs.Shape.{Shape}
 use Rattle.df_theory.specs.Shows.{AgreesCopy}
 use Rattle.df_theory.specs.Units
-use Rattle.df_theory.specs.Units.{AnyUnit, BlockPlace, Content, CopyPlace, CopyUnit, Place, is_some, or_else}
+use Rattle.df_theory.specs.Units.{AnyUnit, BlockPlace, Content, CopyPlace, CopyUnit, Place, PreparePlace, ReplyPlace, is_some, or_else}
 use Rattle.df_theory.specs.UnitLog as units
 use Rattle.df_theory.specs.UnitLog.{UnitLog, now}
 use Rattle.df_theory.specs.Upgrades as upgrades
@@ -34,6 +34,7 @@ use Rattle.df_superblock.specs.Copies.{AreEqual}
 use Rattle.df_superblock.specs.Events.{update_events}
 use Rattle.df_superblock.specs.Steps.{repaired}
 use Rattle.df_superblock.proofs.Laws.{ends_equal}
+use Rattle.df_model.specs.Result.{AgreeReads}
 use Rattle.df_model.proofs.Laws.{boot_may_law}
 use Rattle.df_damage.specs.Anew.{IsStill, begun, told_after}
 use Rattle.df_damage.specs.Below.{DataFile, Represents, shape, spelling}
@@ -165,10 +166,17 @@ module _ (view : View) (s : Survey) (base : Told) (four : length s.chosen.member
       (λ l is each m gone chance. each (unit_at file.layout file.cluster m) (left_by l m gone) chance)
       (raise_anew_law sh 2 image view (headers_in s.state.headers) headers copies d (put_copies (base_fields s.state)) may clean)
 
-  same_blocks : (a : ℕ) → EachMoment (begun base).log end.log (λ l. (m : Image) → Log.IsLeft l m → unit_at file.layout file.cluster m (BlockPlace a) ≡ image (BlockPlace a))
-  same_blocks a =
-      at_moments (IsFirm (BlockPlace a) (image (BlockPlace a))) (λ l. (m : Image) → Log.IsLeft l m → unit_at file.layout file.cluster m (BlockPlace a) ≡ image (BlockPlace a)) (λ l is firm m gone. left_by l m gone (BlockPlace a) firm.0 ∙ firm.1)
-      (stays_firm (BlockPlace a) (image (BlockPlace a)) ss (upgrades.begun image) (raising_aside (BlockPlace a) file.layout s.state.headers s.mends s.state.fields s.chosen.members (base_fields s.state) (λ k. refl) (λ n g. refl) None) (refl, refl))
+  same_at : (place : Place) → unit_after ss place None ≡ None → EachMoment (begun base).log end.log (λ l. (m : Image) → Log.IsLeft l m → unit_at file.layout file.cluster m place ≡ image place)
+  same_at place aside =
+      at_moments (IsFirm place (image place)) (λ l. (m : Image) → Log.IsLeft l m → unit_at file.layout file.cluster m place ≡ image place) (λ l is firm m gone. left_by l m gone place firm.0 ∙ firm.1)
+      (stays_firm place (image place) ss (upgrades.begun image) aside (refl, refl))
+
+  same_reads : EachMoment (begun base).log end.log (λ l. (m : Image) → Log.IsLeft l m → AgreeReads (unit_at file.layout file.cluster m) image)
+  same_reads l moment m gone = record {
+    prepare = λ k. same_at (PreparePlace k) (raising_aside (PreparePlace k) file.layout s.state.headers s.mends s.state.fields s.chosen.members (base_fields s.state) (λ n. refl) (λ n g. refl) None) l moment m gone;
+    reply = λ k. same_at (ReplyPlace k) (raising_aside (ReplyPlace k) file.layout s.state.headers s.mends s.state.fields s.chosen.members (base_fields s.state) (λ n. refl) (λ n g. refl) None) l moment m gone;
+    block = λ a. same_at (BlockPlace a) (raising_aside (BlockPlace a) file.layout s.state.headers s.mends s.state.fields s.chosen.members (base_fields s.state) (λ n. refl) (λ n g. refl) None) l moment m gone;
+  }
 
   -- the two superblocks aren't one
   not_both : (u : Units.Units) → IsFound sh u view → Holds (of_version 2 sh) u (booted view d) → ⊥
@@ -184,12 +192,12 @@ module _ (view : View) (s : Survey) (base : Told) (four : length s.chosen.member
         (λ m gone chance. elim (have_bare l moment m gone chance) [
           | inl old ↦ inl (record {
             found = old;
-            blocks = λ a. same_blocks a l moment m gone;
+            reads = same_reads l moment m gone;
             clean = λ clean. elim (hold clean l moment m gone chance) [ inl holds ↦ clean_of sh (unit_at file.layout file.cluster m) view holds | inr raised ↦ absurd (not_both (unit_at file.layout file.cluster m) old raised.holds) ];
           })
           | inr new ↦ inr (record {
             found = new;
-            blocks = λ a. same_blocks a l moment m gone;
+            reads = same_reads l moment m gone;
             clean = λ clean. elim (hold clean l moment m gone chance) [ inl holds ↦ absurd (nor_both (unit_at file.layout file.cluster m) holds new) | inr raised ↦ clean_of later (unit_at file.layout file.cluster m) (booted view d) raised.holds ];
           })
         ]);

@@ -12,9 +12,9 @@ use Rattle.df_theory.specs.Found.{IsClean, IsFound}
 use Rattle.df_theory.specs.Holds.{IsWhole}
 use Rattle.df_theory.specs.Next.{IsSameBare, booted}
 use Rattle.df_theory.specs.Runs.{Step}
-use Rattle.df_theory.specs.Units.{BlockPlace}
 use Rattle.df_theory.specs.Upgrades.{as_version}
 use Rattle.df_theory.specs.View.{View}
+use Rattle.df_model.specs.Result.{AgreeReads}
 use Rattle.df_units.specs.Bytes.{unit_at}
 use Rattle.df_units.specs.Meaning.{content_of}
 use Rattle.df_damage.specs.Anew.{IsStill, told_after}
@@ -50,10 +50,10 @@ second file = record file { version = 2 }
 abbrev pub upgraded : View → SuperFields → View
 upgraded v d = booted v (content_of (content_with d))
 
--- the image has the view, and each block is shown that its log began with; and where it began with a clean start, the next log may begin here
+-- the image has the view, and shows at each prepare's slot, reply's slot and block what its log began with; and where it began with a clean start, the next log may begin here
 pub record Leaves (file : DataFile) (old view : View) (start image : Image) : Type 0 where
   pub found : IsFound (shape file) (unit_at file.layout file.cluster image) view
-  pub blocks : (a : ℕ) → unit_at file.layout file.cluster image (BlockPlace a) ≡ unit_at file.layout file.cluster start (BlockPlace a)
+  pub reads : AgreeReads (unit_at file.layout file.cluster image) (unit_at file.layout file.cluster start)
   pub clean : IsClean (unit_at file.layout file.cluster start) old → IsClean (unit_at file.layout file.cluster image) view
 
 -- at this moment each image that a stop may leave, none of whose units came about by chance, has the view as it was found, read by version 1, or with this superblock, read by version 2: the bare view is one
