@@ -19,6 +19,7 @@ use Rattle.df_replica.specs.Below.{DataFile, FindsSince, IsLivedDisk, IsOpened, 
 use Rattle.df_replica.specs.Following.{MayOpen}
 use Rattle.df_replica.specs.Serving.{format}
 use Rattle.df_replica.proofs.Laws.{added_is_told, begun_may_open, first_goes_on, found_was_since, layout_shown, lived_layout, stopped_goes_on}
+use Rattle.df_upgrade.specs.Upgrading.{second}
 use Rattle.df_session.specs.Found.{FoundFile}
 use Rattle.df_session.specs.Opened.{StopsOpening}
 use Rattle.df_top.specs.Opening.{StopsBefore}
@@ -29,7 +30,7 @@ use Rattle.df_top.specs.declared.mode.Mode.{Mode}
 use Rattle.df_top.specs.declared.mode.Mode.TheVariants.{Format, Run, Recover, Inspect, Scrub, Workload, Upgrade, Paced}
 use Rattle.df_top.specs.declared.status.Status.{Status}
 use Rattle.df_top.proofs.Laws.{runs_over_history, serves_over_history}
-use Rattle.df_lifetime.specs.Again.{Again, EveryLifeIsLived, EveryOpenFindsSince, IsSpared, LifeBeginsAnew, RunsKeepSince, ScriptsKeepSince}
+use Rattle.df_lifetime.specs.Again.{Again, EveryLifeIsLived, EveryOpenFindsSince, IsSpared, LifeBeginsAnew, RunsKeepSince, ScriptsKeepSince, UpgradedMayBeDamaged}
 use Rattle.df_lifetime.specs.Again.Again.{Damaged, Halted, Once}
 use Rattle.df_lifetime.specs.Hurt.{began_with}
 use Rattle.df_lifetime.specs.Life.{Chapter, GoesAlong, IsCarried, IsInOrder, Life, Word}
@@ -160,6 +161,9 @@ every_life_is_lived _ _ _ (Halted file older b changes life loose chance) =
       record { shows = λ sector i. changed changes (λ s. is.1.shows s i) sector },
       stopped_file file older b changes has.0 is.2 loose chance has.1 (λ safe. halted file older b changes has.0 is.2 (begins file older b life) loose chance has.1 safe),
     )
+
+pub upgraded_may_be_damaged : UpgradedMayBeDamaged
+upgraded_may_be_damaged file view t new = Once (second file) new.first (begun t) [] (Taken (second file) new.first t new.may) new.begins
 
 pub every_open_finds_since : EveryOpenFindsSince
 every_open_finds_since file older b image s life spared is = found_was_since file b.log older image s (may_reopen file older b image (every_life_is_lived file older b life) spared) is

@@ -11,8 +11,9 @@ mod Done
 mod Found
 mod HurtSessions
 mod HurtLives
-mod Agains
+mod Reborn
 mod Upgrades
+mod Agains
 mod KeptReads
 mod Alike
 mod OneText

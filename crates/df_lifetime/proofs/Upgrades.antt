@@ -18,6 +18,7 @@ use Rattle.df_theory.specs.Upgrades.{as_version}
 use Rattle.df_theory.specs.View.{View}
 use Rattle.df_theory.proofs.Laws.{pool_pools}
 use Rattle.df_units.specs.Bytes.{unit_at}
+use Rattle.df_model.specs.Result.{AgreeReads}
 use Rattle.df_replica.specs.Below.{AreDistinct, DataFile, State as Replica, begun, shape, told_after}
 use Rattle.df_replica.specs.Leaving.{SparesReads, image_after}
 use Rattle.df_replica.specs.Serving.{format}
@@ -33,6 +34,7 @@ use Rattle.df_lifetime.specs.Life.{GoesAlong, UpgradeWord}
 use Rattle.df_lifetime.specs.Life.Life.{Taken}
 use Rattle.df_lifetime.specs.Upgraded.{DoneIsUpgraded, IsOld, IsUpgraded, StoppedIsUpgraded, UpgradedBegins}
 use Rattle.df_lifetime.proofs.Along.{after_along, moment_along}
+use Rattle.df_lifetime.proofs.Reborn.{begins_history}
 use Rattle.df_lifetime.proofs.Files.{one_file, one_told}
 
 -- ---- blocks
@@ -55,7 +57,7 @@ distinct_left file log image chance place other x y one two =
 abbrev IsEither : DataFile → View → Image → Type 0
 IsEither file view image = (IsOld file view image × IsClean (unit_at file.layout file.cluster image) view) ⊎ IsUpgraded file view image
 
-module _ (t : Told) (s : Replica) (view : View) (old : IsOld s.file view t.shown) (es : List Event) where
+module _ (t : Told) (s : Replica) (view : View) (old : IsOld s.file view t.shown) (opened : IsOpenedAs 1 s.file.layout t.shown s) (es : List Event) where
   -- at its end
   module _ (n : Told) (is : told_after es (did Sync t) ≡ n) (anew : UpgradesAnew view s es (begun t)) (spares : (image : Image) → IsImage image → SparesReads s.file image (image_after es image)) where
     abbrev end : Told
@@ -67,22 +69,29 @@ module _ (t : Told) (s : Replica) (view : View) (old : IsOld s.file view t.shown
     shows_now : now end.log ≡ n.shown
     shows_now = (λ i sector. sym ((honest_stays es (begun t) (record { shows = λ k. refl })).shows sector) i) ∙ shown_after es (begun t) ∙ shown
 
+    -- what is there at the end
+    there : IsImage n.shown
+    there = subst IsImage shown (spares t.shown old.whole).whole
+
+    reads : AgreeReads (unit_at s.file.layout s.file.cluster n.shown) (unit_at s.file.layout s.file.cluster t.shown)
+    reads = subst (λ (image : Image). AgreeReads (unit_at s.file.layout s.file.cluster image) (unit_at s.file.layout s.file.cluster t.shown)) shown (spares t.shown old.whole).units
+
+    found : IsFound (shape (second s.file)) (unit_at s.file.layout s.file.cluster n.shown) (upgraded view (base_fields s))
+    found = subst (λ (image : Image). IsFound (shape (second s.file)) (unit_at s.file.layout s.file.cluster image) (upgraded view (base_fields s))) shows_now anew.ends.found
+
+    clean_there : IsClean (unit_at s.file.layout s.file.cluster n.shown) (upgraded view (base_fields s))
+    clean_there = subst (λ (image : Image). IsClean (unit_at s.file.layout s.file.cluster image) (upgraded view (base_fields s))) shows_now anew.ends.clean
+
     pub ends_upgraded : AreDistinct (unit_at s.file.layout s.file.cluster n.shown) → IsUpgraded s.file view n.shown
     ends_upgraded distinct = record {
       first = upgraded view (base_fields s);
       bare = anew.bare;
       may = record {
         version = refl;
-        begins = record {
-          whole = subst IsImage shown (spares t.shown old.whole).whole;
-          found = subst (λ (image : Image). IsFound (shape (second s.file)) (unit_at s.file.layout s.file.cluster image) (upgraded view (base_fields s))) shows_now anew.ends.found;
-          clean = subst (λ (image : Image). IsClean (unit_at s.file.layout s.file.cluster image) (upgraded view (base_fields s))) shows_now anew.ends.clean;
-          distinct = distinct;
-        };
-        stands =
-            subst (λ (image : Image). Stands (unit_at s.file.layout s.file.cluster image) view) shown
-            (stands_on (unit_at s.file.layout s.file.cluster (image_after es t.shown)) (unit_at s.file.layout s.file.cluster t.shown) view (λ a. (spares t.shown old.whole).units.block a) old.stands);
+        begins = record { whole = there; found = found; clean = clean_there; distinct = distinct };
+        stands = stands_on (unit_at s.file.layout s.file.cluster n.shown) (unit_at s.file.layout s.file.cluster t.shown) view reads.block old.stands;
       };
+      begins = begins_history t s view old opened n.shown there reads found clean_there;
     }
 
   -- behind a stop
@@ -96,7 +105,7 @@ module _ (t : Told) (s : Replica) (view : View) (old : IsOld s.file view t.shown
               version = old.version;
               whole = left.whole;
               found = is.found;
-              stands = stands_on (unit_at s.file.layout s.file.cluster image) (unit_at s.file.layout s.file.cluster t.shown) view is.blocks old.stands;
+              stands = stands_on (unit_at s.file.layout s.file.cluster image) (unit_at s.file.layout s.file.cluster t.shown) view is.reads.block old.stands;
               distinct = distinct_left s.file log image chance;
             },
             is.clean clean,
@@ -109,12 +118,17 @@ module _ (t : Told) (s : Replica) (view : View) (old : IsOld s.file view t.shown
             may = record {
               version = refl;
               begins = record { whole = left.whole; found = is.found; clean = is.clean clean; distinct = distinct_left s.file log image chance };
-              stands = stands_on (unit_at s.file.layout s.file.cluster image) (unit_at s.file.layout s.file.cluster t.shown) view is.blocks old.stands;
+              stands = stands_on (unit_at s.file.layout s.file.cluster image) (unit_at s.file.layout s.file.cluster t.shown) view is.reads.block old.stands;
             };
+            begins = begins_history t s view old opened image left.whole is.reads is.found (is.clean clean);
           })
     ]
 
 -- ---- the word
+
+-- with rooms of its own layout
+own_rooms : (layout : Layout) (t : Told) (s : Replica) → IsOpenedAs 1 layout t.shown s → IsOpenedAs 1 s.file.layout t.shown s
+own_rooms layout t s opened = subst (λ (l : Layout). IsOpenedAs 1 l t.shown s) (sym opened.of.layout_is) opened
 
 -- what was opened is the file
 opened_one : (file : DataFile) (view : View) (t : Told) (layout : Layout) (s : Replica) → IsOld file view t.shown → IsOpenedAs 1 layout t.shown s → s.file ≡ file
@@ -151,7 +165,7 @@ module _ (file : DataFile) (view : View) (t n : Told) (status : Status) (old : I
       let one : s.file ≡ file = opened_one file view t there.0 s old (all.opened old.whole) in
       let own : IsOld s.file view t.shown = at_file file view t s one old in
       subst (λ (f : DataFile). IsUpgraded f view n.shown) one
-      (ends_upgraded t s view own all.writes.events n (told_is all.writes.events all.writes.told) (all.anew view own.whole own.found own.distinct) all.writes.spares
+      (ends_upgraded t s view own (own_rooms there.0 t s (all.opened old.whole)) all.writes.events n (told_is all.writes.events all.writes.told) (all.anew view own.whole own.found own.distinct) all.writes.spares
       (subst (λ (f : DataFile). AreDistinct (unit_at f.layout f.cluster n.shown)) (sym one) distinct))
 
   -- ---- behind a stop
@@ -185,7 +199,7 @@ module _ (file : DataFile) (view : View) (t n : Told) (status : Status) (old : I
         let both = anew own in
         by_moments es is (λ log moment image left chance.
         subst (λ (f : DataFile). IsEither f view image) one
-        (stays_either t s view own es (subst (λ (f : DataFile). IsClean (unit_at f.layout f.cluster t.shown) view) (sym one) clean) both.1 log moment.since.2 (both.0 log moment) image left
+        (stays_either t s view own (own_rooms layout t s opened) es (subst (λ (f : DataFile). IsClean (unit_at f.layout f.cluster t.shown) view) (sym one) clean) both.1 log moment.since.2 (both.0 log moment) image left
         (subst (λ (f : DataFile). NoChanceOf (format f) log image) (sym one) chance)))
 
     comes_kept : (layout : Layout) → ComesToUpgrade layout t word.old word.new status → IsKeptBy m.log

@@ -13,6 +13,7 @@ use Rattle.df_theory.specs.View.{View}
 use Rattle.df_units.specs.Bytes.{unit_at}
 use Rattle.df_replica.specs.Below.{DataFile, FindsSince, IsOpened, State as Replica, begun, shape, units_logs}
 use Rattle.df_replica.specs.Serving.{Grade, StandsFor, format}
+use Rattle.df_upgrade.specs.Upgrading.{second}
 use Rattle.df_session.specs.Begun.{begun_work}
 use Rattle.df_session.specs.Found.{FoundFile}
 use Rattle.df_session.specs.Links.{CallsMade}
@@ -25,6 +26,7 @@ use Rattle.df_top.specs.Working.{WorksThrough}
 use Rattle.df_top.specs.declared.status.Status.{Status}
 use Rattle.df_lifetime.specs.Hurt.{KeepsOn, began_with}
 use Rattle.df_lifetime.specs.Life.{Chapter, GoesAlong, Life, Word}
+use Rattle.df_lifetime.specs.Upgraded.{IsUpgraded}
 
 -- What a disk shows behind these logs of a file, whatever was done to its sectors: no unit came about by chance, and at most two superblock copies are hurt, none where the four weren't equal.
 pub record IsSpared (file : DataFile) (log : Log) (older : List Log) (image : Image) : Type 0 where
@@ -42,6 +44,10 @@ pub data Again : DataFile → List Log → Told → Type 0 where
       → Extends n.log p.log → GoesAlong (did Sync t) p (did Sync (begun t)) m → IsHonest m → Again file (add Sync b.log ∷ older) m
   -- or the machine stopped, and left any bytes in the sectors that were loose
   Halted : (file : DataFile) (older : List Log) (b : Told) (changes : List (ℕ × List ℕ)) → Again file older b → AreLoose b.log.events changes → NoChanceOf (format file) b.log (changed changes (now b.log)) → Again file older (did (Stop changes) b)
+
+-- It may begin where the word `upgrade` ended, or was stopped and left the file of version 2.
+abbrev pub UpgradedMayBeDamaged : Type 0
+UpgradedMayBeDamaged = (file : DataFile) (view : View) (t : Told) → IsUpgraded file view t.shown → Again (second file) [] (begun t)
 
 -- whatever life a file has had, its log is safe now, whatever a stop leaves has a view, and its history is lived
 abbrev pub EveryLifeIsLived : Type 0

@@ -10,6 +10,7 @@ use Rattle.df_theory.specs.Holds.{Stands}
 use Rattle.df_theory.specs.Next.{IsSameBare}
 use Rattle.df_theory.specs.Upgrades.{as_version}
 use Rattle.df_theory.specs.View.{View}
+use Rattle.df_history.specs.OpenLaws.{BeginsHistory}
 use Rattle.df_units.specs.Bytes.{unit_at}
 use Rattle.df_replica.specs.Below.{AreDistinct, DataFile, begun, shape}
 use Rattle.df_replica.specs.Serving.{format}
@@ -26,11 +27,12 @@ pub record IsOld (file : DataFile) (view : View) (image : Image) : Type 0 where
   pub stands : Stands (unit_at file.layout file.cluster image) view
   pub distinct : AreDistinct (unit_at file.layout file.cluster image)
 
--- the file is of version 2, and may be taken so: its view is the one that the old file had, but for the boot
+-- the file is of version 2, and may be taken so: its view is the one that the old file had, but for the boot; and a history begins there, since all units are of earlier boots
 pub record IsUpgraded (file : DataFile) (view : View) (image : Image) : Type 0 where
   pub first : View
   pub bare : IsSameBare (as_version 2 view) first
   pub may : MayTake (second file) first image
+  pub begins : BeginsHistory (shape (second file)) (unit_at file.layout file.cluster image)
 
 -- where a life begins
 abbrev pub UpgradedBegins : Type 0

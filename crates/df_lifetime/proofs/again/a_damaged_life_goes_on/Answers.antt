@@ -1,6 +1,9 @@
 -- The laws are proved.
-use Rattle.df_lifetime.proofs.Agains.{every_life_is_lived, every_open_finds_since, life_begins_anew, runs_keep_since, scripts_keep_since}
+use Rattle.df_lifetime.proofs.Agains.{every_life_is_lived, every_open_finds_since, life_begins_anew, runs_keep_since, scripts_keep_since, upgraded_may_be_damaged}
 use Rattle.df_lifetime.proofs.again.a_damaged_life_goes_on.Goals as goal
+
+pub returns-clause-upgraded : goal.returns-clause-upgraded
+returns-clause-upgraded c = upgraded_may_be_damaged
 
 pub returns-clause-lived : goal.returns-clause-lived
 returns-clause-lived c = every_life_is_lived
