@@ -6,7 +6,7 @@ from typing import Optional, Union
 from . import recovery, script, units
 from .form import CLIENT_REPLIES, GRID, WAL_PREPARES, Image, Layout, Place
 from .grid import SYNC, Event, answer, refused
-from .machine import Machine, mends
+from .machine import Machine, opens
 from .script import BODY, DONE, NUMBER_OF_LINE, REFUSED, SCRIPT, WORDS, Outcome
 from .units import BLOCK, PREPARE
 
@@ -156,8 +156,7 @@ class Session:
 
     def __init__(self, data: bytes, opened: recovery.Found):
         self.machine = Machine(opened, Image(data))
-        self.events = [SYNC] + mends(opened)
-        self.machine.writes(self.events)
+        self.events = opens(opened, self.machine)
         self.rows = found(self.machine)
         # The map of the opening and that after each put or drop, with the numbers of events from which it may be found after
         # a stop, and from which it is durable.
