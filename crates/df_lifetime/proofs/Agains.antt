@@ -40,7 +40,7 @@ use Rattle.df_lifetime.proofs.HurtLives.{start_stays}
 use Rattle.df_lifetime.proofs.HurtSessions.{runs_keep_on, scripts_keep_on}
 use Rattle.df_lifetime.proofs.Lives.{every_life_is_in_order, left_by}
 
-abbrev IsSound : DataFile → List Log → Told → Type 0
+abbrev pub IsSound : DataFile → List Log → Told → Type 0
 IsSound file older b = (file.version ≡ 2) × IsHonest b × IsLivedFile file older b.log
 
 -- ---- behind a stop
@@ -76,7 +76,7 @@ halted file (before ∷ older) b changes view is first loose chance held safe = 
 
 -- ---- behind a word
 
-may_reopen : (file : DataFile) (older : List Log) (b : Told) (image : Image) → IsSound file older b → IsSpared file b.log older image → MayReopen file b.log older image
+pub may_reopen : (file : DataFile) (older : List Log) (b : Told) (image : Image) → IsSound file older b → IsSpared file b.log older image → MayReopen file b.log older image
 may_reopen file older b image is spared = record { version = is.0; lived = is.2.lived.synced; whole = spared.whole; chance = spared.chance; copies = spared.copies }
 
 abbrev OnlySynced : Told → Option Told → Type 0

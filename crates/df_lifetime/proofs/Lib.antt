@@ -14,6 +14,7 @@ mod HurtLives
 mod Reborn
 mod Upgrades
 mod Agains
+mod Others
 mod KeptReads
 mod Alike
 mod OneText

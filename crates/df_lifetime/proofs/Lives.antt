@@ -60,6 +60,19 @@ use Rattle.df_lifetime.proofs.Files.{one_file, one_told}
 use Rattle.df_lifetime.proofs.Haves.{begun_bare, had_on}
 use Rattle.df_lifetime.proofs.Orders.{Has, Order, after_barrier, goes_on, here, in_order, made_in_order, made_safe, may, none_referenced, order_of, same_moments, shows, stands_shown, synced, synced_moments, taken_in_order}
 
+-- the word `format` leaves a disk as it is whose superblock isn't blank
+pub format_spares : (layout : Layout) (cluster : ℕ) (t n : Told) (old new : Option (List ℕ)) (status : Status) → (IsUnformatted t.shown → ⊥) → Formats layout cluster (Some t) (Some n) old new status → t ≡ n
+format_spares layout cluster t n old new Done formatted made = absurd (formatted (made.0.may.blank t refl))
+format_spares layout cluster t n old new Refused formatted refuses = one_told (Some n) t n refuses.1.same refl
+format_spares layout cluster t n old new DiskFault formatted part = elim part.1 [ inl none ↦ one_told (Some n) t n none refl | inr blank ↦ absurd (formatted blank) ]
+format_spares layout cluster t n old new WriteFault formatted (inl made) = absurd (formatted (made.0.may.blank t refl))
+format_spares layout cluster t n old new WriteFault formatted (inr refuses) = one_told (Some n) t n refuses.1.same refl
+format_spares layout cluster t n old new Memory formatted nothing = one_told (Some n) t n nothing.0 refl
+format_spares layout cluster t n old new Found formatted none = absurd none
+format_spares layout cluster t n old new Words formatted none = absurd none
+format_spares layout cluster t n old new Script formatted none = absurd none
+format_spares layout cluster t n old new ReadFault formatted none = absurd none
+
 -- what a word leaves of a file's log that goes along with the disk, where it made these calls: it is honest, and in order at the end, and at each moment, by what was answered by then
 pub record Comes (file : DataFile) (first : View) (chapters : List Chapter) (calls : Option CallsMade) (t n b : Told) : Type 0 where
   pub end : Told
@@ -396,23 +409,11 @@ module _ (file : DataFile) (first : View) (chapters : List Chapter) (b : Told) (
   pub word_comes : (n : Told) (word : Word t n) → Comes file first chapters (calls_made t n word) t n b
   word_comes n word = outcome_comes word.mode word.old word.new word.status n word.from word.to (outcome_of word.mode t word.old word.new word.status word.carried word.from word.whole)
 
-  -- ---- the word `format` again
+  -- ---- the other words
 
-  pub formatted_same : (layout : Layout) (cluster : ℕ) (n : Told) (old new : Option (List ℕ)) (status : Status) → Formats layout cluster (Some t) (Some n) old new status → t ≡ n
-  formatted_same layout cluster n old new Done made = absurd (formatted (made.0.may.blank t refl))
-  formatted_same layout cluster n old new Refused refuses = one_told (Some n) t n refuses.1.same refl
-  formatted_same layout cluster n old new DiskFault part = elim part.1 [ inl none ↦ one_told (Some n) t n none refl | inr blank ↦ absurd (formatted blank) ]
-  formatted_same layout cluster n old new WriteFault (inl made) = absurd (formatted (made.0.may.blank t refl))
-  formatted_same layout cluster n old new WriteFault (inr refuses) = one_told (Some n) t n refuses.1.same refl
-  formatted_same layout cluster n old new Memory nothing = one_told (Some n) t n nothing.0 refl
-  formatted_same layout cluster n old new Found none = absurd none
-  formatted_same layout cluster n old new Words none = absurd none
-  formatted_same layout cluster n old new Script none = absurd none
-  formatted_same layout cluster n old new ReadFault none = absurd none
-
-  -- nor does an upgrade do anything to a file of version 2
+  -- neither does anything to a file of version 2
   pub other_same : (n : Told) → OtherWord t n → t ≡ n
-  other_same n (ToFormat layout cluster status word) = formatted_same layout cluster n word.old word.new status word.formats
+  other_same n (ToFormat layout cluster status word) = format_spares layout cluster t n word.old word.new status formatted word.formats
   other_same n (ToUpgrade status word) = one_told word.new.told t n (second_is_left file view t word.old word.new status is.version whole found_shown word.from word.runs ∙ word.from) word.to
 
 -- ---- a stop

@@ -29,6 +29,10 @@ use Rattle.df_top.specs.declared.status.Status.TheVariants.{Done, Memory}
 use Rattle.df_lifetime.specs.Life.{Chapter, FormatWord, IsInOrder, MayBeOpened, MayHave, MayTake}
 use Rattle.df_lifetime.proofs.Files.{one_told}
 
+-- what is there now is one of the images that a stop may leave
+pub now_left : (log : Log) → IsLog log → IsLeft log (now log)
+now_left log is = record { whole = now_is_image log.start log.events is.start is.events; kept = λ sector firm. refl }
+
 module _ (file : DataFile) (first : View) (chapters : List Chapter) where
   -- the image has a view that the file may have come to
   pub record Has (image : Image) : Type 0 where
@@ -61,9 +65,6 @@ module _ (file : DataFile) (first : View) (chapters : List Chapter) where
   }
 
   -- ---- it may be opened
-
-  now_left : (log : Log) → IsLog log → IsLeft log (now log)
-  now_left log is = record { whole = now_is_image log.start log.events is.start is.events; kept = λ sector firm. refl }
 
   module _ (t : Told) (is : IsInOrder file first chapters t) (chance : NoChanceOf (format file) t.log (now t.log)) where
     pub here : Has (now t.log)

@@ -25,7 +25,7 @@ use Rattle.df_top.specs.Run.{ServesScript}
 use Rattle.df_top.specs.Working.{WorksThrough}
 use Rattle.df_top.specs.declared.status.Status.{Status}
 use Rattle.df_lifetime.specs.Hurt.{KeepsOn, began_with}
-use Rattle.df_lifetime.specs.Life.{Chapter, GoesAlong, Life, Word}
+use Rattle.df_lifetime.specs.Life.{Chapter, GoesAlong, Life, OtherWord, Word}
 use Rattle.df_lifetime.specs.Upgraded.{IsUpgraded}
 
 -- What a disk shows behind these logs of a file, whatever was done to its sectors: no unit came about by chance, and at most two superblock copies are hurt, none where the four weren't equal.
@@ -56,6 +56,10 @@ EveryLifeIsLived = (file : DataFile) (older : List Log) (b : Told) → Again fil
 -- So after any number of sessions, stops and damages a state that an open finds is one that the file had since the last open that raised its boot, that one's own log included.
 abbrev pub EveryOpenFindsSince : Type 0
 EveryOpenFindsSince = (file : DataFile) (older : List Log) (b : Told) (image : Image) (s : Replica) → Again file older b → IsSpared file b.log older image → IsOpened file.layout image s → FindsSince file b.log older image s
+
+-- The words `format` and `upgrade` leave it as it is, whatever is hurt: nothing is written to it, and it isn't synced.
+abbrev pub OtherWordsLeaveIt : Type 0
+OtherWordsLeaveIt = (file : DataFile) (older : List Log) (b t n : Told) → Again file older b → IsSpared file b.log older t.shown → NoChanceOf (format file) b.log (now b.log) → OtherWord t n → t ≡ n
 
 -- And a life begins anew with what it finds, where each block stands that this references: all that is acknowledged from there on is found, as long as nothing more is hurt.
 abbrev pub LifeBeginsAnew : Type 0
