@@ -21,10 +21,12 @@ from tries.binary import Binary, Disagreement, expect, has_strace, require
 from tries.common import Try, same_bytes
 from tries.form import Home, Layout
 
-# How many lines one long session has, as `--lines` says; and how often it is stopped.
-LINES, STOPS = 2000, 300
+# How many lines one long session has, as `--lines` says; and how often one is stopped. A file of `large` has a gigabyte, which each stop copies.
+LINES, STOPS, STOPS_LARGE = 2000, 300, 3
 TINY = Layout(16, 4096, 1, 4096, 8)
 DISK = 5
+# No more calls of `pread64` than these are the loader's, before the program begins.
+LOADER = 10
 
 
 def key(t: Try, rows: dict) -> int:
@@ -122,7 +124,8 @@ def failing(t: Try, layout: Layout, count: int) -> None:
     t.binary.put(data)
     name = t.random.choice(("pwrite64", "fdatasync", "pread64"))
     calls = sum(event.kind == {"pwrite64": "write", "fdatasync": "sync"}.get(name, "write") for event in wanted.events)
-    got, _ = t.binary.trace(text, [f"{name}:error=EIO:when={t.random.randint(1, max(1, calls))}+"], words=("table",))
+    first = t.random.randint(1, max(1, calls)) + (LOADER if name == "pread64" else 0)
+    got, _ = t.binary.trace(text, [f"{name}:error=EIO:when={first}+"], words=("table",))
     if got.status == wanted.status:
         return
     expect("the status of a call that fails", DISK, got.status)
@@ -185,7 +188,7 @@ def main() -> int:
             for layout in (form.SMALL, form.LARGE):
                 t = Try(Random(f"{seed} {layout}"), binary, counts)
                 long(t, layout, given.lines)
-                stopped(t, layout, min(given.lines, 200 if layout == form.SMALL else 20), STOPS)
+                stopped(t, layout, min(given.lines, 200 if layout == form.SMALL else 20), STOPS if layout == form.SMALL else STOPS_LARGE)
             while time.monotonic() - start < given.seconds:
                 attempt(Try(Random(f"{seed} {number}"), binary, counts), given.lines)
                 number += 1
