@@ -23,13 +23,13 @@ from collections import Counter
 from random import Random, SystemRandom
 
 from tries import (
-    arguments, budget, bugs, checkpoints, damage, doctoring, faults, formats, hurt, long, reading, reporting, rows, scripts, stops,
-    streams, tables,
+    arguments, budget, bugs, checkpoints, damage, doctoring, faults, formats, groups, hurt, lives, long, reading, reporting, rows, scripts,
+    stops, streams, tables,
 )
 from tries.binary import Binary, Disagreement, has_strace
 from tries.common import Try
 
-PARTS = (rows, formats, scripts, damage, hurt, reading, stops, checkpoints, reporting, doctoring, streams, faults, tables,
+PARTS = (rows, formats, scripts, damage, groups, hurt, lives, reading, stops, checkpoints, reporting, doctoring, streams, faults, tables,
          budget, long)
 KINDS = {name: kind for part in PARTS for name, kind in part.KINDS.items()}
 TRACED = {"killed", "long", "lost", "stand_ins", "fault_table", *faults.KINDS}

@@ -175,6 +175,88 @@ ROWS = (
 )
 
 
+# ---- a group of three behind a tail, with what is left of each: all (A), the prepare without its header (P), its header alone (H), or
+# nothing (N); how many of its ops are found and how many of its headers are to be mended, or behind how many ops the slot is blamed.
+THREES = (
+    # Whole, with all headers, none, and one.
+    ("AAA", (3, 0)), ("PPP", (3, 3)), ("APP", (3, 2)), ("PAP", (3, 2)), ("PPA", (3, 2)),
+    # Cut, and no header of it is shown.
+    ("PPN", (0, 0)), ("PNP", (0, 0)), ("NPP", (0, 0)), ("PNN", (0, 0)), ("NPN", (0, 0)), ("NNP", (0, 0)), ("NNN", (0, 0)),
+    # Cut, and a header of it is shown: the first alone, the last alone, and others.
+    ("APN", 2), ("PPH", 2), ("AAH", 2), ("ANN", 1), ("PNA", 1), ("AHA", 1), ("HPP", 0), ("NPA", 0), ("NNH", 0), ("HHH", 0),
+)
+# The group has its headers in one sector, in two, or stands past the end of the ring.
+TAILS = (4, 14, 29)
+
+
+def tail_of(count, named):
+    """So many prepares of client 5, one after the other, of the boot before up to the op that is named; the last one's reply is stored."""
+    listed, parent = [], NONE
+    for op in range(1, count + 1):
+        listed.append(prepare(op, parent, 5, op, op - 1, BEFORE if op <= named else BOOT))
+        parent = listed[-1].checksum
+    return listed, reply(Session(5, count, count), 0, count, BOOT)
+
+
+def three_of(tail, boot):
+    """The prepares of a group behind a tail, of clients 5 to 7."""
+    head, listed, parent = len(tail), [], tail[-1].checksum
+    for at, (client, request) in enumerate(((5, head + 1), (6, 1), (7, 1))):
+        listed.append(prepare(head + 1 + at, parent, client, request, head, boot, (head + 1, head + 3)))
+        parent = listed[-1].checksum
+    return listed
+
+
+def grouped(count, named, boot, left):
+    """A file with a tail of so many ops, of which the superblock names those up to one, and what is left of a group behind it."""
+    tail, stored = tail_of(count, named)
+    three = three_of(tail, boot)
+    sums = [NONE] + [one.checksum for one in tail + three]
+    chosen = content(boot=BOOT, head=named, replies=min(named - 1, count), behind=naming(sums[named], {}))
+    forged = Forged(chosen, tail, (stored,))
+    for one, what in zip(three, left):
+        for zone in {"A": (WAL_PREPARES, WAL_HEADERS), "P": (WAL_PREPARES,), "H": (WAL_HEADERS,), "N": ()}[what]:
+            forged.unit(zone, one)
+    return forged
+
+
+def of_three(count, left, wanted):
+    """What is found of the group, as an answer."""
+    if isinstance(wanted, int):
+        return f"Damaged WalPrepares {(count + wanted + 1) % LAYOUT.slots} Blank"
+    slots = [(count + 1 + at) % LAYOUT.slots for at, what in enumerate(left) if what == "P"] if wanted[1] else []
+    return (count + wanted[0], count, mend(*((slot, "Stale") for slot in sorted(slots))))
+
+
+def sector_of_headers(forged, at=0):
+    """A sector of headers is lost."""
+    for slot in range(16 * at, 16 * at + 16):
+        forged.hurt(WAL_HEADERS, slot)
+    return forged
+
+
+def group_rows():
+    """Each of the threes behind each tail and right behind the named head; of an earlier boot; hurt; and at the named head."""
+    for count, named in [(count, 2) for count in TAILS] + [(4, 4)]:
+        for left, wanted in THREES:
+            yield f"{left} behind {count}, {named} named", grouped(count, named, BOOT, left), of_three(count, left, wanted)
+    for left, _ in THREES:
+        yield f"{left} of the boot before", grouped(14, 2, BEFORE, left), (14, 14, [])
+    all_headers = mend(*((slot, "Garbled") for slot in range(16)))
+    for op in (5, 6, 7):
+        yield f"op {op} of a settled group is hurt", grouped(4, 2, BOOT, "AAA").hurt(WAL_PREPARES, op), f"Damaged WalPrepares {op} Garbled"
+        yield (f"and all headers with it, {op}", sector_of_headers(grouped(4, 2, BOOT, "AAA").hurt(WAL_PREPARES, op)), (4, 4, all_headers))
+    yield "all headers of a group", sector_of_headers(grouped(4, 2, BOOT, "AAA")), (7, 4, all_headers)
+    yield "a header of a later op", grouped(4, 2, BOOT, "AAA").unit(WAL_HEADERS, prepare(8, NONE, 8, 1, 4, BOOT)), "Damaged WalPrepares 8 Blank"
+    older = prepare(6, NONE, 6, 1, 4, BEFORE, (5, 7))
+    yield "an older survivor in the gap", grouped(4, 2, BOOT, "PNP").unit(WAL_PREPARES, older), (4, 4, [])
+    yield "and a header is shown", grouped(4, 2, BOOT, "ANP").unit(WAL_PREPARES, older), "Damaged WalPrepares 6 Stale"
+    for left, wanted in (("AAA", (7, 4, [])), ("PPP", (7, 4, mend((5, "Stale"), (6, "Stale"), (7, "Stale")))), ("AAN", "Damaged WalPrepares 7 Blank"),
+                         ("AHA", "Damaged WalPrepares 6 Blank"), ("NNA", "Damaged WalPrepares 6 Blank")):
+        yield f"{left} at the named head", grouped(4, 7, BEFORE, left), wanted
+    yield "the named head is within the group", grouped(4, 6, BEFORE, "AAA"), "Damaged WalPrepares 6 Stale"
+
+
 def by_reader(data, version):
     """What the reader of docs/FORMAT.md finds: the refusal, or the head and the number of replies."""
     state = {}
@@ -194,15 +276,15 @@ def by_rules(data, version):
 
 
 def main():
-    wrong = 0
-    for name, forged, wanted in ROWS:
+    wrong, rows = 0, [*ROWS, *group_rows()]
+    for name, forged, wanted in rows:
         data = bytes(forged.data)
         plain = wanted if isinstance(wanted, str) else wanted[:2]
         answers = (by_reader(data, 2), by_rules(data, 2), by_reader(data, 1), by_rules(data, 1))
         if answers != (plain, wanted, "Version found 2", "Version found 2"):
             wrong += 1
             print(f"{name}: {answers} where {wanted} is wanted")
-    print(f"{len(ROWS)} rows, {wrong} wrong")
+    print(f"{len(rows)} rows, {wrong} wrong")
     return 1 if wrong else 0
 
 

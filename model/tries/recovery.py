@@ -120,9 +120,9 @@ class Rules(trailer.Trailers):
     def grouped(self, one: Unit, before: list, content: superblock.Content) -> bool:
         """Whether a prepare's group goes with those before it: it goes on with one that isn't over, and else begins one. No group
         goes past the ops that the superblock names."""
-        if before and not before[-1].ends_group():
-            return one.group() == before[-1].group()
-        return one.group()[0] == one.op and (one.op != content.pin() or one.ends_group())
+        goes_on = before and not before[-1].ends_group()
+        fits = one.group() == before[-1].group() if goes_on else one.group()[0] == one.op
+        return fits and (one.op != content.pin() or one.ends_group())
 
     def unknown(self, rings: Rings, content: superblock.Content) -> Optional[int]:
         """The greatest op that the superblock names and whose prepare isn't shown."""

@@ -8,10 +8,12 @@ pub use Rattle.df_damage.proofs.Refused.{probe_is_of_hurt_as, refusals_are_of_da
 pub use Rattle.df_damage.proofs.Answered.{answer_is_of_hurt_as}
 -- ---- where version 2 is asked for, as an open does
 pub use Rattle.df_damage.proofs.Seconds.{answer_is_of_hurt, found_is_not_refused, found_is_usable, headers_may_be_hurt, probe_is_of_hurt, two_copies_are_enough}
+-- ---- damage before any number of opens
+pub use Rattle.df_damage.proofs.Histories.{begun_goes_on, first_goes_on, found_was_since, lived_layout, moment_on_disk, raised_goes_on, stopped_goes_on}
 -- ---- what was written
 pub use Rattle.df_damage.proofs.Written.{had_is_written, opened_is_written}
 -- ---- logs begun anew
 pub use Rattle.df_damage.proofs.Begun.{added_is_told, begun_is_honest, honest_stays, same_goes_on, stops_alike}
 pub use Rattle.df_damage.proofs.Started.{hurt_may_begin}
 -- ---- what an open finds
-pub use Rattle.df_recovery.proofs.Laws.{asked_noted, boot_made, boot_may_record, course_on, filter_more, head_found, level_beyond, numbered_by, one_super, recorded_content, recorded_is_super, second_super, same_file, slot_mends_more, super_as, super_is_written, super_is_written_as, written_as, written_is}
+pub use Rattle.df_recovery.proofs.Laws.{asked_noted, boot_made, boot_may_record, course_on, filter_more, found_awaits, found_ends, head_found, level_beyond, numbered_by, numbers_as, one_super, recorded_content, recorded_is_super, second_as, second_super, same_file, slot_mends_more, super_as, super_is_written, super_is_written_as, written_as, written_is}

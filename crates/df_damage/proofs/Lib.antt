@@ -15,4 +15,5 @@ pub mod Started
 pub mod Answered
 pub mod Left
 pub mod Seconds
+pub mod Histories
 pub mod Laws

@@ -8,6 +8,7 @@ pub mod Openings
 pub mod Refusals
 pub mod Written
 pub mod Answers
+pub mod Histories
 pub mod Types
 pub use Rattle.df_recovery.specs.Below
 pub use Rattle.df_recovery.specs.Checkpoints

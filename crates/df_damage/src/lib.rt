@@ -4,6 +4,7 @@
 
 mod anew;
 mod disks;
+mod lived;
 mod needed;
 mod opening;
 mod refusing;
@@ -16,6 +17,7 @@ pub use df_recovery::{
     survey_version, waiting_of,
 };
 pub use disks::what_is_left_may_be_hurt;
+pub use lived::{found_state_was_had_since, history_goes_on};
 pub use needed::needed_units_were_written;
 pub use opening::{
     answer_is_of_hurt, checkpoint_stays, found_state_was_had, headers_are_not_needed, headers_tell,

@@ -5,7 +5,7 @@ use Rattle.df_theory.specs.Units.{BlockPlace, BlockUnit, Content, CopyPlace, Cop
 use Rattle.df_theory.specs.Tails.{Chain, In, last_checksum, last_mark}
 use Rattle.df_theory.specs.Shape.{Shape}
 use Rattle.df_theory.specs.Copies.{rank_of}
-use Rattle.df_theory.specs.View.{View, boot_of, head, sessions}
+use Rattle.df_theory.specs.View.{View, boot_of, head}
 use Rattle.df_theory.specs.Holds.{IsNamed, Sound}
 use Rattle.df_theory.specs.HistoryLaws.{AreDistinct, ShowsSettled}
 use Rattle.df_theory.specs.Found.{IsFound}

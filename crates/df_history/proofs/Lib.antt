@@ -7,6 +7,8 @@ pub mod Mores
 pub mod Since
 pub mod Moments
 pub mod Mendings
+pub mod Awakened
+pub mod Laws
 pub mod Samples
 pub mod Passed
 pub mod Thrice

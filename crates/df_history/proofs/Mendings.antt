@@ -1,22 +1,18 @@
--- An open at each of its moments.
-use Rattle.std.proofs.Common.{◌≡◌, inl, inr, ℕ, ◌+◌, ◌<◌, List, [], ◌∷◌, ◌++◌, Some, refl, sym, ◌∙◌, ap, subst, arith}
-use Rattle.df_theory.specs.CopyPuts.{update_steps}
+-- A mending at each of its moments.
+use Rattle.std.proofs.Common.{◌≡◌, inl, inr, ℕ, ◌<◌, List, [], ◌∷◌, Some, refl, sym, ◌∙◌, subst}
 use Rattle.df_theory.specs.Units.{CopyPlace, CopyUnit, Header, Units}
 use Rattle.df_theory.specs.Shape.{Shape}
 use Rattle.df_theory.specs.View.{View, boot_of}
 use Rattle.df_theory.specs.Holds.{Holds}
-use Rattle.df_theory.specs.Next.{IsSameBare, booted}
-use Rattle.df_theory.specs.UnitLog.{Synced, UnitLog, add, now, settled, wrote}
-use Rattle.df_theory.specs.Grown.{Grows, IsSafe}
+use Rattle.df_theory.specs.Next.{IsSameBare}
+use Rattle.df_theory.specs.UnitLog.{Synced, UnitLog, add, now, wrote}
 use Rattle.df_theory.specs.Rests.{IsDry, IsGoodLog, IsQuiet, RestsOn}
 use Rattle.df_theory.specs.Runs.{AtEach, Puts, Step, Syncs, after_steps}
 use Rattle.df_theory.specs.MakingLaws.{all_puts}
 use Rattle.df_theory.specs.MendLaws.{AllPutCopy, AllPutTable, MayMend, copy_steps, header_steps, mend_steps}
-use Rattle.df_theory.proofs.Laws.{after_append, copy_law, each_append, each_weaker, good_rests, header_law, mend_law, mends_whole_law, put_else, quiet_synced, one_view, IsUnderWay, half_way, header_steps_miss, is_mend, missed, under_way_still, dry_copies, dry_headers}
-use Rattle.df_history.specs.Histories.{GrowsOn, IsBegunAnew, IsLived, IsLivedMoment, all_settled}
-use Rattle.df_history.proofs.Joins.{on_holds}
-use Rattle.df_history.specs.OpenLaws.{MendLivedLaw, OpenLivedLaw}
-use Rattle.df_history.proofs.Moments.{none_mend, IsAsleepMoment, asleep_steps, awake_steps, begins_law, boot_lived_law, one_bare, rests_asleep}
+use Rattle.df_theory.proofs.Laws.{after_append, copy_law, each_append, each_weaker, good_rests, header_law, put_else, quiet_synced, IsUnderWay, half_way, header_steps_miss, is_mend, missed, under_way_still, dry_copies, dry_headers}
+use Rattle.df_history.specs.OpenLaws.{MendLivedLaw}
+use Rattle.df_history.proofs.Moments.{none_mend, IsAsleepMoment, asleep_steps, one_bare, rests_asleep}
 
 -- ---- the mending: at each moment each image left has the view, and the image as it is now has it
 
@@ -60,48 +56,17 @@ mend_lived_law sh log before logs w table headers copies lived may =
     asleep_steps sh before logs lived.1 (boot_of lived.0.view) (λ x. x ≡ w) bare (mend_steps headers copies) log (none_mend table headers w.checkpoint.content may.agreed.first may.agreed.second copies may.puts_headers may.puts_copies) (rests_asleep sh log before logs lived (λ x. x ≡ w) bare w may.rests refl)
     (each_weaker (GoodNow sh w) (IsAsleepMoment sh before logs lived.1 (boot_of lived.0.view) (λ x. x ≡ w) bare) of (mend_steps headers copies) log (mend_now sh log w table headers copies may))
 
--- ---- both
+-- ---- what follows a run of steps
 
 pub each_last : (P : UnitLog → Type 0) (ss : List Step) (log : UnitLog) → AtEach P log ss → P (after_steps ss log)
 each_last P [] log at = at
 each_last P ((Puts put) ∷ ss) log at = each_last P ss (wrote put log) at.1
 each_last P (Syncs ∷ ss) log at = each_last P ss (add Synced log) at.1
 
-dry_mend : (hs : List Units) (ks : List (ℕ × Units)) (log : UnitLog) → IsDry log → IsDry (after_steps (mend_steps hs ks) log)
+pub dry_mend : (hs : List Units) (ks : List (ℕ × Units)) (log : UnitLog) → IsDry log → IsDry (after_steps (mend_steps hs ks) log)
 dry_mend hs ks log dry = subst IsDry (sym (after_append (header_steps hs) (copy_steps ks) log)) (dry_copies ks (after_steps (header_steps hs) log) (dry_headers hs log dry))
 
-start_same : (ss : List Step) (log : UnitLog) → (after_steps ss log).start ≡ log.start
+pub start_same : (ss : List Step) (log : UnitLog) → (after_steps ss log).start ≡ log.start
 start_same [] log = refl
 start_same ((Puts put) ∷ ss) log = start_same ss (wrote put log)
 start_same (Syncs ∷ ss) log = start_same ss (add Synced log)
-
-pub open_lived_law : OpenLivedLaw
-open_lived_law sh log logs shown w lived may places f table headers copies d puts opening =
-    let new : UnitLog = record { start = shown; events = [] } in
-    let begins = begins_law sh log logs shown w lived may places f in
-    let mends = mend_law sh new w table headers copies opening.may_mend in
-    let mended : UnitLog = after_steps (mend_steps headers copies) new in
-    let moments = mend_lived_law sh new log logs w table headers copies begins.1.lived opening.may_mend in
-    let lived_mended : IsLived sh (mended ∷ log ∷ logs) = (each_last (IsLivedMoment sh (log ∷ logs)) (mend_steps headers copies) new moments).lived in
-    let boots = boot_lived_law sh mended log logs w d puts lived_mended mends.1 (dry_mend headers copies new (λ place. refl)) opening.may_boot (mends_whole_law sh new w table headers copies opening.may_mend).copies in
-    let done : UnitLog = after_steps (update_steps puts) mended in
-    let same : after_steps (mend_steps headers copies ++ update_steps puts) new ≡ done = after_append (mend_steps headers copies) (update_steps puts) new in
-    let lived_done : IsLived sh (done ∷ log ∷ logs) = (each_last (IsLivedMoment sh (log ∷ logs)) (update_steps puts) mended boots.0).lived in (
-      each_append (IsLivedMoment sh (log ∷ logs)) (mend_steps headers copies) (update_steps puts) new moments boots.0,
-      subst (λ (l : UnitLog). RestsOn sh l (booted w d)) (sym same) boots.1,
-      boots.2,
-      λ ss at. subst (λ (l : UnitLog). AtEach (IsLivedMoment sh (log ∷ logs)) l ss) (sym same) (awake_steps sh log logs lived ss done (record {
-        begun = lived_done.0;
-        above = above done (booted w d) lived_done.0 boots.1 (start_boot done lived_done.0 (start_same (update_steps puts) mended ∙ start_same (mend_steps headers copies) new) begins.0.holds) (sym opening.may_boot.is.boot);
-      }) (subst (λ (l : UnitLog). AtEach (IsSafe sh) l ss) same at)),
-    )
-  where
-    head_is : (images : List Units) (x y : View) → GrowsOn sh (all_settled (log ∷ logs)) images x → Grows sh images y → x ≡ y
-    head_is [] x y one two = absurd one
-    head_is (i ∷ images) x y one two = one_view sh i x y (on_holds sh (all_settled (log ∷ logs)) i images x one) two.0
-
-    start_boot : (l : UnitLog) (begun : IsBegunAnew sh l log logs) → l.start ≡ shown → Holds sh shown w → boot_of begun.view ≡ boot_of w
-    start_boot l begun is holds = ap boot_of (one_view sh shown begun.view w (subst (λ (i : Units). Holds sh i begun.view) is begun.holds) holds)
-
-    above : (l : UnitLog) (u : View) (begun : IsBegunAnew sh l log logs) → RestsOn sh l u → boot_of begun.view ≡ boot_of w → boot_of w + 1 ≡ boot_of u → boot_of begun.view < boot_of begun.newest
-    above l u begun rests from raised = omega (arith, ap boot_of (head_is (settled l) begun.newest u begun.grows rests.grows))

@@ -17,11 +17,11 @@ use Rattle.df_theory.specs.MendLaws.{AllPutCopy, AllPutTable, copy_steps, header
 use Rattle.df_theory.specs.Runs.{AtEach, Puts, Step, Syncs}
 use Rattle.df_theory.proofs.Laws.{boot_law, clean_start_law, rests_holds, rests_safe, one_view, no_choice}
 use Rattle.df_history.specs.Lives.{Starts}
-use Rattle.df_history.specs.Histories.{Among, GrowsOn, IsBegunAnew, IsFirstLog, IsLived, IsLivedMoment, MayStart, StaysBare, all_settled}
-use Rattle.df_history.specs.OpenLaws.{AwakeLivedLaw, BeginsLaw, BootLivedLaw, FirstLivedLaw, RestLivedLaw}
+use Rattle.df_history.specs.Histories.{Among, GrowsOn, IsFirstLog, IsLived, IsLivedMoment, MayStart, StaysBare, all_settled}
+use Rattle.df_history.specs.OpenLaws.{BeginsLaw, BootLivedLaw, FirstGrownLaw, FirstLivedLaw, RestLivedLaw}
 use Rattle.df_history.proofs.Joins.{EndsWith, on_holds, settled_ends}
-use Rattle.df_history.proofs.Mores.{AreShown, grows_more, more_boot}
-use Rattle.df_history.proofs.Since.{among_low, next_clean, old_boots}
+use Rattle.df_history.proofs.Mores.{AreShown, grows_more}
+use Rattle.df_history.proofs.Since.{among_low, choice_stays_law, old_boots}
 
 pub same_bare : (v : View) → IsSameBare v v
 same_bare v = record {
@@ -34,27 +34,27 @@ same_bare v = record {
 }
 
 -- the oldest of the images is among them
-ends_among : (images : List Units) (start : Units) → EndsWith images start → Among images start
+pub ends_among : (images : List Units) (start : Units) → EndsWith images start → Among images start
 ends_among [] start ends = ends
 ends_among (i ∷ []) start ends = inl (sym ends)
 ends_among (i ∷ j ∷ images) start ends = inr (ends_among (j ∷ images) start ends)
 
-start_among : (log : UnitLog) → Among (settled log) log.start
+pub start_among : (log : UnitLog) → Among (settled log) log.start
 start_among log = ends_among (settled log) log.start (settled_ends log.start log.events)
 
-made_choice : (c : Content) (images : List Units) → AreMade c images → (i : Units) → Among images i → (sh : Shape) (v : View) → Holds sh i v → ⊥
+pub made_choice : (c : Content) (images : List Units) → AreMade c images → (i : Units) → Among images i → (sh : Shape) (v : View) → Holds sh i v → ⊥
 made_choice c [] made i among sh v holds = made
 made_choice c (image ∷ images) made i (inl is) sh v holds = no_choice c image images made v.checkpoint.content (subst (λ (j : Units). Holds sh j v) is holds).chosen.agreed
 made_choice c (image ∷ []) made i (inr none) sh v holds = none
 made_choice c (image ∷ before ∷ images) made i (inr there) sh v holds = made_choice c (before ∷ images) made.2 i there sh v holds
 
 -- a log that was begun at a view has grown to one
-record HasOne (sh : Shape) (log : UnitLog) : Type 0 where
+pub record HasOne (sh : Shape) (log : UnitLog) : Type 0 where
   pub view : View
   pub grows : Grows sh (settled log) view
   pub fair : AreFair log.start log.events
 
-grown_one : (sh : Shape) (log : UnitLog) (v : View) → Holds sh log.start v → Grown sh log → HasOne sh log
+pub grown_one : (sh : Shape) (log : UnitLog) (v : View) → Holds sh log.start v → Grown sh log → HasOne sh log
 grown_one sh log v holds (inl grown) = record { view = grown.0; grows = grown.1.grows; fair = grown.1.fair }
 grown_one sh log v holds (inr (c, made)) = absurd (made_choice c (settled log) made.made log.start (start_among log) sh v holds)
 
@@ -238,69 +238,6 @@ module _ (sh : Shape) (before : UnitLog) (logs : List UnitLog) (lived : IsLived 
   asleep_steps ((Puts put) ∷ ss) log none is at = (asleep_moment log is at.0, asleep_steps ss (wrote put log) none.1 (asleep_put log is put none.0) at.1)
   asleep_steps (Syncs ∷ ss) log none is at = (asleep_moment log is at.0, asleep_steps ss (add Synced log) none (asleep_sync log is at.0.has at.0.safe.synced) at.1)
 
--- ---- awake
-
-module _ (sh : Shape) (before : UnitLog) (logs : List UnitLog) (lived : IsLived sh (before ∷ logs)) where
-  awake_stays : (b : ℕ) (images : List Units) (v : View) → GrowsOn sh (all_settled (before ∷ logs)) images v → b < boot_of v → StaysBare sh b images → (j : Units) → StaysBare sh b (j ∷ images)
-  awake_stays b [] v grows above stays j = tt
-  awake_stays b (i ∷ images) v grows above stays j = ((λ u w at_i at_j boot. absurd (omega (arith, ap boot_of (one_view sh i u v at_i (on_holds sh (all_settled (before ∷ logs)) i images v grows))))), stays)
-
-  -- awake
-  pub record IsAwake (log : UnitLog) : Type 0 where
-    pub begun : IsBegunAnew sh log before logs
-    pub above : boot_of begun.view < boot_of begun.newest
-
-  awake_more : (log : UnitLog) (is : IsAwake log) → (j : Units) (v : View) → Grows sh (j ∷ settled log) v → GrowsOn sh (all_settled (before ∷ logs)) (j ∷ settled log) v × (boot_of is.begun.view < boot_of v)
-  awake_more log is j v grows =
-      let up = more_boot sh (all_settled (before ∷ logs)) (settled log) j is.begun.newest v is.begun.grows grows in
-      let above : boot_of is.begun.view < boot_of v = omega (arith, is.above, up) in
-      (grows_more sh (all_settled (before ∷ logs)) (settled log) (boot_of is.begun.view) j is.begun.newest v is.begun.grows grows (old_boots sh before logs log.start is.begun.view lived is.begun.start is.begun.holds) (inl is.above) (inl above), above)
-
-  awake_sync : (log : UnitLog) → IsAwake log → Grown sh (add Synced log) → IsAwake (add Synced log)
-  awake_sync log is grown =
-      let g = grown_one sh (add Synced log) is.begun.view is.begun.holds grown in
-      let more = awake_more log is (now log) g.view g.grows in
-      record {
-        begun = record { start = is.begun.start; view = is.begun.view; holds = is.begun.holds; newest = g.view; fair = g.fair; grows = more.0; stays = awake_stays (boot_of is.begun.view) (settled log) is.begun.newest is.begun.grows is.above is.begun.stays (now log) };
-        above = more.1;
-      }
-
-  awake_stop : (log : UnitLog) → IsAwake log → (image : Units) → Grown sh (add (Stopped image) log) → IsAwake (add (Stopped image) log)
-  awake_stop log is image grown =
-      let g = grown_one sh (add (Stopped image) log) is.begun.view is.begun.holds grown in
-      let more = awake_more log is image g.view g.grows in
-      record {
-        begun = record { start = is.begun.start; view = is.begun.view; holds = is.begun.holds; newest = g.view; fair = g.fair; grows = more.0; stays = awake_stays (boot_of is.begun.view) (settled log) is.begun.newest is.begun.grows is.above is.begun.stays image };
-        above = more.1;
-      }
-
-  awake_put : (log : UnitLog) → IsAwake log → (put : Units) → Grown sh (wrote put log) → IsAwake (wrote put log)
-  awake_put log is put grown =
-      let g = grown_one sh (wrote put log) is.begun.view is.begun.holds grown in
-      record {
-        begun = record { start = is.begun.start; view = is.begun.view; holds = is.begun.holds; newest = is.begun.newest; fair = g.fair; grows = is.begun.grows; stays = is.begun.stays };
-        above = is.above;
-      }
-
-  awake_moment : (log : UnitLog) → IsAwake log → IsSafe sh log → IsLivedMoment sh (before ∷ logs) log
-  awake_moment log is safe = record {
-    lived = (is.begun, lived);
-    synced = ((awake_sync log is safe.synced).begun, lived);
-    stopped = λ image left chance. ((awake_stop log is image (safe.stopped image left chance)).begun, lived);
-  }
-
-  first_safe : (ss : List Step) (log : UnitLog) → AtEach (IsSafe sh) log ss → IsSafe sh log
-  first_safe [] log at = at
-  first_safe (s ∷ ss) log at = at.0
-
-  pub awake_steps : (ss : List Step) (log : UnitLog) → IsAwake log → AtEach (IsSafe sh) log ss → AtEach (IsLivedMoment sh (before ∷ logs)) log ss
-  awake_steps [] log is at = awake_moment log is at
-  awake_steps ((Puts put) ∷ ss) log is at = (awake_moment log is at.0, awake_steps ss (wrote put log) (awake_put log is put (first_safe ss (wrote put log) at.1).grown) at.1)
-  awake_steps (Syncs ∷ ss) log is at = (awake_moment log is at.0, awake_steps ss (add Synced log) (awake_sync log is at.0.synced) at.1)
-
-pub awake_lived_law : AwakeLivedLaw
-awake_lived_law sh log before logs begun lived above ss at = awake_steps sh before logs lived ss log (record { begun = begun; above = above }) at
-
 -- ---- the start
 
 pub one_bare : (w x y : View) → x ≡ w → y ≡ w → IsSameBare x y
@@ -308,7 +245,7 @@ one_bare w x y is_x is_y = subst (λ (z : View). IsSameBare z y) (sym is_x) (sub
 
 pub begins_law : BeginsLaw
 begins_law sh log logs shown w lived may places f =
-    let clean = next_clean sh log logs shown w lived may f.chosen in
+    let clean = (choice_stays_law sh log logs shown w.checkpoint.content lived may f.chosen).clean w refl in
     let rests = clean_start_law sh shown w places f clean in (
       rests,
       asleep_moment sh log logs lived (boot_of w) (λ x. x ≡ w) (λ x y is_x is_y boot. one_bare w x y is_x is_y) (record { start = shown; events = [] })
@@ -391,6 +328,9 @@ first_of_grown : (sh : Shape) (log : UnitLog) (start : Units) → log.start ≡ 
 first_of_grown sh log start is grown (inl blank) = inl (grown, λ place. ap (λ (i : Units). i place) is ∙ blank place)
 first_of_grown sh log start is (inl grown) (inr (w, holds, starts)) = inr (w, grown.0, subst (λ (i : Units). Holds sh i w) (sym is) holds, subst (λ (i : Units). Starts i [] w) (sym is) starts, grown.1)
 first_of_grown sh log start is (inr (c, made)) (inr (w, holds, starts)) = absurd (made_choice c (settled log) made.made log.start (start_among log) sh w (subst (λ (i : Units). Holds sh i w) (sym is) holds))
+
+pub first_grown_law : FirstGrownLaw
+first_grown_law sh log grown start = first_of_grown sh log log.start refl grown start
 
 pub first_lived_law : FirstLivedLaw
 first_lived_law sh log safe start = record {

@@ -5,7 +5,7 @@ use Rattle.df_theory.specs.Trailer.{no_parts}
 use Rattle.df_theory.specs.View.{View}
 use Rattle.df_theory.specs.Next.{appended}
 use Rattle.df_theory.specs.Holds.{Holds}
-use Rattle.df_theory.specs.UnitLog.{IsLeftBy, Stopped, Synced, UnitLog, add, loose, now, settled, wrote}
+use Rattle.df_theory.specs.UnitLog.{IsLeftBy, Stopped, Synced, UnitLog, add, now, settled, wrote}
 use Rattle.df_theory.specs.Chance.{NoChance}
 use Rattle.df_theory.specs.Grown.{IsClear, IsSafe}
 use Rattle.df_theory.specs.Rests.{IsGoodLog, RestsOn}

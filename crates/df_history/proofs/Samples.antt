@@ -21,7 +21,8 @@ use Rattle.df_theory.proofs.Laws.{anew_law, append_law, each_weaker, put_one_law
 use Rattle.df_history.specs.Histories.{InHistoryPool, InHistoryPools, IsLived, IsLivedMoment, IsSettled, MayHurtCopies, MayStart}
 use Rattle.df_history.specs.OpenLaws.{IsOpening}
 use Rattle.df_history.specs.Sample.{HistorySampleLaw}
-use Rattle.df_history.proofs.Mendings.{each_last, open_lived_law}
+use Rattle.df_history.proofs.Awakened.{open_lived_law}
+use Rattle.df_history.proofs.Mendings.{each_last}
 use Rattle.df_history.proofs.Since.{found_since_law, synced_settled}
 
 abbrev pub shape : Shape

@@ -15,7 +15,7 @@ use Rattle.df_theory.specs.Found.{IsClean}
 use Rattle.df_theory.proofs.Laws.{one_chosen, one_view, next_grew, pool_pools, no_choice}
 use Rattle.df_history.specs.Lives.{Asleep, Awake, Lived, Lives, Turn}
 use Rattle.df_history.specs.Histories.{Among, GrowsOn, InHistoryPool, InHistoryPools, IsBegunAnew, IsFirstLog, IsLived, IsSettled, MayHurtCopies, MayStart, WasSince, all_settled}
-use Rattle.df_history.specs.OpenLaws.{FoundSinceLaw}
+use Rattle.df_history.specs.OpenLaws.{ChoiceStaysLaw, FoundSinceLaw}
 use Rattle.df_history.proofs.Steps.{first_low, lived_base, lived_low, lived_self, lives_boot}
 use Rattle.df_history.proofs.Mores.{AreOld}
 use Rattle.df_history.proofs.Born.{settled_content}
@@ -212,11 +212,18 @@ pub next_content : (sh : Shape) (log : UnitLog) (logs : List UnitLog) (image : U
 next_content sh log logs image c lived may chosen h =
     content_kept sh (all_settled (log ∷ logs)) h.view h.turn h.lives (now log) (newest_holds sh log (all_settled logs) h.view h.turn may.settled_is h.lives) image may.copies (start_shows sh log logs image lived may) c chosen
 
-pub next_clean : (sh : Shape) (log : UnitLog) (logs : List UnitLog) (image : Units) (w : View) → IsLived sh (log ∷ logs) → MayStart log logs image → IsChosen image w.checkpoint.content → IsClean image w
-next_clean sh log logs image w lived may chosen =
-    let h = has_lives sh log logs image w.checkpoint.content lived may chosen in
-    start_clean sh (all_settled (log ∷ logs)) h.view h.turn h.lives (now log) (newest_holds sh log (all_settled logs) h.view h.turn may.settled_is h.lives) image may.copies (start_shows sh log logs image lived may) w
-    (next_content sh log logs image w.checkpoint.content lived may chosen h)
+pub choice_stays_law : ChoiceStaysLaw
+choice_stays_law sh log logs image c lived may chosen =
+    let h = has_lives sh log logs image c lived may chosen in
+    let now_holds = newest_holds sh log (all_settled logs) h.view h.turn may.settled_is h.lives in
+    let same = next_content sh log logs image c lived may chosen h in
+    record {
+      view = h.view;
+      holds = now_holds;
+      content = same;
+      clean = λ w is. start_clean sh (all_settled (log ∷ logs)) h.view h.turn h.lives (now log) now_holds image may.copies (start_shows sh log logs image lived may) w (is ∙ same);
+      distinct = λ place other x y one two. start_distinct log logs image may place other x y (start_shows sh log logs image lived may place x one) (start_shows sh log logs image lived may other y two);
+    }
 
 pub found_since_law : FoundSinceLaw
 found_since_law sh log logs shown w lived may f =

@@ -19,7 +19,8 @@ use Rattle.df_theory.proofs.Laws.{anew_law, each_weaker, four, hurt_law, put_one
 use Rattle.df_history.specs.Histories.{InHistoryPool, InHistoryPools, IsLived, IsLivedMoment, IsSettled, MayStart}
 use Rattle.df_history.specs.OpenLaws.{IsOpening}
 use Rattle.df_history.specs.Sample.{IsReopened, ThriceSampleLaw, opened}
-use Rattle.df_history.proofs.Mendings.{each_last, open_lived_law}
+use Rattle.df_history.proofs.Awakened.{open_lived_law}
+use Rattle.df_history.proofs.Mendings.{each_last}
 use Rattle.df_history.proofs.Since.{found_since_law, synced_settled}
 use Rattle.df_history.proofs.Samples.{AreOurs, IsOurs, append_ours, append_steps, appends, appends_to, booted1, booted1_ours, clear_of, content, distinct, first, found2, in_range, lived2, made, made_ours, of_copy, opened2, opening2, pinned, places2, pools_ours, prepare, renewed, second, second_ours, shape, shown, start2, third}
 

@@ -1,23 +1,36 @@
 -- What an open gives behind damage before any number of opens, and that the history goes on.
 use Rattle.std.specs.Prelude.{◌≡◌, ◌⊎◌, ◌<◌, ℕ, List, [], ◌∷◌, ◌++◌, Some, None}
 use Rattle.df_theory.specs.CopyPuts.{PutsCopies, update_steps}
-use Rattle.df_theory.specs.Units.{Content, CopyPlace, CopyUnit, Header, Place, Units}
+use Rattle.df_theory.specs.Units.{AnyUnit, Content, CopyPlace, CopyUnit, Header, Place, Units}
 use Rattle.df_theory.specs.Shape.{Shape}
+use Rattle.df_theory.specs.Copies.{IsChosen}
 use Rattle.df_theory.specs.View.{View, boot_of}
 use Rattle.df_theory.specs.Holds.{Holds}
 use Rattle.df_theory.specs.Next.{IsSameBare, MayBoot, booted}
 use Rattle.df_theory.specs.UnitLog.{UnitLog, now}
-use Rattle.df_theory.specs.Grown.{IsSafe}
+use Rattle.df_theory.specs.Chance.{Distinct}
+use Rattle.df_theory.specs.Grown.{Grown, IsSafe}
 use Rattle.df_theory.specs.Rests.{IsDry, RestsOn}
 use Rattle.df_theory.specs.Runs.{AtEach, Step, after_steps}
 use Rattle.df_theory.specs.MendLaws.{MayMend, mend_steps}
-use Rattle.df_theory.specs.Found.{AreOfPlaces, IsFound}
+use Rattle.df_theory.specs.Found.{AreOfPlaces, IsClean, IsFound}
 use Rattle.df_history.specs.Lives.{Starts}
 use Rattle.df_history.specs.Histories.{IsBegunAnew, IsLived, IsLivedMoment, MayStart, WasSince}
 
 -- an open finds a view that the file had since the last open that raised its boot
 abbrev pub FoundSinceLaw : Type 0
 FoundSinceLaw = (sh : Shape) (log : UnitLog) (logs : List UnitLog) (shown : Units) (w : View) → IsLived sh (log ∷ logs) → MayStart log logs shown → IsFound sh shown w → WasSince sh (log ∷ logs) w
+
+-- an image that may start the next log: the superblock that is chosen there is that of the view that the log before has now. Beside copy 0 no copy shows a content above it, to which a repair could be misled, and one checksum is one unit
+pub record StartsWith (sh : Shape) (log : UnitLog) (image : Units) (c : Content) : Type 0 where
+  pub view : View
+  pub holds : Holds sh (now log) view
+  pub content : c ≡ view.checkpoint.content
+  pub clean : (w : View) → w.checkpoint.content ≡ c → IsClean image w
+  pub distinct : (place other : Place) (x y : AnyUnit) → image place ≡ Some x → image other ≡ Some y → Distinct x y
+
+abbrev pub ChoiceStaysLaw : Type 0
+ChoiceStaysLaw = (sh : Shape) (log : UnitLog) (logs : List UnitLog) (image : Units) (c : Content) → IsLived sh (log ∷ logs) → MayStart log logs image → IsChosen image c → StartsWith sh log image c
 
 -- the log that is begun there rests on the view, and the history with it is lived
 abbrev pub BeginsLaw : Type 0
@@ -67,6 +80,13 @@ OpenLivedLaw =
 abbrev pub RestLivedLaw : Type 0
 RestLivedLaw = (sh : Shape) (log before : UnitLog) (logs : List UnitLog) (v : View) → IsLived sh (log ∷ before ∷ logs) → RestsOn sh log v → IsLivedMoment sh (before ∷ logs) log
 
--- a history begins with a safe log from the empty image, or from one whose units are older than its superblock
+-- a history begins with a log that grew from the empty image, or from one whose units are older than its superblock
+abbrev pub BeginsHistory : Shape → Units → Type 0
+BeginsHistory sh image = ((place : Place) → image place ≡ None) ⊎ ((w : View) × Holds sh image w × Starts image [] w)
+
+abbrev pub FirstGrownLaw : Type 0
+FirstGrownLaw = (sh : Shape) (log : UnitLog) → Grown sh log → BeginsHistory sh log.start → IsLived sh (log ∷ [])
+
+-- and so it is at each moment at which that log is safe
 abbrev pub FirstLivedLaw : Type 0
-FirstLivedLaw = (sh : Shape) (log : UnitLog) → IsSafe sh log → ((place : Place) → log.start place ≡ None) ⊎ ((w : View) × Holds sh log.start w × Starts log.start [] w) → IsLivedMoment sh [] log
+FirstLivedLaw = (sh : Shape) (log : UnitLog) → IsSafe sh log → BeginsHistory sh log.start → IsLivedMoment sh [] log

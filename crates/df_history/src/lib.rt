@@ -10,7 +10,7 @@ pub use histories::{
     one_reply_an_op_and_boot,
 };
 pub use opens::{
-    boot_stays_lived, commands_stay_lived, first_log_is_lived, found_since_the_last_boot,
-    history_goes_on, mending_stays_lived, open_stays_lived, rest_stays_lived,
-    stopped_upgrade_begins, upgraded_file_begins,
+    boot_stays_lived, choice_stays, commands_stay_lived, first_log_is_lived,
+    found_since_the_last_boot, history_goes_on, mending_stays_lived, open_stays_lived,
+    raised_log_stays_lived, rest_stays_lived, stopped_upgrade_begins, upgraded_file_begins,
 };

@@ -1,11 +1,17 @@
 // What an open gives behind damage before any number of opens, and that the history goes on.
 
 ghost use Rattle.df_history.specs.Upgraded.{StoppedUpgradeLaw, UpgradedLaw};
-ghost use Rattle.df_history.specs.OpenLaws.{AwakeLivedLaw, BeginsLaw, BootLivedLaw, FirstLivedLaw, FoundSinceLaw, MendLivedLaw, OpenLivedLaw, RestLivedLaw};
+ghost use Rattle.df_history.specs.Awakened.{GrownLivedLaw, RaiseLivedLaw, SafeLivedLaw};
+ghost use Rattle.df_history.specs.OpenLaws.{AwakeLivedLaw, BeginsLaw, BootLivedLaw, ChoiceStaysLaw, FirstGrownLaw, FirstLivedLaw, FoundSinceLaw, MendLivedLaw, OpenLivedLaw, RestLivedLaw};
 
 /// What an open finds was had since the last log that raised its boot.
 pub fn found_since_the_last_boot()
     ensures { FoundSinceLaw }
+{}
+
+/// Whatever else is hurt, the superblock that is chosen is that of the log before, and no copy can mislead a repair.
+pub fn choice_stays()
+    ensures { ChoiceStaysLaw }
 {}
 
 /// The log that is begun at what an open found rests on that view, and the history with it is lived.
@@ -28,6 +34,14 @@ pub fn commands_stay_lived()
     ensures { AwakeLivedLaw }
 {}
 
+/// And once the boot is raised it is lived however that log grows as it should, and at each moment at which it is safe, whatever was
+/// done in between.
+pub fn raised_log_stays_lived()
+    ensures raised { RaiseLivedLaw }
+    ensures grown { GrownLivedLaw }
+    ensures safe { SafeLivedLaw }
+{}
+
 /// All of it: an open at each moment, and what follows it.
 pub fn open_stays_lived()
     ensures { OpenLivedLaw }
@@ -38,9 +52,10 @@ pub fn rest_stays_lived()
     ensures { RestLivedLaw }
 {}
 
-/// A safe log from the empty image is a history, and stays so by a sync and by any stop.
+/// A log that grew from the empty image is a history, and where it is safe it stays so by a sync and by any stop.
 pub fn first_log_is_lived()
-    ensures { FirstLivedLaw }
+    ensures grown { FirstGrownLaw }
+    ensures safe { FirstLivedLaw }
 {}
 
 /// A history begins at the image that an upgrade left.

@@ -18,9 +18,9 @@ use Rattle.df_format.specs.Valid.{IsInSlot, IsUnit}
 use Rattle.df_format.proofs.Laws.{valid_belongs}
 use Rattle.df_layout.specs.declared.places.Zone.TheVariants.{WalPrepares}
 use Rattle.df_theory.specs.Units
-use Rattle.df_theory.specs.Units.{AnyUnit, HeaderPlace, IsAlone, PreparePlace, PrepareUnit}
+use Rattle.df_theory.specs.Units.{AnyUnit, HeaderPlace, PreparePlace, PrepareUnit}
 use Rattle.df_units.specs.Meaning.{header_of, number_of}
-use Rattle.df_units.proofs.Laws.{first_alone, one_number}
+use Rattle.df_units.proofs.Laws.{one_number}
 use Rattle.df_theory.specs.Cases
 use Rattle.df_buffers.specs.declared.slots.SlotSeen.{SlotSeen}
 use Rattle.df_places.specs.Units.{IsThere}
@@ -29,7 +29,7 @@ use Rattle.df_journal.proofs.Ops.{one_op}
 use Rattle.df_journal.specs.declared.table.Start.{Start}
 use Rattle.df_journal.specs.Planned.{has_header_of, named, named_by, named_on, planned, planned_on, shows_header}
 use Rattle.df_journal.specs.Seen.{HasChecks, IsOfCheck, IsOpOf, IsTaken, TakesNow, decision_on, seen_in}
-use Rattle.df_journal.specs.Shows.{IsHeaderThere, IsTable, ShowsHeader, ShowsPrepare, ShowsSlot, Tells, TellsRings}
+use Rattle.df_journal.specs.Shows.{IsHeaderThere, IsTable, ShowsHeader, ShowsPrepare, ShowsSlot, TellsRings}
 
 header_seen : (b o : ℕ) (x : Option AnyUnit) (r : Result Header Class) → ShowsHeader x r → Cases.seen_header b o x ≡ seen_in b o r
 header_seen b o x (Ok h) is = ap (Cases.seen_header b o) is
@@ -107,13 +107,6 @@ taken_group layout cluster s h (body, is) =
     let in_slot : IsInSlot layout s h = (valid_belongs layout cluster (place_in WalPrepares s) (record { header = h; body = body }) is).belongs in
     group_reaches h (subst (λ (kind : Kind). ObeysVersion kind h) in_slot.kind is.sealed.rules.version)
 
--- without a boot it is a group by itself
-pub taken_alone : (layout : Layout) (cluster s : ℕ) (h : Header) → IsThere layout cluster (place_in WalPrepares s) (Ok h) → h.boot ≡ 0 → IsAlone (header_of h)
-taken_alone layout cluster s h (body, is) none =
-    let in_slot : IsInSlot layout s h = (valid_belongs layout cluster (place_in WalPrepares s) (record { header = h; body = body }) is).belongs in
-    let version : ObeysVersion Prepare h = subst (λ (kind : Kind). ObeysVersion kind h) in_slot.kind is.sealed.rules.version in
-    first_alone Prepare h version (λ same. cc) none
-
 -- both of its checksums have sixteen bytes
 pub shown_checks : (layout : Layout) (cluster s : ℕ) (table : List SlotSeen) (seen : SlotSeen) (h : Header) → IsTable layout cluster table → slice_get table s ≡ Some seen → seen.prepare ≡ Ok h → IsCheck h.checksum × IsCheck h.parent
 shown_checks layout cluster s table seen h is at shown =
@@ -128,9 +121,6 @@ not_taken start op table s t seen other h same here there none taken =
     none h (subst (λ (x : SlotSeen). IsTaken start op x h) one taken)
 
 -- ---- the decision that is given on a slot
-
-pub rings_of : (layout : Layout) (image : Units.Units) (scan : Scan) → Tells layout image scan → TellsRings layout image scan
-rings_of layout image scan tells = record { table = tells.table; shows = tells.shows }
 
 -- the op that a slot is asked for is that op
 own_op : (layout : Layout) (scan : Scan) (slot op o : ℕ) → length scan.slots ≡ layout.slots → IsOpOf (length scan.slots) scan.start.op slot op → IsOpOf layout.slots scan.start.op slot o → op ≡ o

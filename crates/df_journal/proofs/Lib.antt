@@ -1,7 +1,5 @@
-pub mod Asks
 pub mod Counted
 pub mod Decisions
-pub mod Grouping
 pub mod Moments
 pub mod Named
 pub mod Ops

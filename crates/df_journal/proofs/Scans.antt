@@ -25,7 +25,7 @@ use Rattle.df_places.specs.Units.{IsSeen as IsPlaceSeen}
 use Rattle.df_journal.specs.Seen.{class_of as class_where}
 use Rattle.df_journal.specs.Shows.{IsSlot, ShowsHeader, ShowsPrepare, ShowsTable}
 use Rattle.df_journal.specs.Scan.{Scan, entry, or_blank}
-use Rattle.df_journal.specs.Scanned.{AreSeen, ClassIsShown, IsScanned, IsSeen, RingsAreShown, ScannedIsShown, header_first, seen_at}
+use Rattle.df_journal.specs.Scanned.{AreSeen, ClassIsShown, IsScanned, IsSeen, RingsAreShown, header_first, seen_at}
 
 -- ---- bytes
 
@@ -129,9 +129,6 @@ rings_shown layout t scan is = record { table = is.is_table; shows = shows }
       no_header = λ s past. ap (message_unit (HeaderPlace s)) (none_past layout cluster s t.shown (omega (arith, past, is.is_table.size))).0;
       no_prepare = λ s past. ap (message_unit (PreparePlace s)) (none_past layout cluster s t.shown (omega (arith, past, is.is_table.size))).1;
     }
-
-pub scanned_shown : ScannedIsShown
-scanned_shown layout t scan one is = let rings = rings_shown layout t scan is in record { version = one; table = rings.table; shows = rings.shows }
 
 class_by : (layout : Layout) (cluster : ℕ) (image : Image) (place : Place) (o : Option Message) → unit_at layout cluster image place ≡ o → class_where (header_or_class o (class_at layout cluster image place)) ≡ class_at layout cluster image place
 unfolding unit_at class_at

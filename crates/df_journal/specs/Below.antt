@@ -7,7 +7,7 @@ pub use Rattle.df_format.specs.Own.{place_in}
 pub use Rattle.df_format.specs.Spelling.{IsCheck}
 pub use Rattle.df_buffers.specs.Rooms.{header_bytes}
 pub use Rattle.df_theory.specs.Cases.{IsTake, decision}
-pub use Rattle.df_theory.specs.Found.{NotBehind, NotLost, slot_behind}
+pub use Rattle.df_theory.specs.Found.{NotBehind, NotLost}
 pub use Rattle.df_theory.specs.Sessions.{MayAsk}
 pub use Rattle.df_theory.specs.Shape.{Shape, slots}
 pub use Rattle.df_theory.specs.Tails.{Fits, FitsGroup}

@@ -1,5 +1,5 @@
 -- What a table of slots is seen as.
-use Rattle.std.specs.Prelude.{◌≡◌, ◌≤◌, ◌^◌, ℕ, List, length, slice_get, slice_set, Option, Some, None, Err}
+use Rattle.std.specs.Prelude.{◌≤◌, ◌^◌, ℕ, List, length, slice_get, slice_set, Option, Some, None, Err}
 use Rattle.df_layout.specs.declared.damage.Class.TheVariants.{Blank}
 use Rattle.df_buffers.specs.declared.slots.SlotSeen.{SlotSeen}
 use Rattle.df_journal.specs.declared.table.Start.{Start}
@@ -8,11 +8,6 @@ use Rattle.df_journal.specs.declared.table.Start.{Start}
 pub record Scan : Type 0 where
   pub start : Start
   pub slots : List SlotSeen
-
--- of a file of version 1: there is no boot, and its superblock names no prepare above the checkpoint's
-pub record IsOfVersionOne (start : Start) : Type 0 where
-  pub boot : start.boot ≡ 0
-  pub head : start.head ≡ start.op
 
 -- within the limits of every layout
 pub record IsScan (scan : Scan) : Type 0 where

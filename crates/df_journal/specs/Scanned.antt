@@ -10,9 +10,9 @@ use Rattle.df_format.specs.Shown.{class_at}
 use Rattle.df_units.specs.Bytes
 use Rattle.df_buffers.specs.declared.slots.SlotSeen.{SlotSeen}
 use Rattle.df_places.specs.Units.{header_at}
-use Rattle.df_journal.specs.Scan.{IsOfVersionOne, Scan, entry}
+use Rattle.df_journal.specs.Scan.{Scan, entry}
 use Rattle.df_journal.specs.Seen.{class_of}
-use Rattle.df_journal.specs.Shows.{IsSlot, IsTable, Tells, TellsRings}
+use Rattle.df_journal.specs.Shows.{IsSlot, IsTable, TellsRings}
 
 -- what an image shows at a slot
 abbrev pub seen_at : Layout → ℕ → Image → ℕ → SlotSeen
@@ -40,10 +40,6 @@ header_first layout slot = (span_of layout (place_in WalHeaders slot)).first
 -- a table that was scanned says what the image shows, in the words of the theory
 abbrev pub RingsAreShown : Type 0
 RingsAreShown = (layout : Layout) (t : Told) (scan : Scan) → IsScanned layout (Some t) scan → TellsRings layout (Bytes.unit_at layout scan.start.cluster t.shown) scan
-
--- and of a file of version 1
-abbrev pub ScannedIsShown : Type 0
-ScannedIsShown = (layout : Layout) (t : Told) (scan : Scan) → IsOfVersionOne scan.start → IsScanned layout (Some t) scan → Tells layout (Bytes.unit_at layout scan.start.cluster t.shown) scan
 
 -- and its classes of a slot, where another unit is wanted, are the image's
 abbrev pub ClassIsShown : Type 0

@@ -10,7 +10,7 @@ use Rattle.df_theory.specs.Units
 use Rattle.df_theory.specs.Units.{AnyUnit, HeaderPlace, HeaderUnit, PreparePlace, PrepareUnit}
 use Rattle.df_units.specs.Meaning.{header_of}
 use Rattle.df_places.specs.Units.{IsThere}
-use Rattle.df_journal.specs.Scan.{IsOfVersionOne, Scan}
+use Rattle.df_journal.specs.Scan.{Scan}
 use Rattle.df_buffers.specs.declared.slots.SlotSeen.{SlotSeen}
 
 -- the header ring shows this header at a slot, or no unit
@@ -49,11 +49,5 @@ pub record IsTable (layout : Layout) (cluster : ℕ) (table : List SlotSeen) : T
 
 -- the table, which is one of this layout, says what the rings of an image show
 pub record TellsRings (layout : Layout) (image : Units.Units) (scan : Scan) : Type 0 where
-  pub table : IsTable layout scan.start.cluster scan.slots
-  pub shows : ShowsTable image scan.slots
-
--- the same, of a file of version 1
-pub record Tells (layout : Layout) (image : Units.Units) (scan : Scan) : Type 0 where
-  pub version : IsOfVersionOne scan.start
   pub table : IsTable layout scan.start.cluster scan.slots
   pub shows : ShowsTable image scan.slots

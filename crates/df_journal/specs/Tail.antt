@@ -1,5 +1,5 @@
 -- The tail that a table of slots shows behind a checkpoint, and how far taken prepares go on behind it.
-use Rattle.std.specs.Prelude.{◌≡◌, ◌≢◌, ◌⊎◌, ◌<◌, ◌^◌, ◌≤◌, ◌+◌, ◌%◌, ℕ, List, [], length, slice_get, Option, Some, None}
+use Rattle.std.specs.Prelude.{◌≡◌, ◌≢◌, ◌⊎◌, ◌<◌, ◌^◌, ◌≤◌, ◌+◌, ◌%◌, ℕ, List, length, slice_get, Option, Some, None}
 use Rattle.df_layout.specs.declared.layout.Layout.{Layout}
 use Rattle.df_format.specs.declared.header.Header.{Header}
 use Rattle.df_format.specs.Spelling.{IsCheck}
@@ -7,27 +7,18 @@ use Rattle.df_sessions.specs.declared.session.Session.{Session}
 use Rattle.df_sessions.specs.Requests.{sessions_of}
 use Rattle.df_sessions.specs.Table.{IsKnown, Table}
 use Rattle.df_theory.specs.Units
-use Rattle.df_theory.specs.Sessions.{sessions_after}
-use Rattle.df_theory.specs.Tails.{Fits, FitsGroup, last_checksum, last_mark}
 use Rattle.df_theory.specs.Shape.{Shape, clients, slots}
 use Rattle.df_theory.specs.View.{Checkpoint}
 use Rattle.df_theory.specs.Found
 use Rattle.df_theory.specs.Opens.{IsUnfit}
-use Rattle.df_units.specs.Meaning.{header_of, number_of}
+use Rattle.df_units.specs.Meaning.{number_of}
+pub use Rattle.df_group.specs.Fitting.{FitsAt, position_of, tail_to}
+pub use Rattle.df_group.specs.Reached.{BeginsBehind, EndsAt}
+use Rattle.df_group.specs.declared.groups.Position.{Position}
+use Rattle.df_group.specs.declared.reach.Reach.{Reach}
 use Rattle.df_buffers.specs.declared.slots.SlotSeen.{SlotSeen}
 use Rattle.df_journal.specs.declared.table.Start.{Start}
-use Rattle.df_journal.specs.declared.tail.Tail.{Tail}
-use Rattle.df_journal.specs.declared.groups.Position.{Position}
-use Rattle.df_journal.specs.declared.reach.Reach.{Reach}
 use Rattle.df_journal.specs.Seen.{IsTaken}
-
--- the end of a tail whose last prepare has this header
-abbrev pub tail_to : Header → Tail
-tail_to h = record { op = h.op; checksum = h.checksum; mark = h.mark }
-
--- where a walk stands that has come to a prepare with this header
-abbrev pub position_of : Header → Position
-position_of h = record { last = tail_to h; group = (header_of h).group; group_last = (header_of h).group_last }
 
 -- the checkpoint that the walk starts from, and what its superblock says of the prepares that it names
 pub record BeginsAt (sh : Shape) (b : Checkpoint) (layout : Layout) (start : Start) (checksum : List ℕ) (sessions : List Session) : Type 0 where
@@ -40,31 +31,6 @@ pub record BeginsAt (sh : Shape) (b : Checkpoint) (layout : Layout) (start : Sta
   pub pin_near : b.content.pin ≤ b.content.op + slots sh
   pub pin_checksum : b.content.pin ≡ b.content.op → b.content.pin_checksum ≡ b.content.op_checksum
   pub sessions_are : b.parts.sessions ≡ sessions_of sessions
-
--- the same, where the superblock names its own prepare last
-pub record StartsAt (sh : Shape) (b : Checkpoint) (layout : Layout) (start : Start) (checksum : List ℕ) (sessions : List Session) : Type 0 where
-  pub slots_are : slots sh ≡ layout.slots
-  pub clients_are : clients sh ≡ layout.clients
-  pub op_is : b.content.op ≡ start.op
-  pub checksum_is : b.content.op_checksum ≡ number_of checksum
-  pub boot : b.content.boot ≡ start.boot
-  pub pin : b.content.pin ≡ start.head
-  pub pin_checksum : b.content.pin_checksum ≡ b.content.op_checksum
-  pub sessions_are : b.parts.sessions ≡ sessions_of sessions
-
--- these prepares end so, with these sessions
-pub record EndsAt (b : Checkpoint) (ps : List Units.Message) (end : Tail) (sessions : List Session) : Type 0 where
-  pub op : end.op ≡ b.content.op + length ps
-  pub checksum : number_of end.checksum ≡ last_checksum b.content.op_checksum ps
-  pub mark : end.mark ≡ last_mark 0 ps
-  pub sessions_are : sessions_of sessions ≡ sessions_after b.parts.sessions ps
-
--- the tail of the image ends so, and no taken prepare fits behind it
-pub record FindsTail (sh : Shape) (image : Units.Units) (b : Checkpoint) (end : Tail) (sessions : List Session) : Type 0 where
-  pub tail : List Units.Message
-  pub is : Found.IsTail sh image b tail
-  pub reach : Found.IsReach sh image b tail []
-  pub ends : EndsAt b tail end sessions
 
 -- the tail of the image ends so, and taken prepares go on behind it up to this op
 pub record IsReached (sh : Shape) (image : Units.Units) (b : Checkpoint) (reach : Reach) (sessions : List Session) : Type 0 where
@@ -85,14 +51,6 @@ pub record StopsAt (sh : Shape) (image : Units.Units) (b : Checkpoint) (op : ℕ
 pub record FindsReach (sh : Shape) (image : Units.Units) (b : Checkpoint) (reach : Reach) (sessions : List Session) : Type 0 where
   pub stops : reach.op < b.content.pin → StopsAt sh image b reach.op
   pub reached : b.content.pin ≤ reach.op → IsReached sh image b reach sessions
-
--- the group of the prepare with this header fits where a walk stands, and it ends at the head that the superblock names, if the prepare has that op
-abbrev pub GroupFitsAt : ℕ → Position → Header → Type 0
-GroupFitsAt head at h = FitsGroup at.group at.group_last (at.last.op + 1) (header_of h) × (h.op ≡ head → (header_of h).group_last ≤ head)
-
--- the prepare fits there, and its group does
-abbrev pub FitsAt : ℕ → ℕ → Position → List Session → Header → Type 0
-FitsAt clients head at sessions h = Fits clients (at.last.op + 1) (number_of at.last.checksum) at.last.mark (sessions_of sessions) (header_of h) × GroupFitsAt head at h
 
 -- the header of the prepare that comes next: it is taken from the slot of its op, and fits
 pub record IsNext (layout : Layout) (start : Start) (table : List SlotSeen) (at : Position) (sessions : List Session) (h : Header) : Type 0 where

@@ -1,41 +1,26 @@
 // The greatest numbers of the units in the two rings, and what they say of a state with those of the replies.
-ghost use Rattle.std.specs.Prelude.{◌≡◌, ◌↔◌, ◌<◌, ◌^◌, IsTrue, IsFalse, max};
+ghost use Rattle.std.specs.Prelude.{◌≡◌, ◌↔◌, ◌<◌, ◌^◌, Ok, IsTrue, IsFalse, max};
 ghost use Rattle.std.specs.Bool.{OnFalse};
 ghost use Rattle.df_stamps.specs.Evidence.{IsComplete};
-ghost use Rattle.df_journal.specs.Below.{Content, Units, Shape, slots as shape_slots, NotBehind, NotLost, header_of};
+ghost use Rattle.df_journal.specs.Below.{Content, Units, Shape, slots as shape_slots, NotBehind, NotLost};
 ghost use Rattle.df_journal.specs.Shows.{ShowsTable};
-ghost use Rattle.df_journal.specs.Counts.{CountsAll, CountsBinding, CountsBound, CountsOps, CountsOwn, CountsRings, OwnAreAlone, boot_in, bound_op, checkpoint_in, is_cut_off, op_in, own_op, with_unit};
+ghost use Rattle.df_journal.specs.Counts.{CountsAll, CountsBinding, CountsBound, CountsRings, binding_op, in_boot, number_in, with_unit};
 
 use crate::SlotTable;
-use crate::groups::{group_first, group_last};
 use df_format::Header;
+use df_group::binding_op;
 use df_layout::Class;
 use df_stamps::{Counters, behind, lost};
 
-fn op_in(seen: &Result<Header, Class>) -> u64
-    ensures { result ≡ op_in seen.now }
+// The counters with one more header.
+fn with_header(seen: &Counters, header: &Header) -> Counters
+    ensures { result ≡ with_unit seen.now (Ok header.now) }
 {
-    match seen {
-        Ok(header) => header.op,
-        Err(_) => 0,
-    }
-}
-
-fn checkpoint_in(seen: &Result<Header, Class>) -> u64
-    ensures { result ≡ checkpoint_in seen.now }
-{
-    match seen {
-        Ok(header) => header.checkpoint,
-        Err(_) => 0,
-    }
-}
-
-fn boot_in(seen: &Result<Header, Class>) -> u64
-    ensures { result ≡ boot_in seen.now }
-{
-    match seen {
-        Ok(header) => header.boot,
-        Err(_) => 0,
+    Counters {
+        ring_op: seen.ring_op.max(header.op),
+        reply_top: seen.reply_top,
+        checkpoint: seen.checkpoint.max(header.checkpoint),
+        boot: seen.boot.max(header.boot),
     }
 }
 
@@ -43,11 +28,9 @@ fn boot_in(seen: &Result<Header, Class>) -> u64
 fn with_unit(seen: &Counters, ring: &Result<Header, Class>) -> Counters
     ensures { result ≡ with_unit seen.now ring.now }
 {
-    Counters {
-        ring_op: seen.ring_op.max(op_in(ring)),
-        reply_top: seen.reply_top,
-        checkpoint: seen.checkpoint.max(checkpoint_in(ring)),
-        boot: seen.boot.max(boot_in(ring)),
+    match ring {
+        Ok(header) => with_header(seen, header),
+        Err(_) => *seen,
     }
 }
 
@@ -65,7 +48,7 @@ pub fn count_rings(found: &SlotTable) -> Counters
 
 // The op of a unit of this boot, 0 of any other.
 fn own_op(seen: &Result<Header, Class>, boot: u64) -> u64
-    ensures { result ≡ own_op boot seen.now }
+    ensures { result ≡ number_in (in_boot boot (λ h. h.op)) seen.now }
 {
     match seen {
         Ok(header) => { if header.boot == boot { header.op } else { 0 } }
@@ -75,44 +58,18 @@ fn own_op(seen: &Result<Header, Class>, boot: u64) -> u64
 
 // The greater of a number and the op of a unit of this boot.
 fn raised(top: u64, seen: &Result<Header, Class>, boot: u64) -> u64
-    ensures { result ≡ max top (own_op boot seen.now) }
+    ensures { result ≡ max top (number_in (in_boot boot (λ h. h.op)) seen.now) }
 {
     top.max(own_op(seen, boot))
-}
-
-/// The greatest op that a unit of this boot shows in the two rings, 0 where none does.
-pub fn ring_top(found: &SlotTable, boot: u64) -> u64
-    ensures { (image : Units) → ShowsTable image found.now.slots → CountsOps boot image result }
-{
-    let mut top = 0;
-    for slot in &found.slots {
-        top = raised(raised(top, &slot.header, boot), &slot.prepare, boot);
-    }
-    top
-}
-
-// Whether a prepare is of a group of several that begins right above this op, and so was cut off there.
-fn is_cut_off(header: &Header, top: u64) -> bool
-    requires { top < 2 ^ 63 }
-    ensures { result ≡ is_cut_off top (header_of header.now) }
-{
-    let first = group_first(header);
-    header.boot > 0 && first == top + 1 && first < group_last(header) && header.op > top
 }
 
 // The op of a prepare that binds the head in this boot, 0 of any other.
 fn bound_op(seen: &Result<Header, Class>, boot: u64, top: u64) -> u64
     requires { top < 2 ^ 63 }
-    ensures { result ≡ bound_op boot top seen.now }
+    ensures { result ≡ number_in (binding_op boot top) seen.now }
 {
     match seen {
-        Ok(header) => {
-            if header.boot != boot || is_cut_off(header, top) {
-                0
-            } else {
-                header.op
-            }
-        }
+        Ok(header) => binding_op(header, boot, top),
         Err(_) => 0,
     }
 }
@@ -120,7 +77,7 @@ fn bound_op(seen: &Result<Header, Class>, boot: u64, top: u64) -> u64
 // The greater of a number and the op of a prepare that binds the head.
 fn raised_bound(greatest: u64, seen: &Result<Header, Class>, boot: u64, top: u64) -> u64
     requires { top < 2 ^ 63 }
-    ensures { result ≡ max greatest (bound_op boot top seen.now) }
+    ensures { result ≡ max greatest (number_in (binding_op boot top) seen.now) }
 {
     greatest.max(bound_op(seen, boot, top))
 }
@@ -154,17 +111,13 @@ pub fn is_behind(seen: &Counters, sequence: u64, op: u64, slots: u32, boot: u64)
 }
 
 /// Whether a unit of the superblock's boot shows an op above the head; the counters are those of this boot's own units, prepares
-/// aside that were cut off with their group above that head. Where each prepare of the boot is a group by itself, none was.
+/// aside that were cut off with their group above that head.
 pub fn is_lost(own: &Counters, superblock_head: u64, head: u64) -> bool
-    ensures lost { (image : Units) (c : Content) → CountsOwn c.boot image own.now → OwnAreAlone image c.boot → c.head ≡ superblock_head
+    ensures lost { (image : Units) (c : Content) → CountsBound c.boot head image own.now → c.head ≡ superblock_head
         → IsTrue result ↔ (NotLost image c head → ⊥) }
-    ensures none { (image : Units) (c : Content) → CountsOwn c.boot image own.now → OwnAreAlone image c.boot → c.head ≡ superblock_head
+    ensures none { (image : Units) (c : Content) → CountsBound c.boot head image own.now → c.head ≡ superblock_head
         → IsFalse result ↔ NotLost image c head }
     ensures counters { OnFalse result (IsComplete own.now superblock_head head) }
-    ensures bound { (image : Units) (c : Content) → CountsBound c.boot head image own.now → c.head ≡ superblock_head
-        → IsTrue result ↔ (NotLost image c head → ⊥) }
-    ensures unbound { (image : Units) (c : Content) → CountsBound c.boot head image own.now → c.head ≡ superblock_head
-        → IsFalse result ↔ NotLost image c head }
 {
     lost(own, superblock_head, head)
 }

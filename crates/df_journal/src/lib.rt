@@ -4,8 +4,6 @@
 
 mod appends;
 mod counts;
-mod fits;
-mod groups;
 mod known;
 mod plans;
 mod reach;
@@ -13,13 +11,12 @@ mod reads;
 mod seen;
 mod settling;
 mod table;
-mod tail;
 
 pub use appends::{append, put};
-pub use counts::{bound_top, count_rings, is_behind, is_lost, ring_top};
+pub use counts::{bound_top, count_rings, is_behind, is_lost};
+pub use df_group::{Reach, Tail};
 pub use known::{lacking_known, slot_of};
-pub use reach::{Reach, find_reach};
+pub use reach::find_reach;
 pub use reads::{scan, scanned_is_shown};
 pub use settling::settle;
 pub use table::{SlotTable, Start};
-pub use tail::{Tail, find_tail, slot_behind};

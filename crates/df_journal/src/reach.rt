@@ -1,49 +1,18 @@
 // The walk of an open: from the checkpoint on, the prepares that the superblock names and then those that are taken, as long as each
 // fits what precedes it. The tail ends where the last whole group does.
-ghost use Rattle.std.specs.Prelude.{◌≡◌, ◌↔◌, ◌≤◌, ◌<◌, ◌+◌, ◌^◌, IfSome, IsTrue};
-ghost use Rattle.df_journal.specs.Below.{IsCheck, Units, Shape, Checkpoint, header_of};
+ghost use Rattle.std.specs.Prelude.{◌≡◌, ◌≤◌, ◌<◌, ◌+◌, ◌^◌, IfSome};
+ghost use Rattle.df_journal.specs.Below.{IsCheck, Units, Shape, Checkpoint};
 ghost use Rattle.df_journal.specs.Known.{AllKnown};
 ghost use Rattle.df_journal.specs.Shows.{IsTable, TellsRings};
-ghost use Rattle.df_journal.specs.Tail.{AreNumbered, AreUnstored, BeginsAt, FindsReach, FitsAt, GoesOn, IsSound, position_of};
+ghost use Rattle.df_journal.specs.Tail.{AreNumbered, AreUnstored, BeginsAt, FindsReach, GoesOn, IsSound};
 
-use crate::fits::fits;
-use crate::groups::{Position, fits_group, is_over, position_at, position_behind};
 use crate::seen::taken;
-use crate::tail::{empty_tail, tail_to};
-use crate::{SlotTable, Start, Tail};
+use crate::{SlotTable, Start};
 use df_base::Check;
 use df_format::Header;
+use df_group::{Position, Reach, empty_tail, goes_on, keep_whole, position_behind, position_of};
 use df_layout::Layout;
 use df_sessions::SessionTable;
-
-/// How far a walk came.
-#[derive(Clone, Copy, Debug, PartialEq, Eq)]
-pub struct Reach {
-    /// The end of the last group that is whole: the end of the tail.
-    pub tail: Tail,
-    /// The op of the last prepare that fits; it is above the tail's where the group of that prepare isn't whole.
-    pub op: u64,
-}
-
-// Where a walk stands that has come to the prepare with this header.
-fn position_of(header: &Header) -> Position
-    ensures { result ≡ position_of header.now }
-{
-    position_at(header, &tail_to(header))
-}
-
-// Whether the prepare with this header, which has the next op, fits there, and so does its group: where it has the op of the head
-// that the superblock names, its group ends with it.
-fn goes_on(head: u64, at: &Position, sessions: &SessionTable, clients: u32, header: &Header) -> bool
-    requires places { sessions.now.max ≡ clients }
-    requires op { header.now.op ≡ at.now.last.op + 1 }
-    requires parent { IsCheck header.now.parent }
-    requires checksum { IsCheck at.now.last.checksum }
-    requires group { header.now.op ≤ (header_of header.now).group_last }
-    ensures { IsTrue result ↔ FitsAt clients head at.now sessions.now.sessions header.now }
-{
-    fits(&at.last, sessions, clients, header) && fits_group(head, at, header)
-}
 
 // The header of the prepare that comes next, if there is one.
 fn next(
@@ -55,7 +24,6 @@ fn next(
 ) -> Option<Header>
     requires table { IsTable layout.now found.now.start.cluster found.now.slots }
     requires op { at.now.last.op < 2 ^ 63 }
-    requires checksum { IsCheck at.now.last.checksum }
     requires places { sessions.now.max ≡ layout.now.clients }
     ensures next { GoesOn layout.now start.now found.now.slots at.now sessions.now.sessions result }
     ensures op { IfSome result (λ h. h.op ≡ at.now.last.op + 1) }
@@ -68,17 +36,6 @@ fn next(
         Some(header)
     } else {
         None
-    }
-}
-
-// Ends the tail where the walk stands, if a group is over there; the sessions of the tail are then those that are ahead.
-fn keep_whole(at: &Position, ahead: &SessionTable, tail: &mut Tail, sessions: &mut SessionTable)
-    ensures over { at.now.group_last ≤ at.now.last.op → (tail.new ≡ at.now.last) × (sessions.new ≡ ahead.now) }
-    ensures open { at.now.last.op < at.now.group_last → (tail.new ≡ tail.old) × (sessions.new ≡ sessions.old) }
-{
-    if is_over(at) {
-        *tail = at.last;
-        *sessions = ahead.copied();
     }
 }
 

@@ -2,7 +2,7 @@
 ghost use Rattle.std.specs.Prelude.{◌≡◌, ◌<◌, ◌≤◌, ◌+◌, ◌%◌, ◌^◌, length, IfOk, OnOk};
 ghost use Rattle.df_journal.specs.Below.{HasCause, Shows, WalHeaders, place_in, class_of, header_or_class, unit_in, header_bytes};
 ghost use Rattle.df_journal.specs.Shows.{IsHeaderThere, IsSlot};
-ghost use Rattle.df_journal.specs.Scanned.{AreSeen, ClassIsShown, IsScanned, IsSeen, RingsAreShown, ScannedIsShown, header_first};
+ghost use Rattle.df_journal.specs.Scanned.{AreSeen, ClassIsShown, IsScanned, IsSeen, RingsAreShown, header_first};
 
 use crate::{SlotTable, Start};
 use df_base::Failed;
@@ -170,6 +170,5 @@ pub fn scan<D: Disk>(
 /// A table that was scanned says what the image shows: its units, and its classes where other units are wanted.
 pub fn scanned_is_shown()
     ensures rings { RingsAreShown }
-    ensures units { ScannedIsShown }
     ensures class { ClassIsShown }
 {}

@@ -11,9 +11,9 @@ use df_headers::HeaderTable;
 // Writes these sectors of the table, in order and without a sync.
 fn write_sectors<D: Disk>(
     disk: &mut D,
+    sectors: &[u32],
     table: &HeaderTable,
     room: &mut Raw<HeaderSector>,
-    sectors: &[u32],
 ) -> Result<(), Failed>
     requires table { (cluster : ℕ) × IsTable room.old.layout cluster table.now }
     requires sectors { AreOfRing room.old.layout sectors.now }
@@ -47,6 +47,6 @@ pub fn settle<D: Disk>(
     ensures cause { HasCause (D.faults disk.old) (D.faults disk.new) result }
 {
     disk.sync()?;
-    write_sectors(disk, table, room, sectors)?;
+    write_sectors(disk, sectors, table, room)?;
     disk.sync()
 }

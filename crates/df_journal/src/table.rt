@@ -4,7 +4,7 @@ ghost use Rattle.df_journal.specs.Below.{Layout as AnyLayout, Units, decision as
 ghost use Rattle.df_journal.specs.Scan.{entry, with_slot};
 ghost use Rattle.df_journal.specs.Seen.{IsOpOf, class_of, header_of_seen};
 ghost use Rattle.df_journal.specs.Planned.{planned};
-ghost use Rattle.df_journal.specs.Shows.{Tells, TellsRings};
+ghost use Rattle.df_journal.specs.Shows.{TellsRings};
 
 use crate::plans::planned_of;
 use crate::seen::decision_on;
@@ -116,20 +116,25 @@ impl SlotTable {
         self.start = *start;
     }
 
-    /// What is decided of a slot, by the table of recovery cases: of the op above the checkpoint's that belongs there.
-    pub fn decision(&self, slot: u32) -> Decision
+    // The op above the checkpoint's that belongs in a slot.
+    fn op_at(&self, slot: u32) -> u64
         requires { slot < length self.now.slots }
-        ensures model { (layout : AnyLayout) (image : Units) (o : ℕ) → Tells layout image self.now → IsOpOf layout.slots self.now.start.op slot o
-            → decision_of result ≡ decided layout.slots self.now.start.boot image o }
-        ensures rings { (layout : AnyLayout) (image : Units) (o : ℕ) → TellsRings layout image self.now → IsOpOf layout.slots self.now.start.op slot o
-            → decision_of result ≡ decided layout.slots self.now.start.boot image o }
+        ensures { IsOpOf (length self.now.slots) self.now.start.op slot result }
     {
-        let op = op_of(
+        op_of(
             self.slots.as_slice().len() as u64,
             self.start.op,
             u64::from(slot),
-        );
-        decision_on(&self.seen(slot), op, self.start.boot)
+        )
+    }
+
+    /// What is decided of a slot, by the table of recovery cases: of the op above the checkpoint's that belongs there.
+    pub fn decision(&self, slot: u32) -> Decision
+        requires { slot < length self.now.slots }
+        ensures model { (layout : AnyLayout) (image : Units) (o : ℕ) → TellsRings layout image self.now → IsOpOf layout.slots self.now.start.op slot o
+            → decision_of result ≡ decided layout.slots self.now.start.boot image o }
+    {
+        decision_on(&self.seen(slot), self.op_at(slot), self.start.boot)
     }
 
     /// What is decided of a slot once the head is known, which isn't below the one that the superblock names. Up to that one the
@@ -140,12 +145,7 @@ impl SlotTable {
         ensures model { (layout : AnyLayout) (image : Units) (o : ℕ) → TellsRings layout image self.now → IsOpOf layout.slots self.now.start.op slot o
             → decision_of result ≡ planned layout.slots self.now.start head image o }
     {
-        let op = op_of(
-            self.slots.as_slice().len() as u64,
-            self.start.op,
-            u64::from(slot),
-        );
-        planned_of(&self.seen(slot), &self.start, op, head)
+        planned_of(&self.seen(slot), &self.start, self.op_at(slot), head)
     }
 
     /// The header of the valid prepare that is shown in a slot.

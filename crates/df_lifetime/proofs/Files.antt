@@ -12,7 +12,8 @@ use Rattle.df_theory.specs.View.{View}
 use Rattle.df_theory.proofs.Laws.{one_chosen_law}
 use Rattle.df_units.specs.Bytes.{unit_at}
 use Rattle.df_units.specs.Meaning.{layout_of}
-use Rattle.df_replica.specs.Below.{IsOpened, State, shape, DataFile}
+use Rattle.df_replica.specs.Below.{State, shape, DataFile}
+use Rattle.df_upgrade.specs.Below.{IsOpenedAs}
 use Rattle.df_replica.proofs.Laws.{same_file}
 
 -- ---- what is chosen among the copies is no matter of the file
@@ -24,9 +25,9 @@ chosen_for layout other cluster another image c is = record {
   lowest = λ d agree rank n low at. is.lowest d (record { first = agree.first; second = agree.second; apart = agree.apart; inside = agree.inside; at_first = agree.at_first; at_second = agree.at_second }) rank n low at;
 }
 
--- what an open finds is the file in which a view is found
-pub one_file : (file : DataFile) (layout : Layout) (image : Image) (view : View) (s : State) → IsFound (shape file) (unit_at file.layout file.cluster image) view → IsOpened layout image s → s.file ≡ file
-one_file file layout image view s found is =
+-- what an open finds is the file in which a view is found, whatever version it asks for
+pub one_file : (version : ℕ) (file : DataFile) (layout : Layout) (image : Image) (view : View) (s : State) → IsFound (shape file) (unit_at file.layout file.cluster image) view → IsOpenedAs version layout image s → s.file ≡ file
+one_file version file layout image view s found is =
     let chosen : IsChosen (unit_at layout s.file.cluster image) view.checkpoint.content = chosen_for file.layout layout file.cluster s.file.cluster image view.checkpoint.content found.chosen in
     let one : is.view.checkpoint.content ≡ view.checkpoint.content = one_chosen_law (unit_at layout s.file.cluster image) is.view.checkpoint.content view.checkpoint.content is.found.chosen chosen in
     let numbers : layout_of s.file.layout ≡ layout_of file.layout = sym is.found.checkpoint.tests.layout ∙ ap (λ (c : Content). c.layout) one ∙ found.checkpoint.tests.layout in

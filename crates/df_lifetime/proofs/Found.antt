@@ -114,14 +114,14 @@ module _ (file : DataFile) where
   own_there version c v u (inl is) = none_there u c.answered c.answers is.none is.no_answers
   own_there version c v u (inr goes) = answered_there version c goes.0 v u goes.1
 
-  all_there : file.version ≡ 2 → (chapters : List Chapter) (u : View) → MayHave file chapters u → AllThere u chapters
-  all_there version [] u had = tt
-  all_there version (c ∷ chapters) u had = (own_there version c had.0 u had.2, all_before version c had.0 u chapters had.2 (all_there version chapters had.0 had.1))
+  all_there : file.version ≡ 2 → (first : View) (chapters : List Chapter) (u : View) → MayHave file first chapters u → AllThere u chapters
+  all_there version first [] u had = tt
+  all_there version first (c ∷ chapters) u had = (own_there version c had.0 u had.2, all_before version c had.0 u chapters had.2 (all_there version first chapters had.0 had.1))
 
 pub acknowledged_is_found : AcknowledgedIsFound
-acknowledged_is_found file t chapters view life chance found =
-    let goes = every_life_goes_on file t chapters life chance in
+acknowledged_is_found file first t chapters view life chance found =
+    let goes = every_life_goes_on file first t chapters life chance in
     let shows : now t.log ≡ t.shown = λ i sector. sym (goes.may.honest.shows sector) i in
     let there : IsFound (shape file) (unit_at file.layout file.cluster t.shown) goes.view = subst (λ (image : Image). IsFound (shape file) (unit_at file.layout file.cluster image) goes.view) shows goes.may.found in
     let one : goes.view ≡ view = one_found_law (shape file) (unit_at file.layout file.cluster t.shown) goes.view view there found in
-    subst (λ (x : View). AllThere x chapters) one (all_there file goes.may.version chapters goes.view goes.had)
+    subst (λ (x : View). AllThere x chapters) one (all_there file goes.may.version first chapters goes.view goes.had)

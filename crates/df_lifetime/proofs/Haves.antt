@@ -7,7 +7,6 @@ use Rattle.df_theory.specs.Sessions.{sessions_after}
 use Rattle.df_theory.specs.Tails.{In}
 use Rattle.df_theory.specs.Units.{Session}
 use Rattle.df_theory.specs.View.{View, sessions}
-use Rattle.df_units.specs.Making.{first_view}
 use Rattle.df_model.specs.Commands as commands
 use Rattle.df_model.specs.Commands.{Answer, Command, ToAdvance, ToAppend, ToReply}
 use Rattle.df_model.specs.Views.{KeepsView}
@@ -27,22 +26,11 @@ leads_on : (file : DataFile) (c : Chapter) (v u x : View) → LeadsTo file c v u
 leads_on file c v u x (inl is) keeps = inl (record { none = is.none; no_answers = is.no_answers; same = keeps_on v u x is.same keeps })
 leads_on file c v u x (inr goes) keeps =
     let by = goes.1 in
-    inr (
-      goes.0,
-      record {
-        whole = by.whole;
-        found = by.found;
-        unspent = by.unspent;
-        inputs = by.inputs;
-        answers_are = by.answers_are;
-        came = by.came;
-        view = keeps_on (kept (work_after file (begun_work file c.shown v) goes.0)) u x by.view keeps;
-      },
-    )
+    inr (goes.0, record { whole = by.whole; found = by.found; unspent = by.unspent; inputs = by.inputs; answers_are = by.answers_are; came = by.came; view = keeps_on (kept (work_after file (begun_work file c.shown v) goes.0)) u x by.view keeps })
 
-pub had_on : (file : DataFile) (chapters : List Chapter) (u x : View) → MayHave file chapters u → KeepsView u x → MayHave file chapters x
-had_on file [] u x had keeps = keeps_on (first_view file.layout file.cluster) u x had keeps
-had_on file (c ∷ chapters) u x had keeps = (had.0, had.1, leads_on file c had.0 u x had.2 keeps)
+pub had_on : (file : DataFile) (first : View) (chapters : List Chapter) (u x : View) → MayHave file first chapters u → KeepsView u x → MayHave file first chapters x
+had_on file first [] u x had keeps = keeps_on first u x had keeps
+had_on file first (c ∷ chapters) u x had keeps = (had.0, had.1, leads_on file c had.0 u x had.2 keeps)
 
 -- a boot update keeps the view
 pub begun_bare : (file : DataFile) (image : Image) (view : View) → KeepsView view (kept (begun_work file image view))

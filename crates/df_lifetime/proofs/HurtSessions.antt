@@ -3,9 +3,9 @@ use Rattle.std.proofs.Common.{◌≡◌, inl, inr, ℕ, zero, suc, List, [], ◌
 use Rattle.std.specs.Prelude.{take, drop}
 use Rattle.std.proofs.lemmas.List.{append-nil}
 use Rattle.df_base.specs.Image.{Image, changed}
-use Rattle.df_base.specs.Log.{AreLoose, Event, IsLeft, IsLog, Log, Stop, Sync, now}
+use Rattle.df_base.specs.Log.{AreLoose, Event, Stop, Sync, now}
 use Rattle.df_base.specs.Moments.{EachMoment, Extends, IsMoment}
-use Rattle.df_base.proofs.Laws.{extends_self, now_is_image}
+use Rattle.df_base.proofs.Laws.{extends_self}
 use Rattle.df_disk.specs.Adds.{after_all}
 use Rattle.df_disk.specs.Told.{IsHonest, Told, did}
 use Rattle.df_theory.specs.Device.{IsSafeDisk, NoChanceOf}
@@ -42,15 +42,13 @@ use Rattle.df_lifetime.proofs.Bases.{AnsweredOver, KeepsOver, told_over}
 use Rattle.df_lifetime.proofs.Files.{one_file, one_told}
 use Rattle.df_lifetime.proofs.Found.{front_inputs, front_there}
 use Rattle.df_lifetime.proofs.Lives.{left_by}
+use Rattle.df_lifetime.proofs.Orders.{now_left}
 
 -- ---- what an image has
 
 held_for : (g : Grade) (sh : Shape) (u : Units) (v : View) → HoldsFor g sh u v → (x : View) × KeepsView v x × Held sh u x × StandsFor g u v
 held_for Firm sh u v has = (has.0, has.1, has.2, tt)
 held_for Whole sh u v has = (has.0, has.1, has.2.0, λ a c is. has.2.1 a c (ap (λ (parts : Parts). parts.references a) has.1.parts ∙ is))
-
-now_left : (log : Log) → IsLog log → IsLeft log (now log)
-now_left log is = record { whole = now_is_image log.start log.events is.start is.events; kept = λ sector firm. refl }
 
 take_inputs : (k : ℕ) (acts more : List Act) → AreInputs (acts ++ more) → AreInputs (take k acts ++ (drop k acts ++ more))
 take_inputs k acts more inputs = subst AreInputs (sym (front_and_rest k acts more)) inputs
@@ -173,7 +171,7 @@ calls_keep_on : (g : Grade) (file : DataFile) (view : View) (t base : Told) (fou
     → MayOpen file view base → StandsFor g (unit_at file.layout file.cluster t.shown) view → KeepsOn file g (begun_work file t.shown view) base found.mending.events c
 calls_keep_on g file view t base found c calls from adds same may stands =
     let here = found_shown file g view t base same may in
-    let one : found.replica.file ≡ file = file_there file.layout t found ∙ one_file file file.layout t.shown view found.found here found.is_opened in
+    let one : found.replica.file ≡ file = file_there file.layout t found ∙ one_file 2 file file.layout t.shown view found.found here found.is_opened in
     let there = subst (λ (f : DataFile). IsFound (shape f) (unit_at f.layout f.cluster t.shown) view) (sym one) here in
     let work : IsWork (shape file) (spelling file) (begun_work file t.shown view) = subst (λ (f : DataFile). IsWork (shape f) (spelling f) (begun_work f t.shown view)) one (calls.stands view there).0 in
     keeps_on file g view t base same may work found.mending.events c (subst (λ (f : DataFile). KeepsOver f t c.acts c.answers c.failed found.mending.events (events_made c)) one calls.keeps g view base same may stands)

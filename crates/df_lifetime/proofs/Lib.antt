@@ -1,6 +1,7 @@
 mod Files
 mod Acts
 mod Haves
+mod Along
 mod Orders
 mod Bases
 mod Lives
@@ -10,6 +11,10 @@ mod Done
 mod Found
 mod HurtSessions
 mod HurtLives
+mod Reborn
+mod Upgrades
+mod Agains
+mod Others
 mod KeptReads
 mod Alike
 mod OneText

@@ -6,11 +6,10 @@ use Rattle.std.proofs.lemmas.Bool.Decides.{nat_tests}
 use Rattle.std.proofs.lemmas.List.{append-nil}
 use Rattle.df_base.specs.Image.{Image, IsImage, changed}
 use Rattle.df_base.specs.Log.{AreLoose, Event, IsLeft, IsLog, Log, Stop, Sync, loose_of, now}
-use Rattle.df_base.specs.Moments.{EachMoment, Extends, IsMoment}
+use Rattle.df_base.specs.Moments.{EachMoment, Extends}
 use Rattle.df_base.proofs.Laws.{changed_is_image, extends_self, from_before, now_is_image, weaker}
 use Rattle.df_disk.specs.Adds.{AddsPart, after_all}
 use Rattle.df_disk.specs.Told.{IsHonest, Told, did}
-use Rattle.df_disk.proofs.Laws.{goes_told}
 use Rattle.df_format.specs.declared.superblock.SuperFields.{SuperFields}
 use Rattle.df_layout.specs.declared.layout.Layout.{Layout}
 use Rattle.df_theory.specs.Device.{IsSafeDisk, NoChanceOf, units_log}
@@ -33,13 +32,14 @@ use Rattle.df_replica.specs.Making.{file_of}
 use Rattle.df_replica.specs.Opened.{Mends, MendsPartly, StopsOpening, begun_state}
 use Rattle.df_replica.specs.Serving.{Grade, IsGoodFor, StandsFor, Whole, format}
 use Rattle.df_replica.specs.Session.{Act, HasView, IsMidway, work_after}
-use Rattle.df_replica.proofs.Laws.{added_is_told, found_is_usable, good_left, good_safe, keeps_on, keeps_self}
+use Rattle.df_replica.proofs.Laws.{added_is_told, found_is_usable, good_left, good_safe, honest_stays, keeps_on, keeps_self}
 use Rattle.df_session.specs.Begun.{begun_work}
 use Rattle.df_session.specs.Found.{FoundFile, no_calls}
 use Rattle.df_session.specs.Laws.{CallsKeep}
 use Rattle.df_session.specs.Links.{CallsMade, events_made, list_of}
-use Rattle.df_session.specs.Acknowledging.{IsUntil, KeepsAnswered}
+use Rattle.df_session.specs.Acknowledging.{IsUntil, KeepsAnswered, WereAnswered}
 use Rattle.df_session.proofs.Laws.{file_there}
+use Rattle.df_top.proofs.Laws.{second_is_left}
 use Rattle.df_top.specs.Acknowledging.{run_calls, script_calls}
 use Rattle.df_top.specs.Formats.{Formats}
 use Rattle.df_session.specs.Keeping.{KeepsFile, LeavesAll, over}
@@ -50,60 +50,96 @@ use Rattle.df_top.specs.declared.mode.Mode.{Mode}
 use Rattle.df_top.specs.declared.mode.Mode.TheVariants.{Format, Run, Recover, Inspect, Scrub, Workload, Upgrade, Paced}
 use Rattle.df_top.specs.declared.status.Status.{Status}
 use Rattle.df_top.specs.declared.status.Status.TheVariants.{Done, Found, Words, Script, Refused, DiskFault, ReadFault, WriteFault, Memory}
-use Rattle.df_lifetime.specs.Life.{Chapter, EveryLifeGoesOn, EveryLifeIsInOrder, FormatWord, HaveAnswers, IsInOrder, MayHave, Outcome, ToAMoment, ToItsEnd, Word, calls_in, calls_made, calls_of, calls_to, chapter_of, chapters_of, outcome_of, sessions_in, word_calls}
-use Rattle.df_lifetime.specs.Life.Life.{Begun, Ended, Formatted, Made, Ran, Stopped}
+use Rattle.df_lifetime.specs.Life.{Chapter, EveryLifeGoesOn, EveryLifeIsInOrder, EveryWordGoesAlong, GoesAlong, HaveAnswers, IsInOrder, MayHave, OtherWord, Outcome, ToAMoment, ToItsEnd, Word, calls_in, calls_made, calls_of, calls_to, chapter_of, chapters_of, outcome_of, sessions_in, word_calls}
+use Rattle.df_lifetime.specs.Life.Life.{Begun, Ended, Made, Ran, Spared, Stopped, Taken}
+use Rattle.df_lifetime.specs.Life.OtherWord.{ToFormat, ToUpgrade}
 use Rattle.df_lifetime.proofs.Bases.{AnsweredOver, KeepsOver, told_over}
+use Rattle.df_lifetime.proofs.Along.{after_along, along_on, answered_along, extends_along, grows, moment_along, one_end}
 use Rattle.df_lifetime.proofs.Acts.{HasFront, ends_inputs, first_answers, front_and_rest, has_front, work_on}
 use Rattle.df_lifetime.proofs.Files.{one_file, one_told}
 use Rattle.df_lifetime.proofs.Haves.{begun_bare, had_on}
-use Rattle.df_lifetime.proofs.Orders.{Has, Order, after_barrier, goes_on, here, in_order, made_in_order, made_safe, may, none_referenced, order_of, same_moments, shows, stands_shown, synced, synced_moments}
+use Rattle.df_lifetime.proofs.Orders.{Has, Order, after_barrier, goes_on, here, in_order, made_in_order, made_safe, may, none_referenced, order_of, same_moments, shows, stands_shown, synced, synced_moments, taken_in_order}
 
--- what a word leaves that made these calls: an honest disk, whose log began where it did, and its log in order at the end, and at each moment, by what was answered by then
-pub record Comes (file : DataFile) (chapters : List Chapter) (calls : Option CallsMade) (t n : Told) : Type 0 where
-  pub honest : IsHonest n
-  pub start : n.log.start ≡ t.log.start
-  pub at_end : Order file (chapters_of ToItsEnd t.shown calls ++ chapters) n.log
-  pub moments : (k : ℕ) (log : Log) → IsMoment t.log n.log log → HaveAnswers k log calls → Order file (chapters_of (ToAMoment k) t.shown calls ++ chapters) log
+-- the word `format` leaves a disk as it is whose superblock isn't blank
+pub format_spares : (layout : Layout) (cluster : ℕ) (t n : Told) (old new : Option (List ℕ)) (status : Status) → (IsUnformatted t.shown → ⊥) → Formats layout cluster (Some t) (Some n) old new status → t ≡ n
+format_spares layout cluster t n old new Done formatted made = absurd (formatted (made.0.may.blank t refl))
+format_spares layout cluster t n old new Refused formatted refuses = one_told (Some n) t n refuses.1.same refl
+format_spares layout cluster t n old new DiskFault formatted part = elim part.1 [ inl none ↦ one_told (Some n) t n none refl | inr blank ↦ absurd (formatted blank) ]
+format_spares layout cluster t n old new WriteFault formatted (inl made) = absurd (formatted (made.0.may.blank t refl))
+format_spares layout cluster t n old new WriteFault formatted (inr refuses) = one_told (Some n) t n refuses.1.same refl
+format_spares layout cluster t n old new Memory formatted nothing = one_told (Some n) t n nothing.0 refl
+format_spares layout cluster t n old new Found formatted none = absurd none
+format_spares layout cluster t n old new Words formatted none = absurd none
+format_spares layout cluster t n old new Script formatted none = absurd none
+format_spares layout cluster t n old new ReadFault formatted none = absurd none
 
-module _ (file : DataFile) (chapters : List Chapter) (t : Told) (is : IsInOrder file chapters t) (chance : NoChanceOf (format file) t.log (now t.log)) where
-  -- ---- nothing but the barrier was done
+-- what a word leaves of a file's log that goes along with the disk, where it made these calls: it is honest, and in order at the end, and at each moment, by what was answered by then
+pub record Comes (file : DataFile) (first : View) (chapters : List Chapter) (calls : Option CallsMade) (t n b : Told) : Type 0 where
+  pub end : Told
+  pub along : GoesAlong t n b end
+  pub own : b ≡ t → end ≡ n
+  pub honest : IsHonest end
+  pub at_end : Order file first (chapters_of ToItsEnd t.shown calls ++ chapters) end.log
+  pub moments : (k : ℕ) (p m : Told) → Extends n.log p.log → GoesAlong t p b m → HaveAnswers k p.log calls → Order file first (chapters_of (ToAMoment k) t.shown calls ++ chapters) m.log
 
-  same_comes : (n : Told) → t ≡ n → Comes file chapters None t n
-  same_comes n same = subst (λ (x : Told). Comes file chapters None t x) same (record { honest = is.honest; start = refl; at_end = order_of file chapters t is; moments = λ k log moment had. same_moments file chapters t is chance log moment })
+module _ (file : DataFile) (first : View) (chapters : List Chapter) (b : Told) (is : IsInOrder file first chapters b) (chance : NoChanceOf (format file) b.log (now b.log)) (t : Told) (shown : b.shown ≡ t.shown) where
+  -- ---- no calls were made
 
-  sync_comes : (n : Told) → did Sync t ≡ n → Comes file chapters None t n
-  sync_comes n same =
-      subst (λ (x : Told). Comes file chapters None t x) same
-      (record { honest = record { shows = is.honest.shows }; start = refl; at_end = synced file chapters t is chance; moments = λ k log moment had. synced_moments file chapters t is chance log moment })
+  -- these events were added
+  quiet_comes : (es : List Event) (n : Told) → told_after es t ≡ n → Order file first chapters (told_after es b).log → EachMoment b.log (told_after es b).log (Order file first chapters) → Comes file first chapters None t n b
+  quiet_comes es n same at_end each =
+      let along : GoesAlong t (told_after es t) b (told_after es b) = after_along es t b shown in
+      subst (λ (x : Told). Comes file first chapters None t x b) same
+      (record {
+        end = told_after es b;
+        along = along;
+        own = ap (told_after es);
+        honest = honest_stays es b is.honest;
+        at_end = at_end;
+        moments = λ k p m until part had. each m.log (moment_along t p (told_after es t) b m (told_after es b) along part until);
+      })
 
-  part_comes : (new : Option Told) (n : Told) → new ≡ Some n → AddsPart (Sync ∷ []) (Some t) new → Comes file chapters None t n
+  -- nothing but the barrier was done
+  same_comes : (n : Told) → t ≡ n → Comes file first chapters None t n b
+  same_comes n same = quiet_comes [] n same (order_of file first chapters b is) (same_moments file first chapters b is chance)
+
+  sync_comes : (n : Told) → did Sync t ≡ n → Comes file first chapters None t n b
+  sync_comes n same = quiet_comes (Sync ∷ []) n same (synced file first chapters b is chance) (synced_moments file first chapters b is chance)
+
+  part_comes : (new : Option Told) (n : Told) → new ≡ Some n → AddsPart (Sync ∷ []) (Some t) new → Comes file first chapters None t n b
   part_comes new n to (inl none) = same_comes n (one_told new t n none to)
   part_comes new n to (inr all) = sync_comes n (one_told new (did Sync t) n all to)
 
   -- ---- the view that is found
 
   abbrev view : View
-  view = (here file chapters t is chance).view
+  view = (here file first chapters b is chance).view
 
-  opens : MayOpen file view t
-  opens = may file chapters t is chance
+  opens : MayOpen file view b
+  opens = may file first chapters b is chance
+
+  shows_now : now b.log ≡ t.shown
+  shows_now = shows file first chapters b is chance ∙ shown
 
   found_shown : IsFound (shape file) (unit_at file.layout file.cluster t.shown) view
-  found_shown = subst (λ (image : Image). IsFound (shape file) (unit_at file.layout file.cluster image) view) (shows file chapters t is chance) opens.found
+  found_shown = subst (λ (image : Image). IsFound (shape file) (unit_at file.layout file.cluster image) view) shows_now opens.found
+
+  stands_there : StandsFor Whole (unit_at file.layout file.cluster t.shown) view
+  stands_there = subst (λ (image : Image). StandsFor Whole (unit_at file.layout file.cluster image) view) shown (stands_shown file first chapters b is chance)
 
   whole : IsImage t.shown
-  whole = subst IsImage (shows file chapters t is chance) (now_is_image t.log.start t.log.events is.safe.is_log.start is.safe.is_log.events)
+  whole = subst IsImage shows_now (now_is_image b.log.start b.log.events is.safe.is_log.start is.safe.is_log.events)
 
   -- its superblock is there
   formatted : IsUnformatted t.shown → ⊥
   formatted blank = found_is_usable file t.shown view is.version whole found_shown NotFormatted blank
 
-  had : MayHave file chapters view
-  had = (here file chapters t is chance).had
+  had : MayHave file first chapters view
+  had = (here file first chapters b is chance).had
 
   -- what was opened is the file, in whatever rooms
   one_opened : (layout : Layout) (s : Replica) → IsOpened layout t.shown s → s.file ≡ file
-  one_opened layout s opened = one_file file layout t.shown view s found_shown opened
+  one_opened layout s opened = one_file 2 file layout t.shown view s found_shown opened
 
   -- and boots were left
   one_unspent : (layout : Layout) (s : Replica) → IsOpened layout t.shown s → boot_of view < 2 ^ 62
@@ -115,47 +151,40 @@ module _ (file : DataFile) (chapters : List Chapter) (t : Told) (is : IsInOrder 
 
   -- ---- the disk failed within the mending or the boot update
 
-  good_order : (raised : View) → KeepsView view raised → (log : Log) → IsGoodFor Whole (format file) (shape file) view raised log → Order file chapters log
+  good_order : (raised : View) → KeepsView view raised → (log : Log) → IsGoodFor Whole (format file) (shape file) view raised log → Order file first chapters log
   good_order raised bare log good = record {
     safe = good_safe file Whole view raised log good;
     left = λ image left no. elim (good_left file Whole view raised log good image left no) [
-      | inl old ↦ record { view = old.0; had = had_on file chapters view old.0 had old.1; held = old.2.0; stands = old.2.1 }
-      | inr new ↦ record { view = new.0; had = had_on file chapters view new.0 had (keeps_on view raised new.0 bare new.1); held = new.2.0; stands = new.2.1 }
+      | inl old ↦ record { view = old.0; had = had_on file first chapters view old.0 had old.1; held = old.2.0; stands = old.2.1 }
+      | inr new ↦ record { view = new.0; had = had_on file first chapters view new.0 had (keeps_on view raised new.0 bare new.1); held = new.2.0; stands = new.2.1 }
     ];
   }
 
-  mends_comes : (layout : Layout) (new : Option Told) (n : Told) → new ≡ Some n → MendsPartly layout t new → Comes file chapters None t n
+  mends_comes : (layout : Layout) (new : Option Told) (n : Told) → new ≡ Some n → MendsPartly layout t new → Comes file first chapters None t n b
   mends_comes layout new n to mends =
-      let goes = goes_told (did Sync t) new (mends.mending.events, mends.mending.told) in
-      let same : goes.0 ≡ n = one_told new goes.0 n goes.1 to in
       let one : mends.found.file ≡ file = one_opened layout mends.found mends.opened in
       let es : List Event = mends.mending.events in
       let d : SuperFields = boot_fields mends.found in
-      let raised : View = kept (begun_state file t view d) in
-      let ends : told_after es (did Sync t) ≡ n = one_told new (told_after es (did Sync t)) n (mends.mending.told ∙ added_is_told es (did Sync t)) to in
-      let both : EachMoment (did Sync t).log (told_after es (did Sync t)).log (IsGoodFor Whole (format file) (shape file) view raised) × IsSameBare view raised =
+      let raised : View = kept (begun_state file b view d) in
+      let end : Told = told_after es (did Sync b) in
+      let both : EachMoment (did Sync b).log end.log (IsGoodFor Whole (format file) (shape file) view raised) × IsSameBare view raised =
       (subst
       (λ (f : DataFile). (g : Grade) (v : View) (base : Told) → base.shown ≡ t.shown → MayOpen f v base → StandsFor g (unit_at f.layout f.cluster t.shown) v
       → EachMoment (did Sync base).log (told_after es (did Sync base)).log (IsGoodFor g (format f) (shape f) v (kept (begun_state f base v d))) × IsSameBare v (kept (begun_state f base v d))) one mends.moments)
-      Whole view t refl opens (stands_shown file chapters t is chance) in
-      let each : EachMoment (did Sync t).log n.log (IsGoodFor Whole (format file) (shape file) view raised) =
-      subst (λ (x : Told). EachMoment (did Sync t).log x.log (IsGoodFor Whole (format file) (shape file) view raised)) ends both.0 in
-      let grew : Extends n.log (did Sync t).log = subst (λ (x : Told). Extends x.log (did Sync t).log) same goes.2.grew in
-      let later : EachMoment (did Sync t).log n.log (Order file chapters) = weaker (did Sync t).log n.log (IsGoodFor Whole (format file) (shape file) view raised) (Order file chapters) (λ log good. good_order raised both.1 log good) each in
-      record {
-        honest = subst IsHonest same (goes.2.honest (record { shows = is.honest.shows }));
-        start = grew.2;
-        at_end = later n.log (record { since = grew; until = extends_self n.log });
-        moments = λ k log moment had. after_barrier file chapters t is chance n.log grew later log moment;
-      }
+      Whole view b shown opens stands_there in
+      let later : EachMoment (did Sync b).log end.log (Order file first chapters) =
+      weaker (did Sync b).log end.log (IsGoodFor Whole (format file) (shape file) view raised) (Order file first chapters) (λ log good. good_order raised both.1 log good) both.0 in
+      let grew : Extends end.log (did Sync b).log = grows es (did Sync b) in
+      quiet_comes (Sync ∷ es) n (one_told new (told_after es (did Sync t)) n (mends.mending.told ∙ added_is_told es (did Sync t)) to) (later end.log (record { since = grew; until = extends_self end.log }))
+      (after_barrier file first chapters b is chance end.log grew later)
 
-  stops_comes : (layout : Layout) (new : Option Told) (n : Told) → new ≡ Some n → StopsOpening layout t new → Comes file chapters None t n
+  stops_comes : (layout : Layout) (new : Option Told) (n : Told) → new ≡ Some n → StopsOpening layout t new → Comes file first chapters None t n b
   stops_comes layout new n to (inl none) = same_comes n (one_told new t n none to)
   stops_comes layout new n to (inr (inl all)) = sync_comes n (one_told new (did Sync t) n all to)
   stops_comes layout new n to (inr (inr mends)) = mends_comes layout new n to mends
 
   -- it was refused behind the barrier, as one of another layout is
-  refused_comes : (layout : Layout) (old new : Outside) (status : Status) (n : Told) → new.told ≡ Some n → RefusesFile layout t old new status → Comes file chapters None t n
+  refused_comes : (layout : Layout) (old new : Outside) (status : Status) (n : Told) → new.told ≡ Some n → RefusesFile layout t old new status → Comes file first chapters None t n b
   refused_comes layout old new status n to refuses = sync_comes n (one_told new.told (did Sync t) n refuses.barrier to)
 
   -- ---- the file was opened, and kept
@@ -163,42 +192,38 @@ module _ (file : DataFile) (chapters : List Chapter) (t : Told) (is : IsInOrder 
   abbrev start : Work
   start = begun_work file t.shown view
 
-  keeps_as : (replica : Replica) (acts : List Act) (xs : List Answer) (failed : Option Act) (mending added : List Event) (n : Told) → over mending added t ≡ Some n → replica.file ≡ file
-      → KeepsOver replica.file t acts xs failed mending added → KeepsFile file Whole start t acts xs failed (Some n)
-  keeps_as replica acts xs failed mending added n to one keeps =
-      subst (λ (o : Option Told). KeepsFile file Whole start t acts xs failed o) to
-      (subst (λ (f : DataFile). KeepsOver f t acts xs failed mending added) one keeps Whole view t refl opens (stands_shown file chapters t is chance))
+  keeps_as : (replica : Replica) (acts : List Act) (xs : List Answer) (failed : Option Act) (mending added : List Event) → replica.file ≡ file → KeepsOver replica.file t acts xs failed mending added
+      → KeepsFile file Whole start b acts xs failed (over mending added b)
+  keeps_as replica acts xs failed mending added one keeps = subst (λ (f : DataFile). KeepsOver f t acts xs failed mending added) one keeps Whole view b shown opens stands_there
 
-  answered_as : (replica : Replica) (c : CallsMade) (mending : List Event) → over mending [] t ≡ c.old → replica.file ≡ file → AnsweredOver replica.file t mending c → KeepsAnswered file Whole start c.old c
-  answered_as replica c mending from one keeps =
-      subst (λ (o : Option Told). KeepsAnswered file Whole start o c) from
-      (subst (λ (f : DataFile). AnsweredOver f t mending c) one keeps Whole view t refl opens (stands_shown file chapters t is chance))
+  answered_as : (replica : Replica) (c : CallsMade) (mending : List Event) → replica.file ≡ file → AnsweredOver replica.file t mending c → KeepsAnswered file Whole start (over mending [] b) c
+  answered_as replica c mending one keeps = subst (λ (f : DataFile). AnsweredOver f t mending c) one keeps Whole view b shown opens stands_there
 
-  module _ (acts : List Act) (xs : List Answer) (failed : Option Act) (n : Told) (keeps : KeepsFile file Whole start t acts xs failed (Some n)) where
-    same_end : keeps.after ≡ n
-    same_end = one_told (Some n) keeps.after n keeps.is refl
+  module _ (acts : List Act) (xs : List Answer) (failed : Option Act) (e : Told) (keeps : KeepsFile file Whole start b acts xs failed (Some e)) where
+    same_end : keeps.after ≡ e
+    same_end = one_told (Some e) keeps.after e keeps.is refl
 
-    honest_end : IsHonest n
+    honest_end : IsHonest e
     honest_end = subst IsHonest same_end keeps.honest
 
-    barrier : Extends n.log (did Sync t).log
-    barrier = subst (λ (x : Told). Extends x.log (did Sync t).log) same_end keeps.barrier
+    barrier : Extends e.log (did Sync b).log
+    barrier = subst (λ (x : Told). Extends x.log (did Sync b).log) same_end keeps.barrier
 
-    midway : EachMoment (did Sync t).log n.log (IsMidway file Whole start (acts ++ list_of failed))
-    midway = subst (λ (x : Told). EachMoment (did Sync t).log x.log (IsMidway file Whole start (acts ++ list_of failed))) same_end keeps.moments
+    midway : EachMoment (did Sync b).log e.log (IsMidway file Whole start (acts ++ list_of failed))
+    midway = subst (λ (x : Told). EachMoment (did Sync b).log x.log (IsMidway file Whole start (acts ++ list_of failed))) same_end keeps.moments
 
-    leaves : LeavesAll file Whole start acts failed n
+    leaves : LeavesAll file Whole start acts failed e
     leaves = subst (λ (x : Told). LeavesAll file Whole start acts failed x) same_end keeps.left
 
-    last : IsMidway file Whole start (acts ++ list_of failed) n.log
-    last = midway n.log (record { since = barrier; until = extends_self n.log })
+    last : IsMidway file Whole start (acts ++ list_of failed) e.log
+    last = midway e.log (record { since = barrier; until = extends_self e.log })
 
     abbrev ended : Chapter
     ended = record { shown = t.shown; answered = acts; answers = xs; perhaps = list_of failed }
 
     module _ (unspent : boot_of view < 2 ^ 62) (inputs : AreInputs (acts ++ list_of failed)) where
       -- at the end these acts came through
-      all_came : (image : Image) (came more rest : List Act) → came ≡ acts ++ more → list_of failed ≡ more ++ rest → HasView file Whole (work_after file start came) image → Has file (ended ∷ chapters) image
+      all_came : (image : Image) (came more rest : List Act) → came ≡ acts ++ more → list_of failed ≡ more ++ rest → HasView file Whole (work_after file start came) image → Has file first (ended ∷ chapters) image
       all_came image came more rest are some has = record {
         view = has.0;
         had = (view, had, inr (came, record { whole = whole; found = found_shown; unspent = unspent; inputs = inputs; answers_are = keeps.answered; came = record { more = more; rest = rest; are = are; some = some }; view = has.1 }));
@@ -206,26 +231,33 @@ module _ (file : DataFile) (chapters : List Chapter) (t : Told) (is : IsInOrder 
         stands = has.2.1;
       }
 
-  end_order : (acts : List Act) (xs : List Answer) (failed : Option Act) (n : Told) (keeps : KeepsFile file Whole start t acts xs failed (Some n)) → boot_of view < 2 ^ 62 → AreInputs (acts ++ list_of failed)
-      → LeavesAll file Whole start acts failed n → Order file (record { shown = t.shown; answered = acts; answers = xs; perhaps = list_of failed } ∷ chapters) n.log
-  end_order acts xs None n keeps unspent inputs all = record {
-    safe = (last acts xs None n keeps).safe;
-    left = λ image left no. all_came acts xs None n keeps unspent inputs image acts [] [] (sym (append-nil acts)) refl (all image left no);
+  end_order : (acts : List Act) (xs : List Answer) (failed : Option Act) (e : Told) (keeps : KeepsFile file Whole start b acts xs failed (Some e)) → boot_of view < 2 ^ 62 → AreInputs (acts ++ list_of failed)
+      → LeavesAll file Whole start acts failed e → Order file first (record { shown = t.shown; answered = acts; answers = xs; perhaps = list_of failed } ∷ chapters) e.log
+  end_order acts xs None e keeps unspent inputs all = record {
+    safe = (last acts xs None e keeps).safe;
+    left = λ image left no. all_came acts xs None e keeps unspent inputs image acts [] [] (sym (append-nil acts)) refl (all image left no);
   }
-  end_order acts xs (Some a) n keeps unspent inputs all = record {
-    safe = (last acts xs (Some a) n keeps).safe;
+  end_order acts xs (Some a) e keeps unspent inputs all = record {
+    safe = (last acts xs (Some a) e keeps).safe;
     left = λ image left no. elim (all image left no) [
-      | inl before ↦ all_came acts xs (Some a) n keeps unspent inputs image acts [] (a ∷ []) (sym (append-nil acts)) refl before
-      | inr after ↦ all_came acts xs (Some a) n keeps unspent inputs image (acts ++ a ∷ []) (a ∷ []) [] refl refl after
+      | inl before ↦ all_came acts xs (Some a) e keeps unspent inputs image acts [] (a ∷ []) (sym (append-nil acts)) refl before
+      | inr after ↦ all_came acts xs (Some a) e keeps unspent inputs image (acts ++ a ∷ []) (a ∷ []) [] refl refl after
     ];
   }
 
   -- up to a moment these did
-  module _ (c : CallsMade) (n : Told) (keeps : KeepsFile file Whole start t c.acts c.answers c.failed (Some n)) (unspent : boot_of view < 2 ^ 62) (inputs : AreInputs (c.acts ++ list_of c.failed)) where
+  module _ (c : CallsMade) (mending : List Event) (unspent : boot_of view < 2 ^ 62) (inputs : AreInputs (c.acts ++ list_of c.failed)) (keeps : KeepsFile file Whole start b c.acts c.answers c.failed (over mending (events_made c) b)) where
+    -- what the disk and the log tell behind the mending, and at the end
+    abbrev opened : Told
+    opened = told_after mending (did Sync b)
+
+    abbrev end : Told
+    end = told_after (events_made c) opened
+
     abbrev cut : ℕ → Chapter
     cut k = chapter_of (ToAMoment k) t.shown c
 
-    some_came : (k : ℕ) (image : Image) → HasFront file Whole (work_after file start (take k c.acts)) (drop k c.acts ++ list_of c.failed) image → Has file (cut k ∷ chapters) image
+    some_came : (k : ℕ) (image : Image) → HasFront file Whole (work_after file start (take k c.acts)) (drop k c.acts ++ list_of c.failed) image → Has file first (cut k ∷ chapters) image
     some_came k image has = record {
       view = has.has.0;
       had = (
@@ -248,73 +280,83 @@ module _ (file : DataFile) (chapters : List Chapter) (t : Told) (is : IsInOrder 
       stands = has.has.2.1;
     }
 
-    mid_order : (k : ℕ) (log : Log) → IsMidway file Whole (work_after file start (take k c.acts)) (drop k c.acts ++ list_of c.failed) log → Order file (cut k ∷ chapters) log
+    mid_order : (k : ℕ) (log : Log) → IsMidway file Whole (work_after file start (take k c.acts)) (drop k c.acts ++ list_of c.failed) log → Order file first (cut k ∷ chapters) log
     mid_order k log mid = record {
       safe = mid.safe;
       left = λ image left no. some_came k image (has_front file Whole (work_after file start (take k c.acts)) (drop k c.acts ++ list_of c.failed) image (mid.left image left no));
     }
 
-    none_came : (image : Image) → Has file chapters image → Has file (cut 0 ∷ chapters) image
+    none_came : (image : Image) → Has file first chapters image → Has file first (cut 0 ∷ chapters) image
     none_came image has = record { view = has.view; had = (has.view, has.had, inl (record { none = refl; no_answers = refl; same = keeps_self has.view })); held = has.held; stands = has.stands }
 
-    cut_order : (log : Log) → Order file chapters log → Order file (cut 0 ∷ chapters) log
+    cut_order : (log : Log) → Order file first chapters log → Order file first (cut 0 ∷ chapters) log
     cut_order log order = record { safe = order.safe; left = λ image left no. none_came image (order.left image left no) }
 
-    -- where none was answered it may be a moment before the barrier
-    first_moments : EachMoment t.log n.log (Order file (cut 0 ∷ chapters))
-    first_moments =
-        from_before Sync t.log n.log (Order file (cut 0 ∷ chapters)) (cut_order t.log (order_of file chapters t is)) (barrier c.acts c.answers c.failed n keeps)
-        (weaker (did Sync t).log n.log (IsMidway file Whole start (c.acts ++ list_of c.failed)) (Order file (cut 0 ∷ chapters)) (mid_order 0) (midway c.acts c.answers c.failed n keeps))
+    module _ (on : KeepsAnswered file Whole start (over mending [] b) c) where
+      -- where none was answered it may be a moment before the barrier
+      first_moments : EachMoment b.log end.log (Order file first (cut 0 ∷ chapters))
+      first_moments =
+          from_before Sync b.log end.log (Order file first (cut 0 ∷ chapters)) (cut_order b.log (order_of file first chapters b is)) (barrier c.acts c.answers c.failed end keeps)
+          (weaker (did Sync b).log end.log (IsMidway file Whole start (c.acts ++ list_of c.failed)) (Order file first (cut 0 ∷ chapters)) (mid_order 0) (midway c.acts c.answers c.failed end keeps))
 
-    module _ (on : KeepsAnswered file Whole start c.old c) (to : after_all (events_made c) c.old ≡ Some n) where
-      until : (log : Log) → Extends n.log log → IsUntil (after_all (events_made c) c.old) log
-      until log later = subst (λ (o : Option Told). IsUntil o log) (sym to) later
+      until : (log : Log) → Extends end.log log → IsUntil (after_all (events_made c) (over mending [] b)) log
+      until log later = subst (λ (o : Option Told). IsUntil o log) (sym (added_is_told (events_made c) opened)) later
 
-      all_moments : (k : ℕ) (log : Log) → IsMoment t.log n.log log → HaveAnswers k log (Some c) → Order file (cut k ∷ chapters) log
-      all_moments zero log moment none = first_moments log moment
-      all_moments (suc k) log moment were = mid_order (suc k) log (on (suc k) log were (until log moment.until))
+      -- what the disk tells at the end
+      abbrev told : Told
+      told = told_after (events_made c) (told_after mending (did Sync t))
 
-      served_comes : Comes file chapters (Some c) t n
-      served_comes = record {
-        honest = honest_end c.acts c.answers c.failed n keeps;
-        start = (barrier c.acts c.answers c.failed n keeps).2;
-        at_end = end_order c.acts c.answers c.failed n keeps unspent inputs (leaves c.acts c.answers c.failed n keeps);
-        moments = all_moments;
-      }
+      along : GoesAlong t told b end
+      along =
+          let behind : GoesAlong t (told_after mending (did Sync t)) b opened = after_along (Sync ∷ mending) t b shown in
+          along_on t (told_after mending (did Sync t)) told b opened end behind (after_along (events_made c) (told_after mending (did Sync t)) opened behind.shows)
+
+      all_moments : (k : ℕ) (p m : Told) → Extends told.log p.log → GoesAlong t p b m → HaveAnswers k p.log (Some c) → c.old ≡ over mending [] t → Order file first (cut k ∷ chapters) m.log
+      all_moments zero p m later part none from = first_moments m.log (moment_along t p told b m end along part later)
+      all_moments (suc k) p m later part were from =
+          mid_order (suc k) m.log
+          (on (suc k) m.log (answered_along t p b m part (suc k) mending c shown (subst (λ (o : Option Told). WereAnswered (suc k) o p.log c) from were)) (until m.log (extends_along t p told b m end along part later)))
+
+      served_comes : (n : Told) → told ≡ n → c.old ≡ over mending [] t → Comes file first chapters (Some c) t n b
+      served_comes n same from =
+          subst (λ (x : Told). Comes file first chapters (Some c) t x b) same
+          (record {
+            end = end;
+            along = along;
+            own = ap (λ (x : Told). told_after (events_made c) (told_after mending (did Sync x)));
+            honest = honest_end c.acts c.answers c.failed end keeps;
+            at_end = end_order c.acts c.answers c.failed end keeps unspent inputs (leaves c.acts c.answers c.failed end keeps);
+            moments = λ k p m later part had. all_moments k p m later part had from;
+          })
 
   -- ---- nothing was asked of it
 
-  module _ (n : Told) (keeps : KeepsFile file Whole start t [] [] None (Some n)) where
-    idle_order : (log : Log) → IsMidway file Whole start [] log → Order file chapters log
-    idle_order log mid = record {
-      safe = mid.safe;
-      left = λ image left no.
-          let has : HasView file Whole start image = mid.left image left no in
-          record { view = has.0; had = had_on file chapters view has.0 had (keeps_on view (kept start) has.0 (begun_bare file t.shown view) has.1); held = has.2.0; stands = has.2.1 };
-    }
+  idle_order : (log : Log) → IsMidway file Whole start [] log → Order file first chapters log
+  idle_order log mid = record {
+    safe = mid.safe;
+    left = λ image left no.
+        let has : HasView file Whole start image = mid.left image left no in
+        record { view = has.0; had = had_on file first chapters view has.0 had (keeps_on view (kept start) has.0 (begun_bare file t.shown view) has.1); held = has.2.0; stands = has.2.1 };
+  }
 
-    idle_moments : EachMoment (did Sync t).log n.log (Order file chapters)
-    idle_moments = weaker (did Sync t).log n.log (IsMidway file Whole start []) (Order file chapters) idle_order (midway [] [] None n keeps)
-
-    idle_comes : Comes file chapters None t n
-    idle_comes = record {
-      honest = honest_end [] [] None n keeps;
-      start = (barrier [] [] None n keeps).2;
-      at_end = idle_moments n.log (record { since = barrier [] [] None n keeps; until = extends_self n.log });
-      moments = λ k log moment had. after_barrier file chapters t is chance n.log (barrier [] [] None n keeps) idle_moments log moment;
-    }
+  idle_comes : (mending : List Event) (n : Told) → KeepsFile file Whole start b [] [] None (over mending [] b) → told_after mending (did Sync t) ≡ n → Comes file first chapters None t n b
+  idle_comes mending n keeps same =
+      let end : Told = told_after mending (did Sync b) in
+      let idle : EachMoment (did Sync b).log end.log (Order file first chapters) = weaker (did Sync b).log end.log (IsMidway file Whole start []) (Order file first chapters) idle_order (midway [] [] None end keeps) in
+      let grew : Extends end.log (did Sync b).log = barrier [] [] None end keeps in
+      quiet_comes (Sync ∷ mending) n same (idle end.log (record { since = grew; until = extends_self end.log })) (after_barrier file first chapters b is chance end.log grew idle)
 
   -- ---- a word
 
   module _ (layout : Layout) (old new : Outside) (status : Status) (n : Told) (to : new.told ≡ Some n) where
     -- calls behind an open and what it mended
     calls_come : (replica : Replica) (c : CallsMade) (mending : Mends replica.file (Some (did Sync t)) c.old) → replica.file ≡ file → boot_of view < 2 ^ 62 → new.told ≡ after_all (events_made c) c.old
-        → KeepsOver replica.file t c.acts c.answers c.failed mending.events (events_made c) → AnsweredOver replica.file t mending.events c → Comes file chapters (Some c) t n
+        → KeepsOver replica.file t c.acts c.answers c.failed mending.events (events_made c) → AnsweredOver replica.file t mending.events c → Comes file first chapters (Some c) t n b
     calls_come replica c mending one unspent adds keeps acknowledged =
-        let kept_whole : KeepsFile file Whole start t c.acts c.answers c.failed (Some n) =
-        keeps_as replica c.acts c.answers c.failed mending.events (events_made c) n (sym (told_over mending.events (events_made c) t c.old new.told mending.told adds) ∙ to) one keeps in
         let inputs : AreInputs (c.acts ++ list_of c.failed) = ends_inputs c.from c.to c.old c.new c.acts c.answers c.failed c.calls in
-        served_comes c n kept_whole unspent inputs (answered_as replica c mending.events (sym (told_over mending.events [] t c.old c.old mending.told refl)) one acknowledged) (sym adds ∙ to)
+        let told : Told = told_after (events_made c) (told_after mending.events (did Sync t)) in
+        served_comes c mending.events unspent inputs (keeps_as replica c.acts c.answers c.failed mending.events (events_made c) one keeps) (answered_as replica c mending.events one acknowledged) n
+        (one_told new.told told n (told_over mending.events (events_made c) t c.old new.told mending.told adds) to) (told_over mending.events [] t c.old c.old mending.told refl)
 
     -- what was found is the file
     found_one : (found : FoundFile layout t) → found.replica.file ≡ file
@@ -324,12 +366,12 @@ module _ (file : DataFile) (chapters : List Chapter) (t : Told) (is : IsInOrder 
     found_unspent found = one_unspent layout found.found found.is_opened
 
     -- no call was made on it
-    idles : (found : FoundFile layout t) → new.told ≡ found.mended → CallsKeep t found.replica found.mended found.mending (no_calls found) → Comes file chapters None t n
+    idles : (found : FoundFile layout t) → new.told ≡ found.mended → CallsKeep t found.replica found.mended found.mending (no_calls found) → Comes file first chapters None t n b
     idles found told calls =
-        idle_comes n
-        (keeps_as found.replica [] [] None found.mending.events [] n (sym (told_over found.mending.events [] t found.mended found.mended found.mending.told refl) ∙ sym told ∙ to) (found_one found) calls.keeps)
+        idle_comes found.mending.events n (keeps_as found.replica [] [] None found.mending.events [] (found_one found) calls.keeps)
+        (one_told new.told (told_after found.mending.events (did Sync t)) n (told ∙ told_over found.mending.events [] t found.mended found.mended found.mending.told refl) to)
 
-    works_come : (mode : Mode) (found : FoundFile layout t) (works : Works mode layout t found old new status) → Comes file chapters (word_calls mode layout t found old new status works) t n
+    works_come : (mode : Mode) (found : FoundFile layout t) (works : Works mode layout t found old new status) → Comes file first chapters (word_calls mode layout t found old new status works) t n b
     works_come (Format shape cluster) found works = absurd works
     works_come Upgrade found works = absurd works
     works_come Run found serves = calls_come found.replica (script_calls serves.session) found.mending (found_one found) (found_unspent found) serves.adds serves.calls.keeps serves.calls.acknowledged
@@ -340,7 +382,7 @@ module _ (file : DataFile) (chapters : List Chapter) (t : Told) (is : IsInOrder 
     works_come (Workload seed count) found works = calls_come found.replica (run_calls works.worked) found.mending (found_one found) (found_unspent found) works.calls.adds works.calls.keeps works.calls.acknowledged
 
     -- the disk failed before that
-    before_comes : (mode : Mode) → StopsBefore mode layout t new.told → Comes file chapters None t n
+    before_comes : (mode : Mode) → StopsBefore mode layout t new.told → Comes file first chapters None t n b
     before_comes (Format shape cluster) stops = stops_comes layout new.told n to stops
     before_comes Upgrade stops = stops_comes layout new.told n to stops
     before_comes Run stops = stops_comes layout new.told n to stops
@@ -350,39 +392,29 @@ module _ (file : DataFile) (chapters : List Chapter) (t : Told) (is : IsInOrder 
     before_comes (Paced pace) stops = stops_comes layout new.told n to stops
     before_comes (Workload seed count) stops = stops_comes layout new.told n to stops
 
-    comes_so : (mode : Mode) (comes : ComesTo mode layout t old new status) → Comes file chapters (calls_to mode layout t old new status comes) t n
+    comes_so : (mode : Mode) (comes : ComesTo mode layout t old new status) → Comes file first chapters (calls_to mode layout t old new status comes) t n b
     comes_so mode (inl refuses) = refused_comes layout old new status n to refuses
     comes_so mode (inr (inl fails)) = before_comes mode fails.disk
     comes_so mode (inr (inr works)) = works_come mode works.0 works.1
 
-    does_comes : (mode : Mode) (does : Does mode layout t old new status) → Comes file chapters (calls_of mode layout t old new status does) t n
+    does_comes : (mode : Mode) (does : Does mode layout t old new status) → Comes file first chapters (calls_of mode layout t old new status does) t n b
     does_comes mode does = comes_so mode does.1
 
   outcome_comes : (mode : Mode) (old new : Outside) (status : Status) (n : Told) → old.told ≡ Some t → new.told ≡ Some n → (outcome : Outcome mode t old new status)
-      → Comes file chapters (calls_in mode t old new status outcome) t n
+      → Comes file first chapters (calls_in mode t old new status outcome) t n b
   outcome_comes mode old new status n from to (inl nothing) = same_comes n (one_told new.told t n (nothing.without.same ∙ from) to)
   outcome_comes mode old new status n from to (inr (inl refuses)) = same_comes n (one_told new.told t n (refuses.same ∙ from) to)
   outcome_comes mode old new status n from to (inr (inr does)) = does_comes does.0 old new status n to mode does.1
 
-  pub word_comes : (n : Told) (word : Word t n) → Comes file chapters (calls_made t n word) t n
+  pub word_comes : (n : Told) (word : Word t n) → Comes file first chapters (calls_made t n word) t n b
   word_comes n word = outcome_comes word.mode word.old word.new word.status n word.from word.to (outcome_of word.mode t word.old word.new word.status word.carried word.from word.whole)
 
-  -- ---- the word `format` again
+  -- ---- the other words
 
-  pub formatted_same : (layout : Layout) (cluster : ℕ) (n : Told) (old new : Option (List ℕ)) (status : Status) → Formats layout cluster (Some t) (Some n) old new status → t ≡ n
-  formatted_same layout cluster n old new Done made = absurd (formatted (made.0.may.blank t refl))
-  formatted_same layout cluster n old new Refused refuses = one_told (Some n) t n refuses.1.same refl
-  formatted_same layout cluster n old new DiskFault part = elim part.1 [ inl none ↦ one_told (Some n) t n none refl | inr blank ↦ absurd (formatted blank) ]
-  formatted_same layout cluster n old new WriteFault (inl made) = absurd (formatted (made.0.may.blank t refl))
-  formatted_same layout cluster n old new WriteFault (inr refuses) = one_told (Some n) t n refuses.1.same refl
-  formatted_same layout cluster n old new Memory nothing = one_told (Some n) t n nothing.0 refl
-  formatted_same layout cluster n old new Found none = absurd none
-  formatted_same layout cluster n old new Words none = absurd none
-  formatted_same layout cluster n old new Script none = absurd none
-  formatted_same layout cluster n old new ReadFault none = absurd none
-
-  formatted_order : (layout : Layout) (cluster : ℕ) (n : Told) (status : Status) → FormatWord layout cluster t n status → IsInOrder file chapters n
-  formatted_order layout cluster n status word = subst (IsInOrder file chapters) (formatted_same layout cluster n word.old word.new status word.formats) is
+  -- neither does anything to a file of version 2
+  pub other_same : (n : Told) → OtherWord t n → t ≡ n
+  other_same n (ToFormat layout cluster status word) = format_spares layout cluster t n word.old word.new status formatted word.formats
+  other_same n (ToUpgrade status word) = one_told word.new.told t n (second_is_left file view t word.old word.new status is.version whole found_shown word.from word.runs ∙ word.from) word.to
 
 -- ---- a stop
 
@@ -401,8 +433,8 @@ left_by log changes is loose = record {
   kept = λ sector firm. changed_kept log.events changes (now log) sector loose firm;
 }
 
-module _ (file : DataFile) (chapters : List Chapter) (t : Told) (version : file.version ≡ 2) (safe : IsSafeDisk (format file) (shape file) t.log) (honest : IsHonest t) (changes : List (ℕ × List ℕ)) (loose : AreLoose t.log.events changes)
-    (chance : NoChanceOf (format file) t.log (changed changes (now t.log))) (there : Has file chapters (changed changes (now t.log))) where
+module _ (file : DataFile) (first : View) (chapters : List Chapter) (t : Told) (version : file.version ≡ 2) (safe : IsSafeDisk (format file) (shape file) t.log) (honest : IsHonest t) (changes : List (ℕ × List ℕ)) (loose : AreLoose t.log.events changes)
+    (chance : NoChanceOf (format file) t.log (changed changes (now t.log))) (there : Has file first chapters (changed changes (now t.log))) where
   rests : RestsOn (shape file) (units_log (format file) (did (Stop changes) t).log) there.view
   rests = disk_stop_law (format file) (shape file) there.view t.log changes safe loose chance there.held
 
@@ -410,37 +442,52 @@ module _ (file : DataFile) (chapters : List Chapter) (t : Told) (version : file.
   only : (image : Image) → IsLeft (did (Stop changes) t).log image → changed changes (now t.log) ≡ image
   only image left i sector = sym (left.kept sector refl) i
 
-  stopped_order : IsInOrder file chapters (did (Stop changes) t)
+  stopped_order : IsInOrder file first chapters (did (Stop changes) t)
   stopped_order =
-      in_order file chapters (did (Stop changes) t) version (record { shows = λ sector i. changed changes (λ s. honest.shows s i) sector })
+      in_order file first chapters (did (Stop changes) t) version (record { shows = λ sector i. changed changes (λ s. honest.shows s i) sector })
       (record {
         safe =
             safe_disk_law (format file) (shape file) (did (Stop changes) t).log (is_format file.layout file.cluster) (record { start = safe.is_log.start; events = (loose, safe.is_log.events) })
             (rests_safe (shape file) (units_log (format file) (did (Stop changes) t).log) there.view rests);
-        left = λ image left no. subst (Has file chapters) (only image left) there;
+        left = λ image left no. subst (Has file first chapters) (only image left) there;
       })
 
 -- ---- the laws
 
+ended_order : (file : DataFile) (first : View) (chapters : List Chapter) (m e : Told) → file.version ≡ 2 → e ≡ m → IsHonest e → Order file first chapters e.log → IsInOrder file first chapters m
+ended_order file first chapters m e version same honest order = subst (IsInOrder file first chapters) same (in_order file first chapters e version honest order)
+
 pub every_life_is_in_order : EveryLifeIsInOrder
-every_life_is_in_order _ _ _ (Made layout cluster t n makable honest word) = made_in_order layout cluster t n makable honest word
-every_life_is_in_order _ _ _ (Begun layout cluster t n m status changes makable honest word wanting moment there loose chance held) =
+every_life_is_in_order _ _ _ _ (Made layout cluster t n makable honest word) = made_in_order layout cluster t n makable honest word
+every_life_is_in_order _ _ _ _ (Begun layout cluster t n m status changes makable honest word wanting moment there loose chance held) =
     let file = file_of layout cluster makable.named in
     let safe = made_safe layout cluster t n makable honest status word wanting m.log moment in
-    stopped_order file [] m refl safe there changes loose chance
+    stopped_order file (first_view layout cluster) [] m refl safe there changes loose chance
     (record { view = first_view layout cluster; had = keeps_self (first_view layout cluster); held = held; stands = none_referenced file (changed changes (now m.log)) })
-every_life_is_in_order _ _ _ (Ran file t n chapters word life chance) =
-    let is = every_life_is_in_order file t chapters life in
-    let comes = word_comes file chapters t is chance n word in
-    in_order file (sessions_in ToItsEnd t n word ++ chapters) n is.version comes.honest comes.at_end
-every_life_is_in_order _ _ _ (Ended file t n m chapters word answered life chance moment honest had) =
-    let is = every_life_is_in_order file t chapters life in
-    let comes = word_comes file chapters t is chance n word in
-    in_order file (sessions_in (ToAMoment answered) t n word ++ chapters) m is.version honest (comes.moments answered m.log moment had)
-every_life_is_in_order _ _ _ (Formatted file t n chapters layout cluster status life chance word) = formatted_order file chapters t (every_life_is_in_order file t chapters life) chance layout cluster n status word
-every_life_is_in_order _ _ _ (Stopped file t chapters changes life loose chance) =
-    let is = every_life_is_in_order file t chapters life in
-    stopped_order file chapters t is.version is.safe is.honest changes loose chance ((order_of file chapters t is).left (changed changes (now t.log)) (left_by t.log changes is.safe.is_log loose) chance)
+every_life_is_in_order _ _ _ _ (Taken file first t may) = taken_in_order file first t may
+every_life_is_in_order _ _ _ _ (Ran file first b m t n chapters word life chance along) =
+    let is = every_life_is_in_order file first b chapters life in
+    let comes = word_comes file first chapters b is chance t along.shown n word in
+    ended_order file first (sessions_in ToItsEnd t n word ++ chapters) m comes.end is.version (one_end t n b m comes.end comes.along along) comes.honest comes.at_end
+every_life_is_in_order _ _ _ _ (Ended file first b m t p n chapters word answered life chance until along honest had) =
+    let is = every_life_is_in_order file first b chapters life in
+    let comes = word_comes file first chapters b is chance t along.shown n word in
+    in_order file first (sessions_in (ToAMoment answered) t n word ++ chapters) m is.version honest (comes.moments answered p m until along had)
+every_life_is_in_order _ _ _ _ (Spared file first b m t p n chapters word life chance until along honest) =
+    let is = every_life_is_in_order file first b chapters life in
+    let comes = same_comes file first chapters b is chance t along.shown n (other_same file first chapters b is chance t along.shown n word) in
+    in_order file first chapters m is.version honest (comes.moments 0 p m until along tt)
+every_life_is_in_order _ _ _ _ (Stopped file first b chapters changes life loose chance) =
+    let is = every_life_is_in_order file first b chapters life in
+    stopped_order file first chapters b is.version is.safe is.honest changes loose chance ((order_of file first chapters b is).left (changed changes (now b.log)) (left_by b.log changes is.safe.is_log loose) chance)
 
 pub every_life_goes_on : EveryLifeGoesOn
-every_life_goes_on file t chapters life chance = goes_on file chapters t (every_life_is_in_order file t chapters life) chance
+every_life_goes_on file first t chapters life chance = goes_on file first chapters t (every_life_is_in_order file first t chapters life) chance
+
+pub every_word_goes_along : EveryWordGoesAlong
+every_word_goes_along file first b t n chapters life chance shown word =
+    let is = every_life_is_in_order file first b chapters life in
+    elim word [
+      | inl carried ↦ let comes = word_comes file first chapters b is chance t shown n carried in (comes.end, comes.along, comes.own)
+      | inr other ↦ let comes = same_comes file first chapters b is chance t shown n (other_same file first chapters b is chance t shown n other) in (comes.end, comes.along, comes.own)
+    ]

@@ -216,17 +216,17 @@ module _ (seed count : ℕ) (layout : Layout) (runs : Twice layout (OnFile layou
   abbrev there : FoundFile layout runs.other.told
   there = runs.other.does.0
 
+  abbrev u : Replica
+  u = there.replica
+
   abbrev one : WorksThrough seed count layout runs.one.told here runs.one.old runs.one.new runs.one.status
   one = runs.one.does.1
-
-  abbrev other : WorksThrough seed count layout runs.other.told there runs.other.old runs.other.new runs.other.status
-  other = runs.other.does.1
 
   abbrev s : Replica
   s = here.replica
 
-  abbrev u : Replica
-  u = there.replica
+  abbrev other : WorksThrough seed count layout runs.other.told there runs.other.old runs.other.new runs.other.status
+  other = runs.other.does.1
 
   file : s.file ≡ u.file
   file = file_there layout runs.one.told here ∙ file_alike layout a b runs.same here.found there.found here.is_opened there.is_opened ∙ sym (file_there layout runs.other.told there)

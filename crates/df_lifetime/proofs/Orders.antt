@@ -1,4 +1,4 @@
--- A file in order: as it was made, as it is opened, and behind a barrier.
+-- A file in order: as it was made or taken, as it is opened, and behind a barrier.
 use Rattle.std.proofs.Common.{◌≡◌, ℕ, List, [], Some, None, refl, sym, ◌∙◌, ap, subst}
 use Rattle.df_base.specs.Image.{Image}
 use Rattle.df_base.specs.Log.{IsLeft, IsLog, Log, Sync, add, now}
@@ -15,23 +15,29 @@ use Rattle.df_theory.specs.View.{View}
 use Rattle.df_theory.proofs.Laws.{disk_barrier_law, firm_units, found_law, rests_holds, rests_safe, safe_disk_law}
 use Rattle.df_units.specs.Bytes.{unit_at}
 use Rattle.df_units.specs.Making.{first_view}
-use Rattle.df_units.proofs.Laws.{is_format}
-use Rattle.df_replica.specs.Below.{shape, DataFile}
+use Rattle.df_units.specs.Meaning.{layout_of}
+use Rattle.df_units.proofs.Laws.{is_format, of_places}
+use Rattle.df_trailer.specs.Text.{parse_of}
+use Rattle.df_replica.specs.Below.{shape, DataFile, begun}
 use Rattle.df_replica.specs.Following.{MayOpen}
 use Rattle.df_replica.specs.Making.{MayMakeOn, file_of, making_events}
 use Rattle.df_replica.specs.Serving.{format}
-use Rattle.df_replica.proofs.Laws.{keeps_self}
+use Rattle.df_replica.proofs.Laws.{begun_may_open, keeps_self}
 use Rattle.df_top.specs.Formats.{MakesOn}
 use Rattle.df_top.specs.declared.status.Status.{Status}
 use Rattle.df_top.specs.declared.status.Status.TheVariants.{Done, Memory}
-use Rattle.df_lifetime.specs.Life.{Chapter, FormatWord, IsInOrder, MayBeOpened, MayHave}
+use Rattle.df_lifetime.specs.Life.{Chapter, FormatWord, IsInOrder, MayBeOpened, MayHave, MayTake}
 use Rattle.df_lifetime.proofs.Files.{one_told}
 
-module _ (file : DataFile) (chapters : List Chapter) where
+-- what is there now is one of the images that a stop may leave
+pub now_left : (log : Log) → IsLog log → IsLeft log (now log)
+now_left log is = record { whole = now_is_image log.start log.events is.start is.events; kept = λ sector firm. refl }
+
+module _ (file : DataFile) (first : View) (chapters : List Chapter) where
   -- the image has a view that the file may have come to
   pub record Has (image : Image) : Type 0 where
     pub view : View
-    pub had : MayHave file chapters view
+    pub had : MayHave file first chapters view
     pub held : Held (shape file) ((format file).unit_at image) view
     pub stands : Stands ((format file).unit_at image) view
 
@@ -40,7 +46,7 @@ module _ (file : DataFile) (chapters : List Chapter) where
     pub safe : IsSafeDisk (format file) (shape file) log
     pub left : (image : Image) → IsLeft log image → NoChanceOf (format file) log image → Has image
 
-  pub order_of : (t : Told) → IsInOrder file chapters t → Order t.log
+  pub order_of : (t : Told) → IsInOrder file first chapters t → Order t.log
   order_of t is = record {
     safe = is.safe;
     left = λ image left chance.
@@ -48,7 +54,7 @@ module _ (file : DataFile) (chapters : List Chapter) where
         record { view = has.0; had = has.1; held = has.2; stands = has.3 };
   }
 
-  pub in_order : (t : Told) → file.version ≡ 2 → IsHonest t → Order t.log → IsInOrder file chapters t
+  pub in_order : (t : Told) → file.version ≡ 2 → IsHonest t → Order t.log → IsInOrder file first chapters t
   in_order t version honest order = record {
     version = version;
     safe = order.safe;
@@ -60,10 +66,7 @@ module _ (file : DataFile) (chapters : List Chapter) where
 
   -- ---- it may be opened
 
-  now_left : (log : Log) → IsLog log → IsLeft log (now log)
-  now_left log is = record { whole = now_is_image log.start log.events is.start is.events; kept = λ sector firm. refl }
-
-  module _ (t : Told) (is : IsInOrder file chapters t) (chance : NoChanceOf (format file) t.log (now t.log)) where
+  module _ (t : Told) (is : IsInOrder file first chapters t) (chance : NoChanceOf (format file) t.log (now t.log)) where
     pub here : Has (now t.log)
     here = (order_of t is).left (now t.log) (now_left t.log is.safe.is_log) chance
 
@@ -76,7 +79,7 @@ module _ (file : DataFile) (chapters : List Chapter) where
     pub stands_shown : Stands (unit_at file.layout file.cluster t.shown) here.view
     stands_shown = subst (λ (image : Image). Stands (unit_at file.layout file.cluster image) here.view) shows here.stands
 
-    pub goes_on : MayBeOpened file chapters t
+    pub goes_on : MayBeOpened file first chapters t
     goes_on = record { view = here.view; had = here.had; may = may; stands = stands_shown }
 
     -- behind the barrier a stop leaves what is shown
@@ -106,7 +109,7 @@ module _ (file : DataFile) (chapters : List Chapter) where
 pub none_referenced : (file : DataFile) (image : Image) → Stands ((format file).unit_at image) (first_view file.layout file.cluster)
 none_referenced file image a c is = absurd (let no : None ≡ Some c = is in cc)
 
-tidy_order : (file : DataFile) (log : Log) → IsSafeDisk (format file) (shape file) log → IsTidy (shape file) (units_log (format file) log) (first_view file.layout file.cluster) → Order file [] log
+tidy_order : (file : DataFile) (log : Log) → IsSafeDisk (format file) (shape file) log → IsTidy (shape file) (units_log (format file) log) (first_view file.layout file.cluster) → Order file (first_view file.layout file.cluster) [] log
 tidy_order file log safe tidy = record {
   safe = safe;
   left = λ image left chance. record {
@@ -143,9 +146,20 @@ made_grew layout cluster t n events =
     let is : n ≡ all.0 = one_told (Some n) n all.0 refl (events ∙ all.1) in
     subst (λ (l : Log). Extends l t.log) (sym (ap (λ (x : Told). x.log) is ∙ all.2)) (adds_extends (making_events layout cluster) t.log)
 
-pub made_in_order : (layout : Layout) (cluster : ℕ) (t n : Told) (may : MayMakeOn layout cluster t) → IsHonest t → FormatWord layout cluster t n Done → IsInOrder (file_of layout cluster may.named) [] n
+pub made_in_order : (layout : Layout) (cluster : ℕ) (t n : Told) (may : MayMakeOn layout cluster t) → IsHonest t → FormatWord layout cluster t n Done → IsInOrder (file_of layout cluster may.named) (first_view layout cluster) [] n
 made_in_order layout cluster t n may honest word =
     let file = file_of layout cluster may.named in
     let grew : Extends n.log t.log = made_grew layout cluster t n word.formats.0.events in
     let safe = made_safe layout cluster t n may honest Done word (λ no. cc) n.log (record { since = grew; until = extends_self n.log }) in
-    in_order file [] n refl (made_honest layout cluster t n may honest Done word (λ no. cc)) (tidy_order file n.log safe (made_tidy layout cluster t n may honest Done word (λ no. cc) refl))
+    in_order file (first_view layout cluster) [] n refl (made_honest layout cluster t n may honest Done word (λ no. cc)) (tidy_order file n.log safe (made_tidy layout cluster t n may honest Done word (λ no. cc) refl))
+
+-- ---- as it was taken
+
+pub taken_in_order : (file : DataFile) (first : View) (t : Told) → MayTake file first t.shown → IsInOrder file first [] (begun t)
+taken_in_order file first t may =
+    let opens : MayOpen file first (begun t) = begun_may_open file first t may.version may.begins in
+    let held : Held (shape file) (unit_at file.layout file.cluster t.shown) first =
+    (found_law (shape file) (unit_at file.layout file.cluster t.shown) first).1 (of_places file.layout file.cluster file.named (parse_of (layout_of file.layout)) t.shown may.begins.whole) may.begins.found may.begins.clean in
+    let only : (image : Image) → IsLeft (begun t).log image → t.shown ≡ image = λ image left. λ i sector. sym (left.kept sector refl) i in
+    in_order file first [] (begun t) may.version opens.honest
+    (record { safe = opens.safe; left = λ image left no. subst (Has file first []) (only image left) (record { view = first; had = keeps_self first; held = held; stands = may.stands }) })

@@ -27,5 +27,5 @@ AllThere v (c ∷ chapters) = AreThere v c.answered c.answers × AllThere v chap
 -- Whatever was acknowledged in any session of a file's life is in the view that the next open finds.
 abbrev pub AcknowledgedIsFound : Type 0
 AcknowledgedIsFound =
-    (file : DataFile) (t : Told) (chapters : List Chapter) (view : View) → Life file t chapters → NoChanceOf (format file) t.log (now t.log)
+    (file : DataFile) (first : View) (t : Told) (chapters : List Chapter) (view : View) → Life file first t chapters → NoChanceOf (format file) t.log (now t.log)
     → IsFound (shape file) (unit_at file.layout file.cluster t.shown) view → AllThere view chapters

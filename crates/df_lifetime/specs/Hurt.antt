@@ -28,7 +28,7 @@ use Rattle.df_top.specs.Working.{WorksThrough}
 use Rattle.df_top.specs.declared.status.Status.{Status}
 use Rattle.df_lifetime.specs.Acknowledged.{AreThere}
 use Rattle.df_lifetime.specs.Life.{Chapter, Life, MayHave}
-use Rattle.df_lifetime.specs.Life.Life.{Begun, Ended, Formatted, Made, Ran, Stopped}
+use Rattle.df_lifetime.specs.Life.Life.{Begun, Ended, Made, Ran, Spared, Stopped, Taken}
 
 -- The next open finds the view after all of these acts, which were answered so, and perhaps some of those behind them, from the first of these on: the file may be opened by
 -- this log, what was answered is there, and at the higher grade so is each block that is referenced.
@@ -83,18 +83,20 @@ HurtRunsKeep =
 
 -- ---- damage at any time of a life
 
--- what the disk of a life held at first: as its making began, the start of the log
-abbrev pub began_with : (file : DataFile) (t : Told) (chapters : List Chapter) → Life file t chapters → Image
-began_with _ _ _ (Made layout cluster t n makable honest word) = t.log.start
-began_with _ _ _ (Begun layout cluster t n m status changes makable honest word wanting moment there loose chance held) = t.log.start
-began_with _ _ _ (Ran file t n chapters word life chance) = began_with file t chapters life
-began_with _ _ _ (Ended file t n m chapters word answered life chance moment honest had) = began_with file t chapters life
-began_with _ _ _ (Formatted file t n chapters layout cluster status life chance word) = began_with file t chapters life
-began_with _ _ _ (Stopped file t chapters changes life loose chance) = began_with file t chapters life
+-- what the disk of a life held at first: as its making began, the start of the log; or as the file was taken
+abbrev pub began_with : (file : DataFile) (first : View) (t : Told) (chapters : List Chapter) → Life file first t chapters → Image
+began_with _ _ _ _ (Made layout cluster t n makable honest word) = t.log.start
+began_with _ _ _ _ (Begun layout cluster t n m status changes makable honest word wanting moment there loose chance held) = t.log.start
+began_with _ _ _ _ (Taken file first t may) = t.shown
+began_with _ _ _ _ (Ran file first b m t n chapters word life chance along) = began_with file first b chapters life
+began_with _ _ _ _ (Ended file first b m t p n chapters word answered life chance until along honest had) = began_with file first b chapters life
+began_with _ _ _ _ (Spared file first b m t p n chapters word life chance until along honest) = began_with file first b chapters life
+began_with _ _ _ _ (Stopped file first b chapters changes life loose chance) = began_with file first b chapters life
 
 -- A life that began with the empty disk may be hurt: whatever the disk shows at any time of it, no unit of it by chance, is what the promises over hurt disks speak of, with a view
--- that the file may have come to.
+-- that the file may have come to. One that began with a file that was there, as behind an upgrade, began with no empty disk, and nothing is said of it here: those promises look back to what
+-- the log began with, and the file of version 1 is no state of the log.
 abbrev pub LifeMayBeHurt : Type 0
 LifeMayBeHurt =
-    (file : DataFile) (t : Told) (chapters : List Chapter) (shown : Image) (life : Life file t chapters) → began_with file t chapters life ≡ blank → NoChanceOf (format file) t.log (now t.log) → IsImage shown
-    → NoChanceOf (format file) (add Sync t.log) shown → (view : View) × MayHave file chapters view × MayBeHurt file view (record { log = t.log; shown = shown })
+    (file : DataFile) (first : View) (t : Told) (chapters : List Chapter) (shown : Image) (life : Life file first t chapters) → began_with file first t chapters life ≡ blank → NoChanceOf (format file) t.log (now t.log) → IsImage shown
+    → NoChanceOf (format file) (add Sync t.log) shown → (view : View) × MayHave file first chapters view × MayBeHurt file view (record { log = t.log; shown = shown })

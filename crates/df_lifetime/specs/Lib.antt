@@ -4,4 +4,6 @@ pub mod Acknowledged
 pub mod NewDisks
 pub mod Reads
 pub mod Hurt
+pub mod Upgraded
 pub mod Printed
+pub mod Again

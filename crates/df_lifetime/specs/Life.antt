@@ -1,9 +1,9 @@
--- The life of a file: it is made, words are run over it one after the other, each to its end or up to a moment, and the machine may stop at any time.
+-- The life of a file: it is made, or taken as it is found, words are run over it one after the other, each to its end or up to a moment, and the machine may stop at any time.
 use Rattle.std.specs.Prelude.{◌≡◌, ◌⊎◌, ◌<◌, ◌^◌, ℕ, zero, suc, List, [], ◌∷◌, ◌++◌, take, drop, Option, Some, None}
 use Rattle.std.proofs.Common.{inl, inr}
 use Rattle.df_base.specs.Image.{Image, IsImage, changed}
-use Rattle.df_base.specs.Log.{AreLoose, IsLeft, Log, Stop, now}
-use Rattle.df_base.specs.Moments.{IsMoment}
+use Rattle.df_base.specs.Log.{AreLoose, Event, IsLeft, Log, Stop, now}
+use Rattle.df_base.specs.Moments.{Extends, IsMoment}
 use Rattle.df_disk.specs.Told.{IsHonest, Told, did}
 use Rattle.df_layout.specs.declared.layout.Layout.{Layout}
 use Rattle.df_theory.specs.Device.{IsSafeDisk, NoChanceOf}
@@ -16,7 +16,7 @@ use Rattle.df_units.specs.Making.{first_view}
 use Rattle.df_model.specs.Commands.{Answer}
 use Rattle.df_model.specs.Views.{KeepsView}
 use Rattle.df_model.specs.Work.{kept}
-use Rattle.df_replica.specs.Below.{shape, DataFile}
+use Rattle.df_replica.specs.Below.{shape, DataFile, begun}
 use Rattle.df_replica.specs.Following.{MayOpen}
 use Rattle.df_replica.specs.HeldBlocks.{AreInputs}
 use Rattle.df_replica.specs.Making.{MayMakeOn, file_of}
@@ -29,6 +29,8 @@ use Rattle.df_session.specs.Acknowledging.{WereAnswered}
 use Rattle.df_top.specs.Acknowledging.{run_calls, script_calls}
 use Rattle.df_top.specs.Formats.{Formats, MakesFile}
 use Rattle.df_top.specs.Outside.{Outside}
+use Rattle.df_upgrade.specs.Below.{MayBegin}
+use Rattle.df_top.specs.Upgrading.{RunsUpgrade}
 use Rattle.df_top.specs.Run.{ComesTo, DidNothing, Does, RefusesSuperblock, Runs, ServesIn, ServesOwn, Works}
 use Rattle.df_top.specs.declared.mode.Mode.{Mode}
 use Rattle.df_top.specs.declared.mode.Mode.TheVariants.{Run, Workload, Paced}
@@ -72,10 +74,10 @@ pub record IsUntouched (c : Chapter) (v u : View) : Type 0 where
 abbrev pub LeadsTo : DataFile → Chapter → (v u : View) → Type 0
 LeadsTo file c v u = IsUntouched c v u ⊎ ((acts : List Act) × GoesBy file c acts v u)
 
--- a view that a file may have come to after these sessions, the newest first, from its first view on
-abbrev pub MayHave : DataFile → List Chapter → View → Type 0
-MayHave file [] u = KeepsView (first_view file.layout file.cluster) u
-MayHave file (c ∷ chapters) u = (v : View) × MayHave file chapters v × LeadsTo file c v u
+-- a view that a file may have come to after these sessions, the newest first, from the view on with which it began
+abbrev pub MayHave : DataFile → (first : View) → List Chapter → View → Type 0
+MayHave file first [] u = KeepsView first u
+MayHave file first (c ∷ chapters) u = (v : View) × MayHave file first chapters v × LeadsTo file c v u
 
 -- ---- what happens to a file
 
@@ -162,49 +164,87 @@ pub record FormatWord (layout : Layout) (cluster : ℕ) (t n : Told) (status : S
   pub formats : Formats layout cluster (Some t) (Some n) old new status
   pub makes : MakesFile layout cluster (Some t) (Some n) status
 
--- The life of a file so far: which file it is, what the disk tells now, and the sessions that served it, the newest first.
-pub data Life : DataFile → Told → List Chapter → Type 0 where
+-- the word `upgrade`
+pub record UpgradeWord (t n : Told) (status : Status) : Type 0 where
+  pub old : Outside
+  pub new : Outside
+  pub from : old.told ≡ Some t
+  pub to : new.told ≡ Some n
+  pub runs : RunsUpgrade old new status
+
+-- a word that isn't for a file of version 2 that is there
+pub data OtherWord (t n : Told) : Type 0 where
+  ToFormat : (layout : Layout) (cluster : ℕ) (status : Status) → FormatWord layout cluster t n status → OtherWord t n
+  ToUpgrade : (status : Status) → UpgradeWord t n status → OtherWord t n
+
+-- The file's log goes along with the disk: both show the same, the same events come to both, the newest first, and then they show the same again. The disk may tell more than the
+-- log of the file, of what was there before.
+pub record GoesAlong (t n b m : Told) : Type 0 where
+  pub shown : b.shown ≡ t.shown
+  pub events : List Event
+  pub disk : n.log.events ≡ events ++ t.log.events
+  pub file : m.log.events ≡ events ++ b.log.events
+  pub start : m.log.start ≡ b.log.start
+  pub shows : m.shown ≡ n.shown
+
+-- A file may be taken as it is found in this image: it is of version 2, an open finds this view, with each block that it references, and a log may be begun anew there.
+pub record MayTake (file : DataFile) (view : View) (image : Image) : Type 0 where
+  pub version : file.version ≡ 2
+  pub begins : MayBegin file view image
+  pub stands : Stands (unit_at file.layout file.cluster image) view
+
+-- The life of a file so far: which file it is, with which view it began, its log since then and what that shows, and the sessions that served it, the newest first.
+pub data Life : DataFile → (first : View) → Told → List Chapter → Type 0 where
   -- it was made, on an honest disk on which a file may be made, as on one that was never written: it is the file of this layout and cluster that the word makes
-  Made : (layout : Layout) (cluster : ℕ) (t n : Told) (makable : MayMakeOn layout cluster t) → IsHonest t → FormatWord layout cluster t n Done → Life (file_of layout cluster makable.named) n []
+  Made : (layout : Layout) (cluster : ℕ) (t n : Told) (makable : MayMakeOn layout cluster t) → IsHonest t → FormatWord layout cluster t n Done → Life (file_of layout cluster makable.named) (first_view layout cluster) n []
   -- or its making was cut off at a moment, and a stop left its first view all the same
   Begun : (layout : Layout) (cluster : ℕ) (t n m : Told) (status : Status) (changes : List (ℕ × List ℕ)) (makable : MayMakeOn layout cluster t) → IsHonest t → FormatWord layout cluster t n status → (status ≡ Memory → ⊥)
       → IsMoment t.log n.log m.log → IsHonest m → AreLoose m.log.events changes → NoChanceOf (format_of layout cluster) m.log (changed changes (now m.log))
-      → Held (shape (file_of layout cluster makable.named)) ((format_of layout cluster).unit_at (changed changes (now m.log))) (first_view layout cluster) → Life (file_of layout cluster makable.named) (did (Stop changes) m) []
+      → Held (shape (file_of layout cluster makable.named)) ((format_of layout cluster).unit_at (changed changes (now m.log))) (first_view layout cluster)
+      → Life (file_of layout cluster makable.named) (first_view layout cluster) (did (Stop changes) m) []
+  -- or it was there, as one is that was upgraded, or copied: its log begins with what the disk shows
+  Taken : (file : DataFile) (first : View) (t : Told) → MayTake file first t.shown → Life file first (begun t) []
   -- then a word was run to its end, whatever its status; what was shown as it began did not come about by chance
-  Ran : (file : DataFile) (t n : Told) (chapters : List Chapter) (word : Word t n) → Life file t chapters → NoChanceOf (format file) t.log (now t.log) → Life file n (sessions_in ToItsEnd t n word ++ chapters)
+  Ran : (file : DataFile) (first : View) (b m t n : Told) (chapters : List Chapter) (word : Word t n) → Life file first b chapters → NoChanceOf (format file) b.log (now b.log) → GoesAlong t n b m → Life file first m (sessions_in ToItsEnd t n word ++ chapters)
   -- or the program was ended at a moment of it, before or within any call of the disk, when so many of its calls were answered, and the disk goes on telling
   -- what was done up to there
-  Ended : (file : DataFile) (t n m : Told) (chapters : List Chapter) (word : Word t n) (answered : ℕ) → Life file t chapters → NoChanceOf (format file) t.log (now t.log) → IsMoment t.log n.log m.log → IsHonest m
-      → HaveAnswers answered m.log (calls_made t n word) → Life file m (sessions_in (ToAMoment answered) t n word ++ chapters)
-  -- or the word `format` was run over it again, whatever its status
-  Formatted : (file : DataFile) (t n : Told) (chapters : List Chapter) (layout : Layout) (cluster : ℕ) (status : Status) → Life file t chapters → NoChanceOf (format file) t.log (now t.log)
-      → FormatWord layout cluster t n status → Life file n chapters
+  Ended : (file : DataFile) (first : View) (b m t p n : Told) (chapters : List Chapter) (word : Word t n) (answered : ℕ) → Life file first b chapters → NoChanceOf (format file) b.log (now b.log) → Extends n.log p.log → GoesAlong t p b m → IsHonest m
+      → HaveAnswers answered p.log (calls_made t n word) → Life file first m (sessions_in (ToAMoment answered) t n word ++ chapters)
+  -- or the word `format` was run over it again, or the word `upgrade`, to its end, whatever its status, or up to a moment
+  Spared : (file : DataFile) (first : View) (b m t p n : Told) (chapters : List Chapter) → OtherWord t n → Life file first b chapters → NoChanceOf (format file) b.log (now b.log) → Extends n.log p.log → GoesAlong t p b m → IsHonest m → Life file first m chapters
   -- or the machine stopped, behind the end of a word or at the moment of which one is told, and left any bytes in the sectors that were loose
-  Stopped : (file : DataFile) (t : Told) (chapters : List Chapter) (changes : List (ℕ × List ℕ)) → Life file t chapters → AreLoose t.log.events changes → NoChanceOf (format file) t.log (changed changes (now t.log))
-      → Life file (did (Stop changes) t) chapters
+  Stopped : (file : DataFile) (first : View) (b : Told) (chapters : List Chapter) (changes : List (ℕ × List ℕ)) → Life file first b chapters → AreLoose b.log.events changes → NoChanceOf (format file) b.log (changed changes (now b.log))
+      → Life file first (did (Stop changes) b) chapters
 
 -- ---- the law
 
 -- The file is in order: it is of version 2, the disk is honest and its log is safe, and whatever a stop leaves now, under no chance, has a view that the file may have come to, with
 -- each block that it references.
-pub record IsInOrder (file : DataFile) (chapters : List Chapter) (t : Told) : Type 0 where
+pub record IsInOrder (file : DataFile) (first : View) (chapters : List Chapter) (t : Told) : Type 0 where
   pub version : file.version ≡ 2
   pub safe : IsSafeDisk (format file) (shape file) t.log
   pub honest : IsHonest t
   pub left : (image : Image) → IsLeft t.log image → NoChanceOf (format file) t.log image
-      → (view : View) × MayHave file chapters view × Held (shape file) ((format file).unit_at image) view × Stands ((format file).unit_at image) view
+      → (view : View) × MayHave file first chapters view × Held (shape file) ((format file).unit_at image) view × Stands ((format file).unit_at image) view
 
 -- it may be opened, and the view that an open finds is one that it may have come to, with each block that it references
-pub record MayBeOpened (file : DataFile) (chapters : List Chapter) (t : Told) : Type 0 where
+pub record MayBeOpened (file : DataFile) (first : View) (chapters : List Chapter) (t : Told) : Type 0 where
   pub view : View
-  pub had : MayHave file chapters view
+  pub had : MayHave file first chapters view
   pub may : MayOpen file view t
   pub stands : Stands (unit_at file.layout file.cluster t.shown) view
 
 -- sessions compose: whatever life a file has had, it is in order
 abbrev pub EveryLifeIsInOrder : Type 0
-EveryLifeIsInOrder = (file : DataFile) (t : Told) (chapters : List Chapter) → Life file t chapters → IsInOrder file chapters t
+EveryLifeIsInOrder = (file : DataFile) (first : View) (t : Told) (chapters : List Chapter) → Life file first t chapters → IsInOrder file first chapters t
 
 -- and the next open finds what it has come to
 abbrev pub EveryLifeGoesOn : Type 0
-EveryLifeGoesOn = (file : DataFile) (t : Told) (chapters : List Chapter) → Life file t chapters → NoChanceOf (format file) t.log (now t.log) → MayBeOpened file chapters t
+EveryLifeGoesOn = (file : DataFile) (first : View) (t : Told) (chapters : List Chapter) → Life file first t chapters → NoChanceOf (format file) t.log (now t.log) → MayBeOpened file first chapters t
+
+-- A word that is run over a disk which shows what the file's log tells adds events to what the disk tells, so the log goes along with it; and where it is that log that the disk tells, it
+-- comes to what the disk tells then.
+abbrev pub EveryWordGoesAlong : Type 0
+EveryWordGoesAlong =
+    (file : DataFile) (first : View) (b t n : Told) (chapters : List Chapter) → Life file first b chapters → NoChanceOf (format file) b.log (now b.log) → b.shown ≡ t.shown → Word t n ⊎ OtherWord t n
+    → (m : Told) × GoesAlong t n b m × (b ≡ t → m ≡ n)

@@ -1,12 +1,14 @@
-//! The life of a file: formats, runs and stops one after the other; what a session keeps on a disk that was hurt; and what is printed.
+//! The life of a file: formats, upgrades, runs and stops one after the other; what a session keeps on a disk that was hurt; and what is printed.
 #![tactic(auto)]
 
+mod again;
 mod hurt;
 mod life;
 mod printed;
 mod reads;
 
+pub use again::a_damaged_life_goes_on;
 pub use hurt::{a_life_may_be_hurt, hurt_sessions_keep};
-pub use life::sessions_compose;
+pub use life::{an_upgrade_begins_a_life, sessions_compose};
 pub use printed::{a_front_is_written, a_run_has_one_result, a_word_has_one_text};
 pub use reads::what_is_kept_is_read;

@@ -1,13 +1,25 @@
-// The laws by which sessions compose.
+// The laws by which sessions compose, and where a life begins.
+ghost use Rattle.df_lifetime.specs.Life.{EveryLifeGoesOn, EveryLifeIsInOrder, EveryWordGoesAlong};
 ghost use Rattle.df_lifetime.specs.Acknowledged.{AcknowledgedIsFound};
+ghost use Rattle.df_lifetime.specs.Upgraded.{DoneIsUpgraded, StoppedIsUpgraded, UpgradedBegins};
 ghost use Rattle.df_lifetime.specs.NewDisks.{NewDisksAreMadeOn};
-ghost use Rattle.df_lifetime.specs.Life.{EveryLifeGoesOn, EveryLifeIsInOrder};
 
 /// A life begins on a disk that was never written. Whatever life a file has had, it is in order, and the next open finds what it has
-/// come to: in it is all that was acknowledged in any of its sessions.
+/// come to: in it is all that was acknowledged in any of its sessions. Its log goes along with what the disk tells of each word, also
+/// where the disk told more before that log began.
 pub fn sessions_compose()
     ensures begins { NewDisksAreMadeOn }
     ensures order { EveryLifeIsInOrder }
     ensures goes_on { EveryLifeGoesOn }
     ensures acknowledged { AcknowledgedIsFound }
+    ensures along { EveryWordGoesAlong }
+{}
+
+/// A life begins, too, where a file of version 1 was upgraded, with the view that this had, but for the boot: where `upgrade` ended Done,
+/// and wherever it was stopped behind its barrier. Or the stop left the file of version 1, from which the word may be run again: so there
+/// may be any number of stops before a life begins.
+pub fn an_upgrade_begins_a_life()
+    ensures begins { UpgradedBegins }
+    ensures done { DoneIsUpgraded }
+    ensures stopped { StoppedIsUpgraded }
 {}

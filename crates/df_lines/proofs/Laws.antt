@@ -9,3 +9,6 @@ pub use Rattle.df_lines.proofs.Naming.{Begun, bare_name, cut_has_space, cut_name
 pub use Rattle.df_lines.proofs.Meanings.{if_none}
 pub use Rattle.df_lines.proofs.Arguments.{NumberFirst, same_rest, no_number, bad_number, bad_body}
 pub use Rattle.df_lines.proofs.OneMeaning.{one_word, two_words}
+-- Where a whole line stands in a text of which a window holds the front, whatever the line says.
+pub use Rattle.df_lines.proofs.Texts.{Front, front_line, length_line, not_none, parts_of}
+pub use Rattle.df_lines.proofs.Cutting.{position_past}

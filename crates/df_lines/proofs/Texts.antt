@@ -28,10 +28,10 @@ pub record Front (window : Contents) (size taken : ℕ) (left : Option (List ℕ
   pub some : all ≢ []
   pub read : line_of window.bytes ≡ line_of all
 
-not_none : (xs : List ℕ) → 0 < length xs → xs ≢ []
+pub not_none : (xs : List ℕ) → 0 < length xs → xs ≢ []
 not_none xs some none = omega (arith, ap length none)
 
-length_line : (bytes : List ℕ) → length (line_of bytes) ≡ line_end bytes
+pub length_line : (bytes : List ℕ) → length (line_of bytes) ≡ line_end bytes
 length_line bytes = length-take-le (line_end bytes) bytes (position_le is_feed bytes)
 
 -- a line that ends before a byte 10

@@ -1,4 +1,4 @@
-//! The lines of a script: their grammar, and their reading in pieces through one buffer.
+//! The lines of a script: their grammar, and their reading in pieces through one buffer, which serves other grammars too.
 #![tactic(auto)]
 
 mod line;
@@ -16,4 +16,5 @@ pub use next::Next;
 pub use number::{u32_of, u64_of, u128_of};
 pub use parser::{decode, parse};
 pub use reader::LineRoom;
+pub use window::{Found, Window};
 pub use words::cut;

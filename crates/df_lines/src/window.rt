@@ -14,7 +14,7 @@ use std::marker::Model;
 
 /// What a window has of the next line.
 #[derive(Clone, Copy)]
-pub(crate) enum Found {
+pub enum Found {
     /// A whole line of `length` bytes. It takes `taken` bytes, its byte 10 included where there is one.
     Line { length: usize, taken: usize },
     /// The buffer is full and has no byte 10.
@@ -23,8 +23,8 @@ pub(crate) enum Found {
     End,
 }
 
-/// The held bytes are those from `start` to `end` of the buffer.
-pub(crate) struct Window {
+/// A buffer of a script's bytes. The held bytes are those from `start` to `end`.
+pub struct Window {
     buffer: Vec<u8>,
     start: usize,
     end: usize,
@@ -59,7 +59,8 @@ impl Model for Window {
 }
 
 impl Window {
-    pub(crate) fn reserve(alloc: Global, size: usize) -> Result<Window, OutOfMemory>
+    /// Takes the memory for a buffer of this many bytes.
+    pub fn reserve(alloc: Global, size: usize) -> Result<Window, OutOfMemory>
         ensures { IfOk result (λ window. window ≡ record { bytes = []; size = size; ended = false }) }
     {
         let buffer = vec![in alloc; 0; size]?;
@@ -71,7 +72,8 @@ impl Window {
         })
     }
 
-    pub(crate) fn bytes(&self) -> &[u8]
+    /// The bytes that are held.
+    pub fn bytes(&self) -> &[u8]
         ensures value { result.now ≡ self.now.bytes }
         ensures within { length self.now.bytes ≤ self.now.size }
     {
@@ -91,7 +93,7 @@ impl Window {
     }
 
     /// Takes bytes from the front.
-    pub(crate) fn skip(&mut self, count: usize)
+    pub fn skip(&mut self, count: usize)
         requires { count ≤ length self.old.bytes }
         ensures { self.new ≡ record self.old { bytes = drop count self.old.bytes } }
     {
@@ -122,8 +124,9 @@ impl Window {
         Ok(())
     }
 
-    /// Reads on until the next line is whole, is too long for the buffer, or there is none.
-    pub(crate) fn find<S: Source>(&mut self, source: &mut S) -> Result<Found, Failed>
+    /// Reads on until the next line is whole, is too long for the buffer, or there is none. `Failed` is the source's: nothing of the
+    /// script is lost, and the call may be made again.
+    pub fn find<S: Source>(&mut self, source: &mut S) -> Result<Found, Failed>
         requires { 0 < self.old.size }
         ensures size { self.new.size ≡ self.old.size }
         ensures same_text { unread self.new.bytes (S.left source.new)

@@ -16,11 +16,10 @@ use Rattle.df_theory.specs.WholeLaws.{IsStanding}
 use Rattle.df_theory.specs.WriterLaws.{Updates}
 use Rattle.df_theory.specs.TidyLaws.{IsGoodWhole, IsTidy}
 use Rattle.df_theory.specs.Upgrades.{as_version}
-use Rattle.df_theory.proofs.BootSounds.{boot_sound}
-use Rattle.df_theory.proofs.Laws.{boot_law, found_sound, low_steps, low_update, prepare_agrees, stands_law, whole_update_law}
+use Rattle.df_theory.proofs.Laws.{boot_law, boot_sound, found_sound, low_steps, low_update, may_raise, prepare_agrees, stands_law, whole_update_law}
 use Rattle.df_model.specs.Work.{Work, opened, raised}
-use Rattle.df_model.specs.Memory.{memory_of}
-use Rattle.df_model.specs.Making.{boot_content}
+use Rattle.df_model.specs.Memory.{Memory, memory_of}
+use Rattle.df_model.specs.Making.{boot_content, named_sums}
 use Rattle.df_model.specs.Sense.{Captured, Chained, Durable, IsBacked, IsClear, Live, Written}
 use Rattle.df_model.specs.Laws.{BacksOn, LeadsOn}
 use Rattle.df_model.specs.Boots.{BootCommandLaw, BootMayLaw, IsMendedFor, RaisedLaw, Raises}
@@ -38,20 +37,10 @@ use Rattle.df_model.proofs.Writing.{own_same}
 may_boot : (sh : Shape) (spell : Parts → List ℕ) (w : Work) (sum : ℕ) → IsRecordable w.view → w.view.checkpoint.content.version ≡ 2 → boot_of w.view < 2 ^ 62 → MayBoot w.view (boot_content (memory_of sh spell w) sum)
 may_boot sh spell w sum can second unspent =
     let c : Content = w.view.checkpoint.content in
+    let m : Memory = memory_of sh spell w in
     let none : c.op - c.op ≡ 0 = omega arith in
-    record {
-      is = record {
-        same = record { file = (refl, refl, refl, refl); sequence = refl; op = (refl, refl); trailer = (refl, refl, refl) };
-        boot = refl;
-        pin = refl;
-        head = refl;
-        replies = refl;
-        answered = refl;
-        records = records_now sh spell w can (record c { checksum = sum; boot = boot_of w.view + 1 }) (omega arith) (omega arith) (sym (ap (λ (n : ℕ). last_checksum c.op_checksum (take n w.view.tail)) none));
-        of = record { one = λ one. absurd (omega (arith, one, second)); two = λ two. (refl, refl) };
-      };
-      unspent = unspent;
-    }
+    may_raise w.view sum m.head_checksum (named_sums m) second unspent
+    (records_now sh spell w can (record c { checksum = sum; boot = boot_of w.view + 1 }) (omega arith) (omega arith) (sym (ap (λ (n : ℕ). last_checksum c.op_checksum (take n w.view.tail)) none)))
 
 pub boot_may_law : BootMayLaw
 boot_may_law sh spell image v sum codec places of found unspent =

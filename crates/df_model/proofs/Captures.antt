@@ -17,14 +17,14 @@ pub capture_on :
     → IsCapture sh spell (record { checkpoint = v.checkpoint; tail = tail; replies = replies; stored = stored }) r
 capture_on sh spell v r old tail replies stored same ends op_to = record {
   op_from = old.op_from;
-  op_to = op_to;
-  ends = ends;
-  op_checksum = old.op_checksum ∙ ap (last_checksum v.checkpoint.content.op_checksum) (sym same);
-  sessions = old.sessions ∙ ap (sessions_after v.checkpoint.parts.sessions) (sym same);
   unspent = old.unspent;
   lawful = old.lawful;
+  op_to = op_to;
+  ends = ends;
   count = old.count;
   links = old.links;
+  op_checksum = old.op_checksum ∙ ap (last_checksum v.checkpoint.content.op_checksum) (sym same);
+  sessions = old.sessions ∙ ap (sessions_after v.checkpoint.parts.sessions) (sym same);
   text = old.text;
   written = old.written;
   left = old.left;
@@ -37,17 +37,6 @@ same_links room c d (x ∷ xs) address checksum sequence size links =
     (links.0, links.1, links.2, links.3 ∙ sequence, links.4, links.5 ∙ ap (λ (n : ℕ). piece_size room n (length xs)) size, links.6, same_links room c d xs x.1.before x.1.before_checksum sequence size links.7)
 
 pub capture_raised : (sh : Shape) (spell : Parts → List ℕ) (w : Work) (sum : ℕ) (r : Running) → IsCapture sh spell w.view r → IsCapture sh spell (raised w (boot_content (memory_of sh spell w) sum)).view r
-capture_raised sh spell w sum r old = record {
-  op_from = old.op_from;
-  op_to = old.op_to;
-  ends = old.ends;
-  op_checksum = old.op_checksum;
-  sessions = old.sessions;
-  unspent = old.unspent;
-  lawful = old.lawful;
-  count = old.count;
-  links = same_links (block_room sh.layout) (draft sh spell w.view r) (draft sh spell (raised w (boot_content (memory_of sh spell w) sum)).view r) r.written (last_address r.written) (last_sum r.written) refl refl old.links;
-  text = old.text;
-  written = old.written;
-  left = old.left;
-}
+capture_raised sh spell w sum r old =
+    let links = same_links (block_room sh.layout) (draft sh spell w.view r) (draft sh spell (raised w (boot_content (memory_of sh spell w) sum)).view r) r.written (last_address r.written) (last_sum r.written) refl refl old.links in
+    record { op_from = old.op_from; op_to = old.op_to; ends = old.ends; op_checksum = old.op_checksum; sessions = old.sessions; unspent = old.unspent; lawful = old.lawful; count = old.count; links = links; text = old.text; written = old.written; left = old.left }

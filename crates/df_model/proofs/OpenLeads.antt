@@ -5,14 +5,14 @@ use Rattle.df_theory.specs.Shape.{Shape}
 use Rattle.df_theory.specs.View.{View, boot_of}
 use Rattle.df_theory.specs.UnitLog.{UnitLog, now}
 use Rattle.df_theory.specs.Rests.{IsDry, IsGoodLog, RestsOn}
-use Rattle.df_theory.specs.Runs.{AtEach, Command, Step, after_steps}
+use Rattle.df_theory.specs.Runs.{AtEach, Step, after_steps}
 use Rattle.df_theory.specs.CopyPuts.{PutsCopies, update_steps}
 use Rattle.df_theory.specs.WholeLaws.{IsStanding}
 use Rattle.df_theory.specs.TidyLaws.{IsGoodWhole, IsTidy}
 use Rattle.df_theory.specs.MendLaws.{copy_steps, header_steps, mend_steps}
 use Rattle.df_theory.specs.Upgrades.{raise_steps}
 use Rattle.df_theory.specs.Device.{units_log}
-use Rattle.df_theory.proofs.Laws.{after_append, dry_copies, dry_headers, dry_quiet, each_append, each_weaker as each_moment, mend_law, mends_whole_law, same_log, stands_law, standing_moments_law, tidy_moments_law}
+use Rattle.df_theory.proofs.Laws.{after_append, dry_copies, dry_headers, dry_quiet, each_append, each_weaker as each_moment, mend_law, mends_whole_law, stands_law}
 use Rattle.df_model.specs.Work.{Work, kept, raised}
 use Rattle.df_model.specs.Memory.{memory_of}
 use Rattle.df_model.specs.Making.{boot_content}
@@ -21,6 +21,7 @@ use Rattle.df_model.specs.Laws.{BacksOn, IsKeptBy, LeadsOn}
 use Rattle.df_model.specs.Boots.{DiskOpenLaw, IsMendedFor, MayOpenFor, OpenCommandLaw}
 use Rattle.df_model.proofs.NoBlocks.{NoBlocks, blocks_stay, mend_no_blocks, spare_all}
 use Rattle.df_model.proofs.Writing.{own_same}
+use Rattle.df_model.proofs.Disks.{on_disk}
 use Rattle.df_model.proofs.Boots.{stands_each, stands_last, update_backs, update_leads}
 
 -- what leaves the view leaves one of two views
@@ -104,16 +105,5 @@ open_command_law sh spell log w table headers copies sum steps opens unspent doe
 
 pub disk_open_law : DiskOpenLaw
 disk_open_law f sh spell log w table headers copies sum events format is_log opens unspent does =
-    let on = open_command_law sh spell (units_log f log) w table headers copies sum does.steps opens unspent does.does in
-    let u : Work = raised w (boot_content (memory_of sh spell w) sum) in
-    let led : Command = record { steps = does.steps; view = kept u } in
-    let same = sym (same_log f events does.steps log is_log does.are) in (
-      record {
-        moments = (tidy_moments_law f sh (kept w) led log events format is_log does.are on.0.leads).0;
-        keeps = subst (λ (l : UnitLog). IsKeptBy sh spell l u) same on.0.keeps;
-      },
-      λ backed. record {
-        moments = (standing_moments_law f sh (kept w) led log events format is_log does.are (on.1 backed).stands).0;
-        backed = subst (λ (l : UnitLog). IsBacked l u) same (on.1 backed).backed;
-      },
-    )
+    on_disk f sh spell log w (raised w (boot_content (memory_of sh spell w) sum)) does.steps events format is_log does.are
+    (open_command_law sh spell (units_log f log) w table headers copies sum does.steps opens unspent does.does)

@@ -126,11 +126,11 @@ module _ (sh : Shape) (spell : Parts → List ℕ) (w : Work) (r : Running) (sum
     op_from = old.op_from;
     op_to = old.op_to;
     ends = old.ends;
+    count = subst (IsCount (block_room sh.layout) (length (spell r.parts))) (let e : length r.written + length r.left ≡ suc (length r.written) + length more = omega (arith, ap length left) in e) old.count;
     op_checksum = old.op_checksum;
     sessions = old.sessions;
     unspent = old.unspent;
     lawful = old.lawful;
-    count = subst (IsCount (block_room sh.layout) (length (spell r.parts))) (let e : length r.written + length r.left ≡ suc (length r.written) + length more = omega (arith, ap length left) in e) old.count;
     links = (left_spare.0.inside.0, refl, refl, refl, refl, size, refl, old.links);
     text = text;
     written = written;

@@ -52,7 +52,7 @@ module _ (place : Place) where
       ∙ ap (unit_after (copy_steps (repaired f 0 members)) place) (headers_aside table header ks o) ∙ copies_aside f copy members 0 o
 
   -- the update behind it puts copies alone
-  raising_aside : (layout : Layout) (table : List Header) (mends : List Mend) (f : SuperFields) (members : List Bool) (d : SuperFields) → ((k : ℕ) → sector_put table k place ≡ None) → ((n : ℕ) (g : SuperFields) → put_copy n g place ≡ None) → (o : Option AnyUnit)
+  pub raising_aside : (layout : Layout) (table : List Header) (mends : List Mend) (f : SuperFields) (members : List Bool) (d : SuperFields) → ((k : ℕ) → sector_put table k place ≡ None) → ((n : ℕ) (g : SuperFields) → put_copy n g place ≡ None) → (o : Option AnyUnit)
       → unit_after (raising_steps layout table mends f members d) place o ≡ o
   raising_aside layout table mends f members d header copy o =
       after_both (mending_steps layout table mends f members) (update_steps (put_copies d)) o

@@ -52,7 +52,7 @@ use Rattle.df_model.specs.Sense.{IsVersionTwo}
 use Rattle.df_damage.specs.Found.{IsLayoutShownAs}
 use Rattle.df_damage.specs.Surveys.{IsOpenedAs}
 use Rattle.df_opening.specs.Mending.{raising_events}
-use Rattle.df_opening.specs.Opened.{AreRaising}
+use Rattle.df_opening.specs.Opened.{AreRaisingTo}
 use Rattle.df_opening.specs.Raising.{opening_events, opening_steps}
 
 -- ---- what an open leaves
@@ -176,14 +176,15 @@ layout_shown layout image s is = record { fields = s.fields; super = super_shown
 -- ---- which device calls a mending is
 
 -- what a survey lists is what is to be mended of the image
-pub own_raising : (layout : Layout) (told : Option Told) (t : Told) (s : Survey) → told ≡ Some t → s.state.file.layout ≡ layout → TellsMends layout told s → IsImage t.shown → AreRaising t s.state (opening_events s)
-own_raising layout told t s is of tells whole =
+pub own_raising : (d : SuperFields) (layout : Layout) (told : Option Told) (t : Told) (s : Survey) → told ≡ Some t → s.state.file.layout ≡ layout → TellsMends layout told s → IsImage t.shown
+    → AreRaisingTo d t s.state (raising_events s.state.file.layout s.state.headers s.mends s.state.fields s.chosen.members d)
+own_raising d layout told t s is of tells whole =
     let may : IsMendable layout t.shown s = (subst (λ (o : Option Told). TellsMends layout o s) is tells) whole in
     record {
       chosen = s.chosen;
       choice = may.choice;
       are =
-          ap (λ (list : List Mend). raising_events s.state.file.layout s.state.headers list s.state.fields s.chosen.members (boot_fields s.state))
+          ap (λ (list : List Mend). raising_events s.state.file.layout s.state.headers list s.state.fields s.chosen.members d)
           (may.mends ∙ ap (λ (l : Layout). mends_of l t.shown s.state.fields s.state.head s.chosen.members) (sym of));
     }
 

@@ -23,8 +23,7 @@ use Rattle.df_theory.specs.Upgrades as UnitsUpgrades
 use Rattle.df_theory.specs.Upgrades.{IsCleanBeyond, MayRaise, raise_steps}
 use Rattle.df_theory.specs.UnitLog.{UnitLog, now}
 use Rattle.df_theory.specs.View.{View}
-use Rattle.df_theory.proofs.Laws.{after_append, firm_units, moments, now_units}
-use Rattle.df_theory.proofs.Upgrades.{open_law}
+use Rattle.df_theory.proofs.Laws.{after_append, firm_units, moments, now_units, open_law}
 use Rattle.df_units.specs.Bytes.{unit_at}
 use Rattle.df_units.specs.Meaning.{content_of, layout_of}
 use Rattle.df_units.specs.Puts.{put_copies}
@@ -56,6 +55,10 @@ use Rattle.df_opening.proofs.RaiseSteps.{raised_is, sum_of}
 beyond_four : (file : DataFile) (image : Image) (n : ℕ) → 4 ≤ n → unit_at file.layout file.cluster image (CopyPlace n) ≡ None
 beyond_four file image n past =
     (is_format file.layout file.cluster).local image blank (CopyPlace n) (λ sector has. let inside : n < 4 = ltb-true n 4 (and_parts _ _ has).0 in absurd (omega (arith, inside, past))) ∙ blank_empty file.layout file.cluster (CopyPlace n)
+
+-- so beside them none is later
+pub clean_beyond : (file : DataFile) (image : Image) (view : View) → IsCleanBeyond (unit_at file.layout file.cluster image) view
+clean_beyond file image view n c past is = let none : None ≡ Some (CopyUnit c) = sym (beyond_four file image n past) ∙ is in absurd (cc)
 
 module _ (view : View) (s : Survey) (base : Told) (four : length s.chosen.members ≡ 4) (version : s.state.file.version ≡ 2) (is : IsState s.state) (unspent : s.state.fields.boot < 2 ^ 62)
     (plan : IsPlannedOf s (begun base)) (whole : IsImage base.shown) (found : IsFound (shape s.state.file) (unit_at s.state.file.layout s.state.file.cluster base.shown) view)
@@ -103,17 +106,7 @@ module _ (view : View) (s : Survey) (base : Told) (four : length s.chosen.member
   planned = planned_in file view s.state.headers s.mends s.state.fields s.chosen.members (begun base) four plan whole found distinct
 
   may : MayRaise sh view.checkpoint.content.version image view (headers_in s.state.headers) headers copies d
-  may = record {
-    places = places;
-    found = found;
-    tells = planned.tells;
-    puts_headers = planned.puts_headers;
-    agreed = planned.agreed;
-    puts_copies = planned.puts_copies;
-    each_slot = planned.each_slot;
-    each_copy = planned.each_copy;
-    boot = raises.may;
-  }
+  may = record { places = places; found = found; tells = planned.tells; puts_headers = planned.puts_headers; agreed = planned.agreed; puts_copies = planned.puts_copies; each_slot = planned.each_slot; each_copy = planned.each_copy; boot = raises.may }
 
   there : (puts : PutsCopies d) × (opening_steps s ≡ raise_steps headers copies puts)
   there = subst (λ (c : Content). (puts : PutsCopies c) × (opening_steps s ≡ raise_steps headers copies puts)) content_is_d (put_copies (boot_fields s.state), refl)
@@ -171,14 +164,11 @@ module _ (view : View) (s : Survey) (base : Told) (four : length s.chosen.member
   image_raised : unit_at file.layout file.cluster end.shown ≡ now (after_steps (raise_steps headers copies puts) (UnitsUpgrades.begun image))
   image_raised = image_is ∙ ap (λ (ss : List Step). now (after_steps ss (UnitsUpgrades.begun image))) there.1
 
-  beyond : IsCleanBeyond image view
-  beyond n c past is = let none : None ≡ Some (CopyUnit c) = sym (beyond_four file base.shown n past) ∙ is in absurd (cc)
-
   anew_keeps : IsKeptBy sh (spelling file) (units_log (format file) (begun end).log) (begun_state file base view (boot_fields s.state))
   anew_keeps =
       subst (λ (c : Content). IsKeptBy sh (spelling file) (units_log (format file) (begun end).log) (raised w c)) (sym content_is_d)
       (subst (λ (u : Units.Units). IsKeptBy sh (spelling file) (UnitsUpgrades.begun u) (raised w d)) (sym image_raised)
-      (raised_kept_law sh (spelling file) image view (headers_in s.state.headers) headers copies (sum_of s.state) puts (codec_of file) two may beyond).0)
+      (raised_kept_law sh (spelling file) image view (headers_in s.state.headers) headers copies (sum_of s.state) puts (codec_of file) two may (clean_beyond file base.shown view)).0)
 
   anew_stands : Represents (raised_state s.state) (begun_state file base view (boot_fields s.state))
   anew_stands =

@@ -1,5 +1,5 @@
 -- What an open does behind its survey leads, in one log, to a file that is kept by the state behind the boot update.
-use Rattle.std.proofs.Common.{◌≡◌, inl, ℕ, ◌+◌, ◌<◌, ◌^◌, List, length, Option, Some, refl, sym, ◌∙◌, ap, subst, arith}
+use Rattle.std.proofs.Common.{◌≡◌, inl, ℕ, ◌+◌, ◌<◌, ◌^◌, List, ◌∷◌, length, Option, Some, refl, sym, ◌∙◌, ap, subst, arith}
 use Rattle.df_base.specs.Log as Log
 use Rattle.df_base.specs.Moments.{EachMoment, Extends, adds}
 use Rattle.df_base.proofs.Laws.{adds_extends, extends_self}
@@ -15,12 +15,12 @@ use Rattle.df_theory.specs.CopyPuts.{PutsCopies, update_steps}
 use Rattle.df_theory.specs.Device.{AreSteps, IsGoodDisk, IsGoodWholeDisk, units_log}
 use Rattle.df_theory.specs.Next.{IsSameBare, booted}
 use Rattle.df_theory.specs.MendLaws.{mend_steps}
-use Rattle.df_theory.specs.Runs.{after_steps}
+use Rattle.df_theory.specs.Runs.{Step, after_steps}
 use Rattle.df_theory.specs.Upgrades.{raise_steps}
 use Rattle.df_theory.specs.UnitLog.{UnitLog, now}
 use Rattle.df_theory.specs.View.{View, boot_of}
 use Rattle.df_theory.specs.WholeLaws.{IsStanding}
-use Rattle.df_theory.proofs.Laws.{after_append, now_units, steps_join_law}
+use Rattle.df_theory.proofs.Laws.{after_append, moments, now_units, steps_join_law}
 use Rattle.df_units.specs.Bytes.{unit_at}
 use Rattle.df_units.specs.Meaning.{content_of, layout_of, number_of}
 use Rattle.df_units.specs.Puts.{put_copies}
@@ -35,10 +35,14 @@ use Rattle.df_model.specs.OnDisk.{BacksOnDisk, LeadsOnDisk}
 use Rattle.df_model.specs.Sense.{IsBacked, IsWork}
 use Rattle.df_model.specs.Work.{Work, raised}
 use Rattle.df_model.proofs.Laws.{disk_open_law, found_law as sense_found, raised_law}
+use Rattle.df_history.specs.Awakened.{IsAwakened}
+use Rattle.df_history.specs.Histories.{IsLivedMoment}
+use Rattle.df_history.proofs.Laws.{raise_lived_law}
 use Rattle.df_damage.specs.Anew.{told_after}
+use Rattle.df_damage.specs.Histories.{HasLived, IsLivedDisk, LivesOn, units_in, units_logs}
 use Rattle.df_damage.specs.Below.{DataFile, IsState, Represents, State, boot_fields, memory, shape, spelling}
 use Rattle.df_damage.specs.Plan.{header_or_none, headers_in}
-use Rattle.df_damage.proofs.Laws.{added_is_told, recorded_content}
+use Rattle.df_damage.proofs.Laws.{added_is_told, moment_on_disk, recorded_content}
 use Rattle.df_opening.specs.Keeping.{Firm, Grade, IsGoodFor, KeptFor, StandingFor, Whole, format}
 use Rattle.df_opening.specs.Mending.{RestsOnDisk, begun_state, first_state, mending_events, mending_steps, raised_state, sector_puts, sectors_of}
 use Rattle.df_opening.specs.Raising.{IsPlannedOf, RaisesOver, opening_events, opening_steps, raised_content}
@@ -115,10 +119,11 @@ module _ (g : Grade) (view : View) (s : Survey) (base : Told) (four : length s.c
     written = λ r at. absurd (cc);
   }
 
+  there : (puts : PutsCopies d) × (opening_steps s ≡ raise_steps headers copies puts)
+  there = subst (λ (c : Content). (puts : PutsCopies c) × (opening_steps s ≡ raise_steps headers copies puts)) content_is_d (put_copies (boot_fields s.state), refl)
+
   does : DoesOpenOnDisk (format file) d headers copies (opening_events s)
-  does =
-      let there = subst (λ (c : Content). (puts : PutsCopies c) × (opening_steps s ≡ raise_steps headers copies puts)) content_is_d (put_copies (boot_fields s.state), refl) in
-      record { steps = opening_steps s; are = steps; does = record { puts = there.0; are = there.1 } }
+  does = record { steps = opening_steps s; are = steps; does = record { puts = there.0; are = there.1 } }
 
   law : LeadsOnDisk (format file) (shape file) (spelling file) base.log w (raised w d) (opening_events s) × (IsBacked log w → BacksOnDisk (format file) (shape file) base.log w (raised w d) (opening_events s))
   law = disk_open_law (format file) (shape file) (spelling file) base.log w (headers_in s.state.headers) headers copies (sum_of s.state) (opening_events s) (is_format file.layout file.cluster) on.is_log opens left does
@@ -175,6 +180,20 @@ module _ (g : Grade) (view : View) (s : Survey) (base : Told) (four : length s.c
   end_is_log =
       (good_safe file g view (booted view (raised_content s.state)) end.log (opening_moments end.log (record { since = subst (λ (l : Log.Log). Extends l base.log) (sym added) (adds_extends (opening_events s) base.log); until = extends_self end.log }))).is_log
 
+  -- ---- in a lived history
+
+  lives_on : (before : Log.Log) (older : List Log.Log) → HasLived file (base.log ∷ before ∷ older) → LivesOn file before older base.log end.log
+  lives_on before older lived =
+      let law = raise_lived_law (shape file) log (units_in file before) (units_logs file older) view (headers_in s.state.headers) headers copies d there.0 lived opens.may on.dry raises.may in
+      let each = moments (format file) (IsLivedMoment (shape file) (units_logs file (before ∷ older))) (IsLivedDisk file (before ∷ older)) (λ l is moment. moment_on_disk file (before ∷ older) l moment)
+      (opening_events s) (raise_steps headers copies there.0) base.log on.is_log (subst (AreSteps (format file) (opening_events s)) there.1 steps) law.0 in
+      let ends : units_in file end.log ≡ after_steps (raise_steps headers copies there.0) log =
+      call_ends (format file) (opening_events s) (opening_steps s) base end on.is_log steps (sym (added_is_told (opening_events s) base)) ∙ ap (λ (ss : List Step). after_steps ss log) there.1 in
+      record {
+        moments = subst (λ (l : Log.Log). EachMoment base.log l (IsLivedDisk file (before ∷ older))) (sym added) each;
+        raised = subst (λ (l : UnitLog). IsAwakened (shape file) l (units_in file before) (units_logs file older)) (sym ends) law.1;
+      }
+
   pub raises_over : RaisesOver g view s base
   raises_over =
       let by = firm_of g (shape file) (spelling file) (units_log (format file) end.log) (begun_state file base view (boot_fields s.state)) opening_keeps in
@@ -184,4 +203,5 @@ module _ (g : Grade) (view : View) (s : Survey) (base : Told) (four : length s.c
         bare = subst (λ (c : Content). IsSameBare view (booted view c)) (sym content_is_d) raises.bare;
         raised = record { tidy = by.tidy; standing = standing_of g opening_keeps; ring = ring };
         kept_for = record { log_is = end_is_log; stands = opening_stands; kept_by = opening_keeps; ring = ring };
+        lived = lives_on;
       }

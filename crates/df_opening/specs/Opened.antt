@@ -1,15 +1,17 @@
 -- What an open leaves of a file, and what it leaves where the disk failed in it.
-use Rattle.std.specs.Prelude.{◌≡◌, ◌⊎◌, ◌<◌, ℕ, List, Option, Some, Result, Ok, Err}
+use Rattle.std.specs.Prelude.{◌≡◌, ◌⊎◌, ◌<◌, ℕ, List, ◌∷◌, Option, Some, Result, Ok, Err}
 use Rattle.df_base.specs.Image.{Image, IsImage}
-use Rattle.df_base.specs.Log.{Event, Sync}
+use Rattle.df_base.specs.Log.{Event, Log, Sync, add}
 use Rattle.df_base.specs.Moments.{EachMoment}
 use Rattle.df_disk.specs.Told.{Told, did}
 use Rattle.df_disk.specs.Adds.{AddsPart, after_all}
 use Rattle.df_layout.specs.declared.layout.Layout.{Layout}
 use Rattle.df_quorum.specs.declared.choice.Chosen.{Chosen}
 use Rattle.df_format.specs.Copies.{content_with}
+use Rattle.df_format.specs.declared.superblock.SuperFields.{SuperFields}
 use Rattle.df_damage.specs.Anew.{begun, told_after}
 use Rattle.df_damage.specs.Answers.{TellsHurt}
+use Rattle.df_damage.specs.Histories.{IsLivedDisk, LivesOn, MayReopen, TellsLived}
 use Rattle.df_theory.specs.Found.{IsFound}
 use Rattle.df_theory.specs.Units.{CopyPlace, CopyUnit}
 use Rattle.df_theory.specs.Next.{IsSameBare}
@@ -61,21 +63,29 @@ pub record Mends (file : DataFile) (old new : Option Told) : Type 0 where
   pub within : AreWithin file.layout events
   pub spares : (image : Image) → IsImage image → SparesReads file image (image_after events image)
 
--- These are the device calls of an open behind its survey, each once and in this order: of what is to be mended of the image that was shown the header sectors, from the table
--- in memory, and a sync, where there is one; then the copies that aren't members of the choice, each with a sync; then the four copies with the next boot, each with a sync.
-pub record AreRaising (t : Told) (found : State) (events : List Event) : Type 0 where
+-- These are the device calls by which a file that was surveyed gets this superblock, each once and in this order: of what is to be mended of the image that was shown the header sectors,
+-- from the table in memory, and a sync, where there is one; then the copies that aren't members of the choice, each with a sync; then the four copies of this superblock, each with a sync.
+pub record AreRaisingTo (d : SuperFields) (t : Told) (found : State) (events : List Event) : Type 0 where
   pub chosen : Chosen
   pub choice : IsChoiceOf t.shown chosen
-  pub are : events ≡ raising_events found.file.layout found.headers (mends_of found.file.layout t.shown found.fields found.head chosen.members) found.fields chosen.members (boot_fields found)
+  pub are : events ≡ raising_events found.file.layout found.headers (mends_of found.file.layout t.shown found.fields found.head chosen.members) found.fields chosen.members d
 
 -- they were begun: the first of them were made, and no others
-pub record BeginsRaising (t : Told) (found : State) (later : Option Told) : Type 0 where
+pub record BeginsRaisingTo (d : SuperFields) (t : Told) (found : State) (later : Option Told) : Type 0 where
   pub events : List Event
-  pub own : AreRaising t found events
+  pub own : AreRaisingTo d t found events
   pub part : AddsPart events (Some (did Sync t)) later
 
+-- those of an open: the superblock has the next boot
+abbrev pub AreRaising : Told → State → List Event → Type 0
+AreRaising t found events = AreRaisingTo (boot_fields found) t found events
+
+abbrev pub BeginsRaising : Told → State → Option Told → Type 0
+BeginsRaising t found later = BeginsRaisingTo (boot_fields found) t found later
+
 -- The file was found in what was shown, mended and raised, and then each copy shows the superblock that was written: so it is by each log that shows what the disk showed, and by which the file
--- may be opened, the told one or one that is begun anew there; and whatever its copies showed, by the log that is begun anew there.
+-- may be opened, the told one or one that is begun anew there; and whatever its copies showed, by the log that is begun anew there. Whatever history
+-- of damage and opens the file has, it is lived with that log at each moment, and at the end its boot is raised.
 pub record MendsAll (t : Told) (s : State) (later : Option Told) : Type 0 where
   pub found : State
   pub opened : IsImage t.shown → IsOpenedAs 2 found.file.layout t.shown found
@@ -86,8 +96,9 @@ pub record MendsAll (t : Told) (s : State) (later : Option Told) : Type 0 where
   pub over : (g : Grade) (view : View) (base : Told) → base.shown ≡ t.shown → MayOpen s.file view base → StandsFor g (unit_at s.file.layout s.file.cluster t.shown) view
       → OpensOver g view s base (told_after mending.events (did Sync base))
   pub anew : (view : View) → IsImage t.shown → IsFound (shape s.file) (unit_at s.file.layout s.file.cluster t.shown) view → AreDistinct (unit_at s.file.layout s.file.cluster t.shown) → OpensAnew view s t (told_after mending.events (begun t))
+  pub lived : (log : Log) (logs : List Log) → MayReopen s.file log logs t.shown → LivesOn s.file (add Sync log) logs (did Sync (begun t)).log (told_after mending.events (did Sync (begun t))).log
 
--- the file was found, and the disk failed within its mending or its boot update: at each moment whatever a stop leaves has the view that was found or the raised one, by each of these logs
+-- the file was found, and the disk failed within its mending or its boot update: at each moment whatever a stop leaves has the view that was found or the raised one, by each of these logs; and the history is lived with the new one
 pub record MendsPartly (layout : Layout) (t : Told) (later : Option Told) : Type 0 where
   pub found : State
   pub opened : IsOpenedAs 2 layout t.shown found
@@ -98,6 +109,7 @@ pub record MendsPartly (layout : Layout) (t : Told) (later : Option Told) : Type
       × IsSameBare view (kept (begun_state found.file base view (boot_fields found)))
   pub anew : (view : View) → IsImage t.shown → IsFound (shape found.file) (unit_at found.file.layout found.file.cluster t.shown) view → AreDistinct (unit_at found.file.layout found.file.cluster t.shown)
       → EachMoment (begun t).log (told_after mending.events (begun t)).log (StaysFound found.file view (boot_fields found))
+  pub lived : (log : Log) (logs : List Log) → MayReopen found.file log logs t.shown → EachMoment (did Sync (begun t)).log (told_after mending.events (did Sync (begun t))).log (IsLivedDisk found.file (add Sync log ∷ logs))
 
 -- it failed in the barrier, which added a sync or nothing, or in a read behind it; or within the mending
 abbrev pub StopsOpening : Layout → Told → Option Told → Type 0
@@ -117,3 +129,8 @@ TellsOpened layout told (Err e) = TellsSurvey layout told (Err e)
 abbrev pub TellsHurtOpened : Layout → Option Told → Result State OpenError → Type 0
 TellsHurtOpened layout told (Ok s) = (found : State) × (s ≡ raised_state found) × TellsHurt layout told (Ok found)
 TellsHurtOpened layout told (Err e) = TellsHurt layout told (Err e)
+
+-- and behind damage before any number of opens, so: the state behind the boot update of one that the file had since the last of them that raised its boot
+abbrev pub TellsLivedOpened : Layout → Option Told → Result State OpenError → Type 0
+TellsLivedOpened layout told (Ok s) = (found : State) × (s ≡ raised_state found) × TellsLived layout told (Ok found)
+TellsLivedOpened layout told (Err e) = TellsLived layout told (Err e)

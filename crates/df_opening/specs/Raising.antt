@@ -1,6 +1,6 @@
 -- What an open does behind its survey: it mends, and raises the boot; and what it leaves at each moment of that, by each log on which the plan rests.
-use Rattle.std.specs.Prelude.{List}
-use Rattle.df_base.specs.Log.{Event}
+use Rattle.std.specs.Prelude.{List, ◌∷◌}
+use Rattle.df_base.specs.Log.{Event, Log}
 use Rattle.df_base.specs.Moments.{EachMoment}
 use Rattle.df_disk.specs.Told.{Told}
 use Rattle.df_format.specs.Copies.{content_with}
@@ -10,6 +10,7 @@ use Rattle.df_theory.specs.Units.{Content}
 use Rattle.df_theory.specs.View.{View}
 use Rattle.df_units.specs.Meaning.{content_of}
 use Rattle.df_damage.specs.Anew.{begun, told_after}
+use Rattle.df_damage.specs.Histories.{HasLived, LivesOn}
 use Rattle.df_damage.specs.Below.{State, boot_fields, shape}
 use Rattle.df_opening.specs.Keeping.{Firm, Grade, IsGoodFor, IsKept, format}
 use Rattle.df_opening.specs.Mending.{IsMended, IsPlanned, StaysFound, begun_state, raised_state, raising_events, raising_steps}
@@ -31,12 +32,14 @@ opening_steps s = raising_steps s.state.file.layout s.state.headers s.mends s.st
 abbrev pub IsPlannedOf : Survey → Told → Type 0
 IsPlannedOf s t = IsPlanned s.state.file s.state.headers s.mends s.state.fields s.chosen.members t
 
--- In one log on which the view rests: each moment has the view that was found or the raised one, whose bare view is the same, and at the end the file is tidy with that.
+-- In one log on which the view rests: each moment has the view that was found or the raised one, whose bare view is the same, and at the end the file is tidy with that. Where the log is the newest of a
+-- lived history, that is lived at each moment, and at the end the boot is raised.
 pub record RaisesOver (g : Grade) (view : View) (s : Survey) (base : Told) : Type 0 where
   pub moments : EachMoment base.log (told_after (opening_events s) base).log (IsGoodFor g (format s.state.file) (shape s.state.file) view (booted view (raised_content s.state)))
   pub bare : IsSameBare view (booted view (raised_content s.state))
   pub raised : IsMended g s.state.file (booted view (raised_content s.state)) s.state.headers (told_after (opening_events s) base)
   pub kept_for : IsKept g (raised_state s.state) (begun_state s.state.file base view (boot_fields s.state)) (told_after (opening_events s) base).log
+  pub lived : (before : Log) (older : List Log) → HasLived s.state.file (base.log ∷ before ∷ older) → LivesOn s.state.file before older base.log (told_after (opening_events s) base).log
 
 -- In a log that is begun anew at what was shown, whatever the copies showed: at each moment each image that is left has the bare view, and one that is begun anew behind it is kept.
 pub record RaisesAnew (view : View) (s : Survey) (base : Told) : Type 0 where

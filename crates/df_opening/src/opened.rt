@@ -1,7 +1,7 @@
 // An open: a survey, the mending of what it lists, and the boot update.
 ghost use Rattle.std.specs.Prelude.{◌≡◌, IfOk, IfErr, Some, true};
 ghost use Rattle.df_opening.specs.Below.{IsBlamed, IsImage, Sync, Told, after, is_open_fault, without_rooms};
-ghost use Rattle.df_opening.specs.Opened.{MendsAll, StopsOpening, TellsHurtOpened, TellsOpened, ToldBy, refusal_of};
+ghost use Rattle.df_opening.specs.Opened.{MendsAll, StopsOpening, TellsHurtOpened, TellsLivedOpened, TellsOpened, ToldBy, refusal_of};
 ghost use Rattle.df_opening.specs.Survey.{opened_of};
 ghost use Rattle.df_damage.specs.Below.{AreWhole};
 
@@ -21,7 +21,8 @@ pub fn refusal_of(error: MendError) -> OpenError
 /// Opens a file: finds its state, with the refusals of a survey, mends it, and raises its boot; then calls may be made on its
 /// parts. A fault of the disk may come before the mending, within it or within the boot update, and where a disk lies that update
 /// answers `Damaged`; every other refusal has written nothing. The rooms come back with a refusal. Where sectors of the file were
-/// damaged, lost or swapped before, the state is one that the file had, and a refusal is because of one of them.
+/// damaged, lost or swapped before, the state is one that the file had, and a refusal is because of one of them; where they were
+/// before other opens, too, it is one that the file had since the last of these that raised its boot.
 pub fn open_file<D: Disk>(disk: &mut D, rooms: Rooms) -> Result<Parts, (Rooms, OpenError)>
     ensures whole { IfOk result (λ parts. AreWhole parts) }
     ensures kept { IfOk (opened_of result) (λ state. state.file.layout ≡ rooms.layout) }
@@ -29,6 +30,7 @@ pub fn open_file<D: Disk>(disk: &mut D, rooms: Rooms) -> Result<Parts, (Rooms, O
     ensures given_back { IfErr result (λ refused. refused.0.layout ≡ rooms.layout) }
     ensures answer { TellsOpened rooms.layout (D.told disk.old) (without_rooms (opened_of result)) }
     ensures hurt { TellsHurtOpened rooms.layout (D.told disk.old) (without_rooms (opened_of result)) }
+    ensures lived { TellsLivedOpened rooms.layout (D.told disk.old) (without_rooms (opened_of result)) }
     ensures opened { (t : Told) → D.told disk.old ≡ Some t → IfOk (opened_of result) (λ state. MendsAll t state (D.told disk.new)) }
     ensures told { IfOk result (λ _. ToldBy (after Sync (D.told disk.old)) (D.told disk.new)) }
     ensures refused { IfErr result (λ refused. (refused.1 ≡ OpenError.DiskFault → ⊥) → D.told disk.new ≡ after Sync (D.told disk.old)) }

@@ -1,6 +1,6 @@
 // The survey of a file: what it shows is read, its state is found, and what is to be mended is listed. Nothing is written.
 ghost use Rattle.std.specs.Prelude.{◌≡◌, ◌≤◌, length, Some, IfOk, IfErr};
-ghost use Rattle.df_opening.specs.Below.{IsBlamed, Told, is_open_fault, TellsHurt, Syncs};
+ghost use Rattle.df_opening.specs.Below.{IsBlamed, Told, is_open_fault, TellsHurt, TellsLived, Syncs};
 ghost use Rattle.df_damage.specs.Below.{AreFound};
 ghost use Rattle.df_damage.specs.Surveying.{IsPlannedFor, IsWellFound};
 ghost use Rattle.df_opening.specs.Mending.{IsPlanned};
@@ -84,13 +84,15 @@ fn parts_of(surveyed: Surveyed) -> SurveyedFile
 /// of open why it isn't opened, and the rooms. It syncs once, then reads each copy of the superblock once, each block of the
 /// trailer that it names twice, and each sector of the header ring, each slot of the ring of prepares and each reply slot
 /// once, and writes nothing. Where sectors of the file were damaged, lost or swapped before, it finds a state that the file had,
-/// or refuses it because of a sector that is hurt.
+/// or refuses it because of a sector that is hurt; and where they were before other opens, too, one that it had since the last of
+/// these that raised its boot.
 pub fn survey_file<D: Disk>(disk: &mut D, rooms: Rooms) -> Result<SurveyedFile, (Rooms, OpenError)>
     ensures found { IfOk result (λ surveyed. AreFound surveyed.parts) }
     ensures kept { IfOk (survey_of result) (λ survey. survey.state.file.layout ≡ rooms.layout) }
     ensures given_back { IfErr result (λ refused. refused.0.layout ≡ rooms.layout) }
     ensures answer { TellsSurvey rooms.layout (D.told disk.old) (state_of (survey_of result)) }
     ensures hurt { TellsHurt rooms.layout (D.told disk.old) (state_of (survey_of result)) }
+    ensures lived { TellsLived rooms.layout (D.told disk.old) (state_of (survey_of result)) }
     ensures mends { IfOk (survey_of result) (TellsMends rooms.layout (D.told disk.old)) }
     ensures barrier { Syncs (D.told disk.old) (D.told disk.new) (state_of (survey_of result)) }
     ensures planned { (t : Told) → D.told disk.new ≡ Some t → IfOk (survey_of result) (λ survey. IsPlanned survey.state.file survey.state.headers survey.mends survey.state.fields survey.chosen.members t) }

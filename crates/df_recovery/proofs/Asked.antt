@@ -1,10 +1,10 @@
 -- A superblock that an open takes is of the version that is asked for and can be used, and so back.
-use Rattle.std.proofs.Common.{inl, inr, ℕ, ◌≡◌, ◌==◌, Some, None, sym, ◌∙◌, subst, arith}
+use Rattle.std.proofs.Common.{inl, inr, ℕ, ◌≡◌, ◌==◌, Some, None, sym, ◌∙◌, subst}
 use Rattle.std.proofs.lemmas.Bool.{cases_eq, cond-true, cond-false, eq-eqb, ne_eqb}
 use Rattle.df_format.specs.Copies.{content_with}
 use Rattle.df_format.specs.declared.superblock.SuperFields.{SuperFields}
 use Rattle.df_format.specs.declared.superblock.SuperFault.TheVariants.{Version as OtherVersion}
-use Rattle.df_format.specs.SuperRules.{IsSuper, IsUsable, fault_of}
+use Rattle.df_format.specs.SuperRules.{IsSuper, fault_of}
 use Rattle.df_format.proofs.Laws.{faults}
 use Rattle.df_theory.specs.Trailer.{IsReference}
 use Rattle.df_theory.specs.View.{PassesTests}
@@ -13,7 +13,7 @@ use Rattle.df_units.specs.Meaning.{content_of, layout_of}
 use Rattle.df_units.specs.Superblocks.{AreFieldsOf}
 use Rattle.df_units.proofs.Laws.{usable_passes}
 use Rattle.df_trailer.specs.Text.{parse_of}
-use Rattle.df_rooms.specs.State.{IsSecond, shape}
+use Rattle.df_rooms.specs.State.{shape}
 use Rattle.df_rooms.specs.declared.file.DataFile.{DataFile}
 use Rattle.df_recovery.specs.Opening.{fault_as}
 
@@ -25,15 +25,6 @@ super_as version f none = elim (cases_eq f.version version) [
 
 pub as_none : (version : ℕ) (f : SuperFields) → f.version ≡ version → IsSuper f → fault_as version f ≡ None
 as_none version f of is = cond-true (f.version == version) (fault_of f) (Some (OtherVersion f.version)) (eq-eqb f.version version of) ∙ (faults f).1 is
-
--- of version 2 it has a boot, and names what its file has
-pub second_super : (file : DataFile) (f : SuperFields) → f.version ≡ 2 → IsUsable f → AreFieldsOf file.layout file.cluster f → IsSecond file f
-second_super file f second is of = record {
-  rules = elim is.rules.version [ inl one ↦ absurd (omega (arith, second, one.version)) | inr two ↦ two ];
-  of = of;
-  names = is.fits.reply_checksums;
-  first_nonzero = is.rules.zero;
-}
 
 -- ---- in the theory
 

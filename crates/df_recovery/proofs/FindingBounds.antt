@@ -30,8 +30,8 @@ use Rattle.df_journal.specs.Shows.{ShowsHeader, ShowsPrepare, ShowsTable}
 use Rattle.df_journal.specs.Counts.{CountsReplies}
 use Rattle.df_journal.specs.Tail.{IsReached}
 use Rattle.df_journal.proofs.Laws.{own_within}
-use Rattle.df_journal.specs.declared.reach.Reach.{Reach}
-use Rattle.df_journal.specs.declared.tail.Tail.{Tail}
+use Rattle.df_group.specs.declared.reach.Reach.{Reach}
+use Rattle.df_group.specs.declared.groups.Tail.{Tail}
 use Rattle.df_replies.specs.Shown.{ShowsReplies, ShowsReply}
 use Rattle.df_rooms.proofs.Laws.{asked_noted}
 use Rattle.df_recovery.specs.Known.{IsBaseOf}

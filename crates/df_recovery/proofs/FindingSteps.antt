@@ -21,9 +21,9 @@ use Rattle.df_theory.specs.View.{Checkpoint, View}
 use Rattle.df_model.specs.declared.errors.OpenError.{OpenError}
 use Rattle.df_units.specs.Meaning.{content_of}
 use Rattle.df_journal.specs.Counts.{CountsAll, CountsBound, CountsReplies, CountsRings, RepliesWithin, RingsWithin, in_boot}
-use Rattle.df_journal.specs.declared.reach.Reach.{Reach}
+use Rattle.df_group.specs.declared.reach.Reach.{Reach}
 use Rattle.df_journal.specs.Tail.{IsReached}
-use Rattle.df_journal.specs.declared.tail.Tail.{Tail}
+use Rattle.df_group.specs.declared.groups.Tail.{Tail}
 use Rattle.df_replies.specs.Answers.{AllAnswered, StoredAreFound, stored_by}
 use Rattle.df_recovery.specs.Finding.{EachOpens, FindsView, IsReadFrom, IsRefused, IsScannedFrom, Read, damage, lowest_of}
 use Rattle.df_recovery.specs.Surveys.{class_there}

@@ -21,4 +21,5 @@ pub mod OneSurvey
 pub mod Waits
 pub mod Scans
 pub mod Settled
+pub mod FoundStates
 pub mod Laws

@@ -17,7 +17,7 @@ use Rattle.df_journal.specs.Known.{AllKnown, NamesFrom}
 use Rattle.df_journal.specs.Scan.{Scan}
 use Rattle.df_journal.specs.Shows.{TellsRings}
 use Rattle.df_journal.specs.Tail.{BeginsAt, IsReached, StopsAt}
-use Rattle.df_journal.specs.declared.reach.Reach.{Reach}
+use Rattle.df_group.specs.declared.reach.Reach.{Reach}
 use Rattle.df_journal.specs.declared.table.Start.{Start}
 use Rattle.df_recovery.specs.Known.{BlamesKnown, IsBaseOf}
 use Rattle.df_recovery.specs.Starting.{start_of}

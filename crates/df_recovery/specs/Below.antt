@@ -17,7 +17,7 @@ pub use Rattle.df_journal.specs.Tail.{AreNumbered, AreUnstored}
 pub use Rattle.df_checkpoint.specs.Below.{AreFieldsOf, IsBlamed, parse_of}
 pub use Rattle.df_rooms.specs.Below.{IsMachineStep, IsMachines, IsStep, IsVerdict, ListsFailing, ScrubState, after_step, failing_among, failing_in, left_in, verdict_in, with_check}
 pub use Rattle.df_rooms.specs.Courses.{running_of, running_state}
-pub use Rattle.df_rooms.specs.Parts.{AreFound, AreWhole, state_in, summary_of}
+pub use Rattle.df_rooms.specs.Parts.{AreFound, AreWhole, FitsGrid, state_in, summary_of}
 pub use Rattle.df_rooms.specs.Recorded.{MayRecord, boot_fields, recorded}
 pub use Rattle.df_rooms.specs.State.{AreAsked, IsCourse, IsLevel, IsRunning, IsState, Represents, RunningState, State, captured_text, course_in, course_of, grid_with, memory, prepare_sum, reply_sum, shape, spelling, stored_sum, sum_of}
 pub use Rattle.df_rooms.specs.declared.file.DataFile.{DataFile}

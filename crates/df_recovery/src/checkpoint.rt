@@ -137,24 +137,19 @@ fn read_text<D: Disk>(
     let mut reader = Reader::new(layout, content.fields().op, empty_parts(bits, checks));
     match read_chain(disk, content, &mut grid, &mut reader) {
         Ok(()) => {
-            let Parts {
-                root,
-                sessions,
-                bits,
-                checks,
-            } = reader.into_parts();
+            let parts = reader.into_parts();
             let trailer = TrailerRooms {
                 layout,
-                bits,
-                checks,
+                bits: parts.bits,
+                checks: parts.checks,
                 piece,
                 block,
             };
             Ok(Text {
                 grid,
                 trailer,
-                root,
-                sessions,
+                root: parts.root,
+                sessions: parts.sessions,
             })
         }
         Err(fault) => {

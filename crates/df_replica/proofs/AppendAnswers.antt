@@ -2,15 +2,12 @@
 use Rattle.std.proofs.Common.{◌≡◌, ℕ, ◌+◌, ◌%◌, ◌^◌, ◌<◌, ◌≤◌, true, false, List, [], ◌∷◌, length, Option, Some, None, refl, sym, ◌∙◌, ap, subst, arith}
 use Rattle.std.specs.Prelude.{Ok, Err}
 use Rattle.std.proofs.Math.Nat.{mod-lt}
-use Rattle.std.proofs.lemmas.Option.{same_Some}
 use Rattle.df_base.proofs.Laws.{AreBytes-check_of, field_at-lt}
-use Rattle.df_base.specs.Log.{now}
 use Rattle.df_disk.specs.Told.{Told}
 use Rattle.df_disk.specs.Adds.{AddsPart, after_all}
 use Rattle.df_format.specs.Making.{for_body}
 use Rattle.df_format.specs.Message.{Message}
 use Rattle.df_format.specs.Spelling.{spelling_rest}
-use Rattle.df_journal.specs.Append.{ShowsRing}
 use Rattle.df_journal.specs.Below.{IsInOwnSlot}
 use Rattle.df_sessions.specs.Table.{IsTable}
 use Rattle.df_theory.specs.Shape.{Shape}
@@ -37,7 +34,7 @@ use Rattle.df_opening.specs.Below.{IsState, Represents, State, memory, shape, sp
 use Rattle.df_replica.proofs.AppendCalls.{allowed_does, allowed_makes, allowed_puts, refused_does, refused_makes, refused_puts, ring_then, test_is}
 use Rattle.df_replica.proofs.AppendMemory.{appended_memory}
 use Rattle.df_replica.proofs.AppendTests.{may_next}
-use Rattle.df_replica.proofs.Calls.{AreCalls, Answered, answered_call, stopped_call}
+use Rattle.df_replica.proofs.Calls.{AreCalls, Answered, answered_call, answered_still, stopped_call}
 use Rattle.df_replica.proofs.WritesOn.{StandsIn}
 use Rattle.df_replica.proofs.Unblamed.{append_unblamed, refused_answer}
 
@@ -60,13 +57,7 @@ module _ (s : State) (client request : ℕ) (body : List ℕ) (given : Given) (i
         ap (λ (o : Option AppendError). as_answer ToAppend (outcome o w (with_prepare w p) (p.header.op, supplied_sum given))) (test_is s client request body given is sum w rep (Some e) some)
 
     refused_as : Answered given command s s [] (ToAppend (Err e))
-    refused_as = record {
-      file = refl;
-      live = live;
-      stands = λ w work rep. (ap (λ (x : Work × Answer). x.1) (sym (refused_next w rep)), subst (λ (x : Work × Answer). Represents s x.0) (sym (refused_next w rep)) rep);
-      made = λ w work rep. refused_makes s client request body given is sum e some (StandsIn (format s.file) []) w rep;
-      ring = λ g w a b k all. subst (λ (x : Told). ShowsRing s.file.layout s.file.cluster (now x.log) s.headers) (sym (same_Some _ _ all)) k.ring;
-    }
+    refused_as = answered_still s given command (ToAppend (Err e)) live refused_next (λ w rep. refused_makes s client request body given is sum e some (StandsIn (format s.file) []) w rep)
 
     refused_call : (old : Option Told) → IsSupplied s old command given → IsCall given command s s old old (Some (ToAppend (Err e)))
     refused_call old supplied = answered_call given command s [] input (refused_does s client request body given is sum e some) (refused_puts s client request body given is sum e some) s (ToAppend (Err e)) refused_as old old supplied refl

@@ -23,7 +23,7 @@ use Rattle.df_replica.specs.Answering.{Serves, begin_answer}
 use Rattle.df_replica.specs.Beginning.{begin_refusal, begun, needed}
 use Rattle.df_replica.specs.Serving.{IsCall, next}
 use Rattle.df_replica.specs.Supply.{IsSupplied}
-use Rattle.df_replica.proofs.Calls.{AreCalls, Answered, answered_call}
+use Rattle.df_replica.proofs.Calls.{AreCalls, Answered, answered_call, answered_still}
 use Rattle.df_replica.proofs.Leaves.{Makes, makes_nothing}
 use Rattle.df_replica.proofs.ReadCalls.{no_sums}
 
@@ -58,13 +58,7 @@ module _ (s : State) (root : List ℕ) (given : Given) (bytes : AreBytes root) (
         ap (λ (o : Option BeginError). as_answer ToBegin (outcome o w (with_running w (Some (begun_by (shape s.file) (spelling s.file) w root))) (needed_of (spelling s.file) m root))) (test_is w rep (Some e) some)
 
     refused_as : Answered given command s s [] (ToBegin (Err e))
-    refused_as = record {
-      file = refl;
-      live = live;
-      stands = λ w work rep. (ap (λ (x : Work × Answer). x.1) (sym (refused_next w rep)), subst (λ (x : Work × Answer). Represents s x.0) (sym (refused_next w rep)) rep);
-      made = λ w work rep. tt;
-      ring = λ g w a b k all. subst (λ (x : Told). ShowsRing s.file.layout s.file.cluster (now x.log) s.headers) (sym (same_Some _ _ all)) k.ring;
-    }
+    refused_as = answered_still s given command (ToBegin (Err e)) live refused_next (λ w rep. tt)
 
     pub refused_call : (told : Option Told) → IsSupplied s told command given → IsCall given command s s told told (Some (ToBegin (Err e)))
     refused_call told supplied = answered_call given command s [] input does does_nothing s (ToBegin (Err e)) refused_as told told supplied refl

@@ -11,29 +11,7 @@ use Rattle.df_replica.specs.Beginning.{MayBegin, begun, captured, needed}
 
 -- a state makes sense with other blocks and another course, where those do
 pub with_course : (s : State) (b : Blocks) (r : Option RunningState) → IsState s → IsCourse s.file s.fields s.head b r → IsLevel s.head s.head_checksum r → IsState (record s { blocks = b; running = r })
-with_course s b r is course level = record {
-  cluster = is.cluster;
-  parent = is.parent;
-  version = is.version;
-  second = is.second;
-  booted = is.booted;
-  sequence = is.sequence;
-  root = is.root;
-  order = is.order;
-  room = is.room;
-  head_to = is.head_to;
-  waiting = is.waiting;
-  few = is.few;
-  places = is.places;
-  first = is.first;
-  level = is.level;
-  captured = level;
-  requests = is.requests;
-  asked = is.asked;
-  tracks = is.tracks;
-  ring = is.ring;
-  course = course;
-}
+with_course s b r is course level = record { in_file = is.in_file; booted = is.booted; ends = is.ends; awaits = is.awaits; captured = level; course = course }
 
 module _ (s : State) (root : List ℕ) (plan : Plan) (is : IsState s) (table : IsTable s.table) (may : MayBegin s root plan) where
   abbrev b : Blocks
@@ -44,17 +22,13 @@ module _ (s : State) (root : List ℕ) (plan : Plan) (is : IsState s) (table : I
 
   pub is_running : IsRunning s.file s.fields s.head b (captured s root)
   is_running = record {
-    op_from = is.order;
-    op_to = omega arith;
-    parent = is.parent;
-    first = is.first;
-    root = may.short;
-    sessions = omega (arith, table.within, is.places);
-    sequence = (refl, omega (arith, may.unspent));
-    size = refl;
-    fits = (omega (arith, may.planned.some, may.planned.size), omega (arith, may.planned.longest, may.planned.size));
-    count = subst (λ (n : ℕ). IsCount (s.file.layout.block_size - 256) n (needed s root)) may.planned.size (subst (λ (n : ℕ). IsCount (s.file.layout.block_size - 256) plan.size n) may.planned.blocks may.planned.count);
-    few = omega (arith, may.planned.few, may.planned.blocks);
-    all = omega (arith, taken);
-    written = refl;
+    begun = record { op_from = is.order; op_to = omega arith; sequence = (refl, omega (arith, may.unspent)) };
+    contents = record { parent = is.parent; first = is.first; root = may.short; sessions = omega (arith, table.within, is.places) };
+    trailer = record {
+      size = refl;
+      fits = (omega (arith, may.planned.some, may.planned.size), omega (arith, may.planned.longest, may.planned.size));
+      count = subst (λ (n : ℕ). IsCount (s.file.layout.block_size - 256) n (needed s root)) may.planned.size (subst (λ (n : ℕ). IsCount (s.file.layout.block_size - 256) plan.size n) may.planned.blocks may.planned.count);
+      few = omega (arith, may.planned.few, may.planned.blocks);
+    };
+    progress = record { all = omega (arith, taken); written = refl };
   }

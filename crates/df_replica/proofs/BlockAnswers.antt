@@ -47,7 +47,7 @@ use Rattle.df_replica.specs.Answering.{Serves, answer_of, as_write_block}
 use Rattle.df_replica.specs.Blocks.{block_events, block_given, next_block, reference_of, written}
 use Rattle.df_replica.specs.Serving.{Grade, IsCall, IsKept, format, next}
 use Rattle.df_replica.specs.Supply.{IsSupplied}
-use Rattle.df_replica.proofs.Calls.{AreCalls, Answered, answered_call, stopped_call}
+use Rattle.df_replica.proofs.Calls.{AreCalls, Answered, answered_call, answered_still, stopped_call}
 use Rattle.df_replica.proofs.Leaves.{Makes, makes_nothing}
 use Rattle.df_replica.proofs.BlockStates.{blocks_memory}
 use Rattle.df_replica.proofs.Unblamed.{block_unblamed, refused_answer}
@@ -90,13 +90,7 @@ module _ (s : State) (kind : ℕ) (body : List ℕ) (given : Given) (is : IsStat
         makes_nothing given command s (λ place. ap (λ (o : Option BlockError). unless o (put_one (BlockPlace (next_address m)) (BlockUnit (block_of m.content.boot (supplied_sum given) kind body))) place) some) (λ no. no)
 
     refused_as : Answered given command s s [] (ToWriteBlock (Err e))
-    refused_as = record {
-      file = refl;
-      live = live;
-      stands = λ w work rep. (ap (λ (x : Work × Answer). x.1) (sym (refused_next w rep)), subst (λ (x : Work × Answer). Represents s x.0) (sym (refused_next w rep)) rep);
-      made = λ w work rep. tt;
-      ring = λ g w a b k all. subst (λ (x : Told). ShowsRing s.file.layout s.file.cluster (now x.log) s.headers) (sym (same_Some _ _ all)) k.ring;
-    }
+    refused_as = answered_still s given command (ToWriteBlock (Err e)) live refused_next (λ w rep. tt)
 
     refused_call : (old : Option Told) → IsSupplied s old command given → IsCall given command s s old old (Some (ToWriteBlock (Err e)))
     refused_call old supplied = answered_call given command s [] input refused_does refused_puts s (ToWriteBlock (Err e)) refused_as old old supplied refl

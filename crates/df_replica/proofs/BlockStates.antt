@@ -27,21 +27,7 @@ blocks_memory s live = ap (λ (r : Option Course). record (memory s) { blocks = 
 
 course_live : (file : DataFile) (f : SuperFields) (head : ℕ) (b : Blocks) (live : List (ℕ × ℕ)) (r : Option RunningState) → IsCourse file f head b r → IsCourse file f head (lives b live) r
 course_live file f head b live None idle = record { captured = idle.captured; written = idle.written; left = idle.left }
-course_live file f head b live (Some r) is = record {
-  op_from = is.op_from;
-  op_to = is.op_to;
-  parent = is.parent;
-  first = is.first;
-  root = is.root;
-  sessions = is.sessions;
-  sequence = is.sequence;
-  size = is.size;
-  fits = is.fits;
-  count = is.count;
-  few = is.few;
-  all = is.all;
-  written = is.written;
-}
+course_live file f head b live (Some r) is = record { begun = is.begun; contents = is.contents; trailer = is.trailer; progress = record { all = is.all; written = is.written } }
 
 pub live_state : (s : State) (live : List (ℕ × ℕ)) → IsState s → IsState (with_blocks s (lives s.blocks live))
 live_state s live is = with_course s (lives s.blocks live) s.running is (course_live s.file s.fields s.head s.blocks live s.running is.course) is.captured

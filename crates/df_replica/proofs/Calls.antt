@@ -1,5 +1,5 @@
 -- Every call: whose device calls are the machine's has good moments, and where it answered what is kept goes on.
-use Rattle.std.proofs.Common.{◌≡◌, inl, inr, true, false, List, [], ◌∷◌, Option, Some, None, refl, sym, subst}
+use Rattle.std.proofs.Common.{◌≡◌, inl, inr, true, false, List, [], ◌∷◌, Option, Some, None, refl, sym, ap, subst}
 use Rattle.std.proofs.lemmas.Option.{same_Some}
 use Rattle.df_base.specs.Log.{Event, IsLog, Log, now}
 use Rattle.df_base.specs.Moments.{EachMoment, Extends, adds}
@@ -56,6 +56,18 @@ pub record Answered (given : Given) (command : Command) (s t : State) (events : 
       → (answer ≡ (next s.file w given command).1) × Represents t (next s.file w given command).0
   pub made : (w : Work) → IsWork (shape s.file) (spelling s.file) w → Represents s w → OfMade (shape s.file) (spelling s.file) (StandsIn (format s.file) events) w given command
   pub ring : (g : Grade) (w : Work) (a b : Told) → IsKept g s w a.log → Some b ≡ after_all events (Some a) → ShowsRing s.file.layout s.file.cluster (now b.log) t.headers
+
+-- a call that does nothing answers so, where the machine's state and its answer are these
+pub answered_still :
+    (s : State) (given : Given) (command : Command) (answer : Answer) → s.live ≡ true → ((w : Work) → Represents s w → next s.file w given command ≡ (w, answer))
+    → ((w : Work) → Represents s w → OfMade (shape s.file) (spelling s.file) (StandsIn (format s.file) []) w given command) → Answered given command s s [] answer
+answered_still s given command answer live same made = record {
+  file = refl;
+  live = live;
+  stands = λ w work rep. (ap (λ (x : Work × Answer). x.1) (sym (same w rep)), subst (λ (x : Work × Answer). Represents s x.0) (sym (same w rep)) rep);
+  made = λ w work rep. made w rep;
+  ring = λ g w a b k all. subst (λ (x : Told). ShowsRing s.file.layout s.file.cluster (now x.log) s.headers) (sym (same_Some _ _ all)) k.ring;
+}
 
 module _ (given : Given) (command : Command) (s : State) (events : List Event) (input : IsInput given command) (does : AreCalls given command s events) where
   module _ (g : Grade) (w : Work) (t : Told) (k : IsKept g s w t.log) where

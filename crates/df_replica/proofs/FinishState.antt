@@ -1,26 +1,36 @@
 -- What the superblock says that ends a checkpoint obeys the rules, and the state behind it makes sense.
-use Rattle.std.proofs.Common.{◌≡◌, ℕ, ◌+◌, ◌*◌, ◌/◌, ◌≤◌, List, [], ◌∷◌, Some, None, refl, sym, ap, subst, arith}
+use Rattle.std.proofs.Common.{◌≡◌, ℕ, ◌+◌, ◌*◌, ◌/◌, ◌≤◌, List, [], ◌∷◌, Some, None, refl, sym, ◌∙◌, ap, subst, arith}
 use Rattle.std.proofs.lemmas.Option.{same_Some}
 use Rattle.df_base.specs.Fields.{spelled}
 use Rattle.df_format.proofs.Laws.{faults}
+use Rattle.df_format.specs.Spelling.{IsCheck}
 use Rattle.df_format.specs.SuperRules.{IsSuper, IsUsable, fault_of}
 use Rattle.df_format.specs.declared.superblock.SuperFields.{SuperFields}
 use Rattle.df_sessions.specs.Table.{IsTable}
 use Rattle.df_theory.specs.Trailer.{greatest_trailer}
-use Rattle.df_units.specs.Meaning.{layout_of}
+use Rattle.df_model.specs.Blocks.{Blocks}
+use Rattle.df_units.specs.Meaning.{layout_of, number_of}
+use Rattle.df_units.proofs.Laws.{whole_check}
 use Rattle.df_grid.specs.Table.{last_of}
 use Rattle.df_grid.specs.Writes.{first_address, first_sum}
 use Rattle.df_opening.specs.Below.{IsLevel, IsRunning, IsState, MayRecord, RunningState, State}
-use Rattle.df_opening.proofs.Laws.{recorded_is_super, second_super}
+use Rattle.df_opening.proofs.Laws.{recorded_is_super, second_as}
 use Rattle.df_replica.specs.Stepping.{captured_fields, finished, next_fields}
 
 -- the last trailer block is the first of those that are listed
-pub first_pair : (written : List (ℕ × ℕ)) (left : List ℕ) (address sum : ℕ) → left ≡ [] → Some (address, sum) ≡ last_of left written → (first_address written ≡ address) × (first_sum written ≡ sum)
+first_pair : (written : List (ℕ × ℕ)) (left : List ℕ) (address sum : ℕ) → left ≡ [] → Some (address, sum) ≡ last_of left written → (first_address written ≡ address) × (first_sum written ≡ sum)
 first_pair written (a ∷ more) address sum done is = absurd (cc)
 first_pair [] [] address sum done is = absurd (cc)
 first_pair (x ∷ xs) [] address sum done is =
     let same : (address, sum) ≡ x = same_Some _ _ is in
     (ap (λ (y : ℕ × ℕ). y.0) (sym same), ap (λ (y : ℕ × ℕ). y.1) (sym same))
+
+-- by its own checksum
+pub last_is : (b : Blocks) (address : ℕ) (checksum : List ℕ) → b.left ≡ [] → Some (address, number_of checksum) ≡ last_of b.left b.written → IsCheck checksum
+    → (first_address b.written ≡ address) × (first_sum b.written ≡ number_of checksum) × (checksum ≡ spelled 16 (first_sum b.written))
+last_is b address checksum done is whole =
+    let pair = first_pair b.written b.left address (number_of checksum) done is in
+    (pair.0, pair.1, sym (whole_check checksum whole) ∙ ap (spelled 16) (sym pair.1))
 
 -- ---- what the superblock says
 
@@ -59,32 +69,17 @@ module _ (s : State) (r : RunningState) (is : IsState s) (table : IsTable s.tabl
 
 pub finished_sense : (s : State) (r : RunningState) → IsState s → IsRunning s.file s.fields s.head s.blocks r → IsLevel s.head s.head_checksum (Some r) → IsUsable (next_fields s r) → IsState (finished s r)
 finished_sense s r is runs level usable = record {
-  cluster = is.cluster;
-  parent = is.parent;
-  version = is.version;
-  second = second_super s.file (next_fields s r) is.second.rules.version usable (record {
-    slots = is.second.of.slots;
-    message_size = is.second.of.message_size;
-    clients = is.second.of.clients;
-    block_size = is.second.of.block_size;
-    blocks = is.second.of.blocks;
-    cluster_is = is.second.of.cluster_is;
-  });
+  in_file = record {
+    cluster = is.cluster;
+    version = is.version;
+    second = second_as s.file s.fields (next_fields s r) is.second refl is.second.rules.version usable;
+    sequence = (omega (arith, runs.sequence.0), runs.sequence.1);
+    root = runs.root;
+    ring = is.ring;
+  };
   booted = is.booted;
-  sequence = (omega (arith, runs.sequence.0), runs.sequence.1);
-  root = runs.root;
-  order = runs.op_to;
-  room = omega (arith, is.room, runs.op_from);
-  head_to = is.head_to;
-  waiting = is.waiting;
-  few = is.few;
-  places = is.places;
-  first = is.first;
-  level = level;
+  ends = record { parent = is.parent; order = runs.op_to; room = omega (arith, is.room, runs.op_from); head_to = is.head_to; first = is.first; level = level };
+  awaits = is.awaits;
   captured = tt;
-  requests = is.requests;
-  asked = is.asked;
-  tracks = is.tracks;
-  ring = is.ring;
   course = record { captured = refl; written = refl; left = refl };
 }

@@ -15,8 +15,8 @@ use Rattle.df_theory.specs.CopyPuts.{PutsCopies, update_steps}
 use Rattle.df_theory.specs.Runs.{Step, Syncs}
 use Rattle.df_theory.specs.Units as theory
 use Rattle.df_theory.specs.Units.{BlockPlace, CopyPlace, CopyUnit, PreparePlace, ReplyPlace, or_else}
-use Rattle.df_theory.specs.View.{PassesTests, sequence}
-use Rattle.df_units.specs.Meaning.{answered_of, content_of, number_of, reply_checksums_of, rest_of}
+use Rattle.df_theory.specs.View.{sequence}
+use Rattle.df_units.specs.Meaning.{content_of, number_of}
 use Rattle.df_units.specs.Puts.{put_copies}
 use Rattle.df_grid.specs.Writes.{first_address, first_sum}
 use Rattle.df_model.specs.After.{checkpoint_of}

@@ -273,31 +273,25 @@ module _ (given : Given) (command : Command) (s : State) (events : List Event) (
       let none = subst (λ (x : Memory). puts_of x (supplied_sum given) command (BlockPlace a) ≡ None) (sym k.1) (held_unput s.file w k.0 a held (supplied_sum given) command other) in
       unwritten layout cluster events makes.steps makes.are (BlockPlace a) (makes.block a None ∙ ap (λ (p : Option AnyUnit). or_else p None) none) sector here
 
+  -- no command but a step ends a checkpoint
+  ends_by : (P : Command → Type 0) (w : Work) (a : ℕ) → (EndsWith Advance w a → P Advance) → (c : Command) → EndsWith c w a → P c
+  ends_by P w a step Advance ends = step ends
+  ends_by P w a step (Append client request body) never = absurd never
+  ends_by P w a step (Reply op body) never = absurd never
+  ends_by P w a step (WriteBlock kind body) never = absurd never
+  ends_by P w a step (Release address) never = absurd never
+  ends_by P w a step (Begin root) never = absurd never
+  ends_by P w a step (ReadPrepare op) never = absurd never
+  ends_by P w a step (ReadReply client) never = absurd never
+  ends_by P w a step (ReadBlock address) never = absurd never
+  ends_by P w a step Scrub never = absurd never
+  ends_by P w a step Recent never = absurd never
+
   ends_last : (w : Work) (a : ℕ) (c : Command) → EndsWith c w a → IsLast c (memory_of (shape s.file) (spelling s.file) w)
-  ends_last w a Advance (r, running, left, taken) = subst (λ (o : Option Running). IsWhole (course_of (spelling s.file) o)) (sym running) left
-  ends_last w a (Append client request body) never = absurd never
-  ends_last w a (Reply op body) never = absurd never
-  ends_last w a (WriteBlock kind body) never = absurd never
-  ends_last w a (Release address) never = absurd never
-  ends_last w a (Begin root) never = absurd never
-  ends_last w a (ReadPrepare op) never = absurd never
-  ends_last w a (ReadReply client) never = absurd never
-  ends_last w a (ReadBlock address) never = absurd never
-  ends_last w a Scrub never = absurd never
-  ends_last w a Recent never = absurd never
+  ends_last w a = ends_by (λ c. IsLast c (memory_of (shape s.file) (spelling s.file) w)) w a (λ ends. subst (λ (o : Option Running). IsWhole (course_of (spelling s.file) o)) (sym ends.1) ends.2)
 
   ends_held : (w : Work) (a : ℕ) (c : Command) → EndsWith c w a → (is_held w a ≡ true) × (WritesNext c w a → ⊥)
-  ends_held w a Advance (r, running, left, taken) = (taken_held w r a running taken, last_aside w a r running left Advance)
-  ends_held w a (Append client request body) never = absurd never
-  ends_held w a (Reply op body) never = absurd never
-  ends_held w a (WriteBlock kind body) never = absurd never
-  ends_held w a (Release address) never = absurd never
-  ends_held w a (Begin root) never = absurd never
-  ends_held w a (ReadPrepare op) never = absurd never
-  ends_held w a (ReadReply client) never = absurd never
-  ends_held w a (ReadBlock address) never = absurd never
-  ends_held w a Scrub never = absurd never
-  ends_held w a Recent never = absurd never
+  ends_held w a = ends_by (λ c. (is_held w a ≡ true) × (WritesNext c w a → ⊥)) w a (λ ends. (taken_held w ends.0 a ends.1 ends.3, last_aside w a ends.0 ends.1 ends.2 Advance))
 
   firm_then : (w : Work) (log : Log) (k : Keeps Firm s w None) → AreSettled s.file log w → (a sector : ℕ) → has layout (BlockPlace a) sector ≡ true → WasDurable s.file w a command → loose (adds events log) sector ≡ false
   firm_then w log k settled a sector here (inl was) =

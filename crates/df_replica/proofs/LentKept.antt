@@ -13,7 +13,6 @@ use Rattle.df_theory.specs.View.{View}
 use Rattle.df_theory.proofs.Laws.{pool_pools}
 use Rattle.df_replica.specs.Lending.{KeptIsWritten, OpenedIsWrittenFor}
 use Rattle.df_replica.specs.Serving.{format}
-use Rattle.df_replica.specs.WrittenFor.{IsWrittenFor}
 
 pub kept_is_written : KeptIsWritten
 kept_is_written g s w log is =

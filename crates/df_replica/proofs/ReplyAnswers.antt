@@ -44,7 +44,7 @@ use Rattle.df_replica.specs.Answering.{Serves, answer_of, as_reply}
 use Rattle.df_replica.specs.Replying.{first_check, next_reply, replied, reply_events, reply_given}
 use Rattle.df_replica.specs.Serving.{Grade, IsCall, IsKept, format, next}
 use Rattle.df_replica.specs.Supply.{IsSupplied}
-use Rattle.df_replica.proofs.Calls.{AreCalls, Answered, answered_call, stopped_call}
+use Rattle.df_replica.proofs.Calls.{AreCalls, Answered, answered_call, answered_still, stopped_call}
 use Rattle.df_replica.proofs.Leaves.{Makes, makes_nothing}
 use Rattle.df_replica.proofs.Makes.{OfMade, Unless}
 use Rattle.df_replica.proofs.WritesOn.{StandsIn, steps_stand}
@@ -99,13 +99,7 @@ module _ (s : State) (op : ℕ) (body : List ℕ) (given : Given) (is : IsState 
         subst (λ (o : Option ReplyError). Unless o (StandsIn (format s.file) [] (ReplyPlace (place_of_reply m)) (ReplyUnit (reply_of m (supplied_sum given) body)))) (sym (test_is w rep (Some e) some)) tt
 
     refused_as : Answered given command s s [] (ToReply (Err e))
-    refused_as = record {
-      file = refl;
-      live = live;
-      stands = λ w work rep. (ap (λ (x : Work × Answer). x.1) (sym (refused_next w rep)), subst (λ (x : Work × Answer). Represents s x.0) (sym (refused_next w rep)) rep);
-      made = λ w work rep. refused_makes w rep;
-      ring = λ g w a b k all. subst (λ (x : Told). ShowsRing s.file.layout s.file.cluster (now x.log) s.headers) (sym (same_Some _ _ all)) k.ring;
-    }
+    refused_as = answered_still s given command (ToReply (Err e)) live refused_next refused_makes
 
     refused_call : (old : Option Told) → IsSupplied s old command given → IsCall given command s s old old (Some (ToReply (Err e)))
     refused_call old supplied = answered_call given command s [] input refused_does refused_puts s (ToReply (Err e)) refused_as old old supplied refl

@@ -14,7 +14,7 @@ use Rattle.df_theory.specs.Runs.{Step}
 use Rattle.df_theory.specs.Units as theory
 use Rattle.df_model.specs.After.{after_running, after_step_of}
 use Rattle.df_model.specs.Codec.{AreChecksums, IsChecksum}
-use Rattle.df_model.specs.Commands.{Advance, Answer, ForAdvance, Given, IsInput, ToAdvance, as_answer, supplied_sum, supplied_sums}
+use Rattle.df_model.specs.Commands.{Advance, ForAdvance, Given, IsInput, ToAdvance, as_answer, supplied_sum, supplied_sums}
 use Rattle.df_model.specs.Laws.{DoesAdvance, DoesAdvanceTo}
 use Rattle.df_model.specs.Memory.{Course, Memory, course as course_from, course_of as courses, memory_of}
 use Rattle.df_model.specs.Sense.{IsWork}
@@ -27,7 +27,7 @@ use Rattle.df_opening.specs.Below.{DataFile, RunningState, Represents, State, co
 use Rattle.df_replica.specs.Serving.{Grade, IsCall, IsKept, format, next}
 use Rattle.df_replica.specs.Stepping.{made_by, made_for, next_fields, pending, trailer_unit}
 use Rattle.df_replica.specs.Supply.{IsSupplied}
-use Rattle.df_replica.proofs.Calls.{AreCalls, Answered, answered_call, stopped_call}
+use Rattle.df_replica.proofs.Calls.{AreCalls, Answered, answered_call, answered_still, stopped_call}
 use Rattle.df_replica.proofs.Leaves.{IsWhole, Makes, makes_nothing}
 use Rattle.df_replica.proofs.Makes.{OfLeft, OfStep}
 use Rattle.df_replica.proofs.WritesOn.{StandsIn}
@@ -75,13 +75,8 @@ module _ (s : State) (given : Given) (live : s.live ≡ true) (idle : s.running 
       makes_nothing given Advance s (λ place. ap (λ (o : Option Course). step_puts (memory s) o (supplied_sum given) place) none) (λ is. subst IsWhole none is)
 
   idle_as : Answered given Advance s s [] (ToAdvance (Err step.NotRunning))
-  idle_as = record {
-    file = refl;
-    live = live;
-    stands = λ w work rep. (ap (λ (x : Work × Answer). x.1) (sym (idle_next w rep)), subst (λ (x : Work × Answer). Represents s x.0) (sym (idle_next w rep)) rep);
-    made = λ w work rep. subst (λ (o : Option Running). OfStep (shape s.file) (spelling s.file) (StandsIn (format s.file) []) w (supplied_sum given) o) (sym (idle_work w rep)) tt;
-    ring = λ g w a b k all. subst (λ (x : Told). ShowsRing s.file.layout s.file.cluster (now x.log) s.headers) (sym (same_Some _ _ all)) k.ring;
-  }
+  idle_as = answered_still s given Advance (ToAdvance (Err step.NotRunning)) live idle_next
+      (λ w rep. subst (λ (o : Option Running). OfStep (shape s.file) (spelling s.file) (StandsIn (format s.file) []) w (supplied_sum given) o) (sym (idle_work w rep)) tt)
 
   pub idle_call : (old : Option Told) → IsSupplied s old Advance given → IsCall given Advance s s old old (Some (ToAdvance (Err step.NotRunning)))
   idle_call old supplied = answered_call given Advance s [] (step_input s given sum) idle_does idle_puts s (ToAdvance (Err step.NotRunning)) idle_as old old supplied refl

@@ -31,19 +31,10 @@ running_on file f head b r sum is some = go b.left refl
     go : (l : List ℕ) → b.left ≡ l → IsRunning file f head (written_of b sum l) (record r { written = r.written + 1 })
     go [] none = absurd (some none)
     go (a ∷ more) left = record {
-      op_from = is.op_from;
-      op_to = is.op_to;
-      parent = is.parent;
-      first = is.first;
-      root = is.root;
-      sessions = is.sessions;
-      sequence = is.sequence;
-      size = is.size;
-      fits = is.fits;
-      count = is.count;
-      few = is.few;
-      all = omega (arith, is.all, ap length left);
-      written = omega (arith, is.written);
+      begun = is.begun;
+      contents = is.contents;
+      trailer = is.trailer;
+      progress = record { all = omega (arith, is.all, ap length left); written = omega (arith, is.written) };
     }
 
 pub some_left : (b : Blocks) → (b.left ≡ [] → ⊥) → 0 < length b.left

@@ -60,12 +60,12 @@ pub record IsMadeUnit (layout : Layout) (place : Place) (u : Message) (result : 
 abbrev pub header_given : State → (client request : ℕ) → Header
 header_given s client request = record (blank_header AsPrepare s.file.cluster) {
   parent = s.head_checksum;
+  slot = (s.head + 1) % s.file.layout.slots;
   client = client;
   op = s.head + 1;
   request = request;
   mark = s.replies;
   checkpoint = s.fields.sequence;
-  slot = (s.head + 1) % s.file.layout.slots;
   version = 2;
   boot = s.fields.boot;
   group = s.head + 1;

@@ -30,6 +30,12 @@ abbrev pub block_words : {A E : Type 0} → (A → Message) → Result A E → R
 block_words unit (Ok x) = Ok (block_of (unit x))
 block_words unit (Err e) = Err e
 
+-- what was found, if it came to that
+abbrev pub what_block : Result Units.Block ReadError → Option (Result Units.Block Class)
+what_block (Ok b) = Some (Ok b)
+what_block (Err (read.Damaged place class)) = Some (Err class)
+what_block (Err e) = None
+
 -- what a read of a block answers: the first refusal, or what its address shows, or that the disk failed
 abbrev pub IsReadBlock : (address : ℕ) → State → Option Told → Result Units.Block ReadError → Type 0
 IsReadBlock address s told (Ok b) = (first_refusal (read_refusals (memory s) address) ≡ None) × IsBlockFound s address told (Ok b)
@@ -37,9 +43,3 @@ IsReadBlock address s told (Err (read.Damaged place class)) =
     (first_refusal (read_refusals (memory s) address) ≡ None) × (place ≡ place_in Grid address) × IsBlockFound s address told (Err class)
 IsReadBlock address s told (Err read.DiskFault) = first_refusal (read_refusals (memory s) address) ≡ None
 IsReadBlock address s told (Err e) = first_refusal (read_refusals (memory s) address) ≡ Some e
-
--- what was found, if it came to that
-abbrev pub what_block : Result Units.Block ReadError → Option (Result Units.Block Class)
-what_block (Ok b) = Some (Ok b)
-what_block (Err (read.Damaged place class)) = Some (Err class)
-what_block (Err e) = None

@@ -42,6 +42,12 @@ HoldsKnown kind file place known None (Some h) = IsKnownUnit kind file place kno
 HoldsKnown kind file place known None None = ⊥
 HoldsKnown kind file place known (Some class) held = Unit {0}
 
+-- what was found, if it came to that
+abbrev pub reply_found : Result Units.Message LookupError → Option (Result Units.Message Class)
+reply_found (Ok message) = Some (Ok message)
+reply_found (Err (lookup.Damaged place class)) = Some (Err class)
+reply_found (Err e) = None
+
 -- what a read of a client's reply answers: the first refusal, or what the session's place shows, or that the disk failed
 abbrev pub IsReadReply : (client : ℕ) → State → Option Told → Result Units.Message LookupError → Type 0
 IsReadReply client s told (Ok message) = (first_refusal (lookup_refusals (memory s) client) ≡ None) × IsFoundBy s (ReadReply client) told (Ok message)
@@ -49,11 +55,6 @@ IsReadReply client s told (Err (lookup.Damaged place class)) =
     (first_refusal (lookup_refusals (memory s) client) ≡ None) × (place ≡ place_in ClientReplies (place_for s client)) × IsFoundBy s (ReadReply client) told (Err class)
 IsReadReply client s told (Err lookup.DiskFault) = first_refusal (lookup_refusals (memory s) client) ≡ None
 IsReadReply client s told (Err e) = first_refusal (lookup_refusals (memory s) client) ≡ Some e
-
-abbrev pub reply_found : Result Units.Message LookupError → Option (Result Units.Message Class)
-reply_found (Ok message) = Some (Ok message)
-reply_found (Err (lookup.Damaged place class)) = Some (Err class)
-reply_found (Err e) = None
 
 -- the place of a client's session whose reply is stored, and what is known of that reply
 pub record IsStoredFor (s : State) (client : ℕ) (stored : Stored) : Type 0 where

@@ -55,14 +55,7 @@ advanced s r = record s { blocks = next_written s.blocks (block_sum s r); runnin
 
 -- a superblock with what a checkpoint captured, where its trailer ends with this block
 abbrev pub captured_fields : SuperFields → RunningState → (address : ℕ) → List ℕ → SuperFields
-captured_fields f r address checksum = record f {
-  sequence = r.sequence;
-  op = r.op;
-  op_checksum = r.op_checksum;
-  trailer_address = address;
-  trailer_checksum = checksum;
-  trailer_size = r.size;
-}
+captured_fields f r address checksum = record f { sequence = r.sequence; op = r.op; op_checksum = r.op_checksum; trailer_address = address; trailer_checksum = checksum; trailer_size = r.size }
 
 -- what the one that ends it says: the checkpoint reaches the op that was captured, and the state is that of the moment
 abbrev pub next_fields : State → RunningState → SuperFields

@@ -2,7 +2,7 @@
 ghost use Rattle.std.specs.Prelude.{◌≡◌, IfOk, IfErr, Some, slice_get};
 ghost use Rattle.df_theory.specs.Found.{IsFound};
 ghost use Rattle.df_units.specs.Bytes.{unit_at};
-ghost use Rattle.df_replica.specs.Below.{AreDistinct, AreSteps, IsBlamed, IsImage, Represents, Syncs, TellsHurt, Told, View, begun, boot_fields, is_mend_fault, is_open_fault, shape, without_rooms};
+ghost use Rattle.df_replica.specs.Below.{AreDistinct, AreSteps, IsBlamed, IsImage, Represents, Syncs, TellsHurt, TellsLived, Told, View, begun, boot_fields, is_mend_fault, is_open_fault, shape, without_rooms};
 ghost use Rattle.df_replica.specs.Replica.{summary_of};
 ghost use Rattle.df_opening.specs.Mending.{AddsRaising, IsPlanned, IsReadBack, IsUnharmed, RestsOnDisk, first_state, raised_state};
 ghost use Rattle.df_opening.specs.Raising.{IsPlannedOf, RaisesAnew, RaisesOver, opening_events, opening_steps};
@@ -111,12 +111,14 @@ impl Surveyed {
 /// open why it isn't opened, and the rooms. It syncs once, then reads each copy of the superblock once, each block of the
 /// trailer that it names twice, and each sector of the header ring, each slot of the ring of prepares and each reply slot
 /// once, and writes nothing. Where sectors of the file were damaged, lost or swapped before, it finds a state that the file had,
-/// or refuses it because of a sector that is hurt.
+/// or refuses it because of a sector that is hurt; and where they were before other opens, too, one that it had since the last of
+/// these that raised its boot.
 pub fn survey<D: Disk>(disk: &mut D, rooms: Rooms) -> Result<Surveyed, (Rooms, OpenError)>
     ensures kept { IfOk result (λ survey. survey.state.file.layout ≡ rooms.layout) }
     ensures given_back { IfErr result (λ refused. refused.0.layout ≡ rooms.layout) }
     ensures answer { TellsSurvey rooms.layout (D.told disk.old) (state_of result) }
     ensures hurt { TellsHurt rooms.layout (D.told disk.old) (state_of result) }
+    ensures lived { TellsLived rooms.layout (D.told disk.old) (state_of result) }
     ensures mends { IfOk result (TellsMends rooms.layout (D.told disk.old)) }
     ensures barrier { Syncs (D.told disk.old) (D.told disk.new) (state_of result) }
     ensures planned { (t : Told) → D.told disk.new ≡ Some t → IfOk result (λ survey. IsPlanned survey.state.file survey.state.headers survey.mends survey.state.fields survey.chosen.members t) }

@@ -1,5 +1,5 @@
 -- The superblock that an open writes has the codec's checksum, so that the state behind it is a function of what was shown.
-use Rattle.std.proofs.Common.{◌≡◌, ◌∙◌, inr, ℕ, Option, Some, ap, arith, refl, subst, sym}
+use Rattle.std.proofs.Common.{◌≡◌, ◌∙◌, inr, Some, ap, arith, refl, subst, sym}
 use Rattle.df_base.specs.Image.{Image, IsImage}
 use Rattle.df_disk.specs.Told.{Told}
 use Rattle.df_format.specs.Copies.{content_with}
@@ -14,7 +14,7 @@ use Rattle.df_model.specs.Supply.{boot_sum}
 use Rattle.df_model.specs.Work.{Work, opened, raised}
 use Rattle.df_replica.specs.Below.{DataFile, IsOpened, State, boot_fields, memory, shape, spelling}
 use Rattle.df_replica.specs.Leaving.{image_after}
-use Rattle.df_replica.specs.Opened.{MendsAll, begun_state, raised_state}
+use Rattle.df_replica.specs.Opened.{begun_state}
 use Rattle.df_replica.proofs.Laws.{found_keeps, raised_is, sum_of}
 use Rattle.df_result.specs.Begun.{BegunIsWork, begun_work}
 use Rattle.df_result.specs.Codec.{IsOfFile, codec}

@@ -4,6 +4,7 @@ use Rattle.std.specs.Prelude.{◌≡◌, ◌⊎◌, ◌%◌, ◌==◌, ℕ, if�
 use Rattle.df_base.specs.Fields.{spelled}
 use Rattle.df_base.specs.Image.{Image, IsImage}
 use Rattle.df_format.specs.declared.header.Header.{Header}
+use Rattle.df_format.specs.declared.kind.Kind.{Kind}
 use Rattle.df_format.specs.declared.kind.Kind.TheVariants.{Prepare, Reply, Block, Trailer}
 use Rattle.df_format.specs.declared.superblock.SuperFields.{SuperFields}
 use Rattle.df_format.specs.Copies.{content_with}
@@ -24,35 +25,27 @@ use Rattle.df_replica.specs.Below.{DataFile, spelling, version_in}
 abbrev pub group_in : (boot op : ℕ) → ℕ
 group_in boot op = if boot == 0 then 0 else op
 
--- the header of a prepare, in the slot of its op, of version 1 where no boot made it and else of version 2; what follows from the body, and the checksum, come as it is sealed
-abbrev pub prepare_header : DataFile → Units.Header → Header
-prepare_header file h = record (blank_header Prepare file.cluster) {
+-- the header of a message of this kind in this slot, of version 1 where no boot made it and else of version 2; what follows from the body, and the checksum, come as it is sealed
+abbrev pub message_header : Kind → DataFile → (slot : ℕ) → Units.Header → Header
+message_header kind file slot h = record (blank_header kind file.cluster) {
   parent = spelled 16 h.parent;
+  slot = slot;
   client = h.client;
   op = h.op;
   request = h.request;
   mark = h.mark;
   checkpoint = h.checkpoint;
-  slot = h.op % file.layout.slots;
   version = version_in h.boot;
   boot = h.boot;
-  group = group_in h.boot h.group;
-  group_last = group_in h.boot h.group_last;
 }
+
+-- of a prepare, in the slot of its op, with its group
+abbrev pub prepare_header : DataFile → Units.Header → Header
+prepare_header file h = record (message_header Prepare file (h.op % file.layout.slots) h) { group = group_in h.boot h.group; group_last = group_in h.boot h.group_last }
 
 -- of a reply, at a session's place
 abbrev pub reply_header : DataFile → (place : ℕ) → Units.Header → Header
-reply_header file place h = record (blank_header Reply file.cluster) {
-  parent = spelled 16 h.parent;
-  client = h.client;
-  op = h.op;
-  request = h.request;
-  mark = h.mark;
-  checkpoint = h.checkpoint;
-  slot = place;
-  version = version_in h.boot;
-  boot = h.boot;
-}
+reply_header file place h = message_header Reply file place h
 
 -- of a trailer's block, at an address
 abbrev pub trailer_header : DataFile → (address : ℕ) → Units.Block → Header

@@ -8,7 +8,7 @@ use Rattle.df_model.specs.Blocks.{Blocks}
 use Rattle.df_rooms.specs.declared.file.DataFile.{DataFile}
 use Rattle.df_rooms.specs.State.{AreAsked, IsBooted, IsCourse, IsLevel, RunningState, State}
 pub use Rattle.df_rooms.proofs.SameFile.{same_file}
-pub use Rattle.df_rooms.proofs.Records.{boot_may_record, recorded_content, recorded_is_super}
+pub use Rattle.df_rooms.proofs.Records.{boot_may_record, numbers_as, recorded_content, recorded_is_super, second_as, second_super}
 
 -- a request that is noted is the last one of its client
 pub asked_noted : (h : Units.Header) (ss : List Units.Session) → AreAsked ss → 0 < h.request → AreAsked (noted h ss)
@@ -21,19 +21,10 @@ asked_noted h ss asked some k t at = elim (noted_get h ss k t at) [
 pub course_on : (file : DataFile) (f : SuperFields) (head later : ℕ) (b : Blocks) (r : Option RunningState) → head ≤ later → IsCourse file f head b r → IsCourse file f later b r
 course_on file f head later b None more idle = idle
 course_on file f head later b (Some r) more is = record {
-  op_from = is.op_from;
-  op_to = omega (arith, is.op_to);
-  parent = is.parent;
-  first = is.first;
-  root = is.root;
-  sessions = is.sessions;
-  sequence = is.sequence;
-  size = is.size;
-  fits = is.fits;
-  count = is.count;
-  few = is.few;
-  all = is.all;
-  written = is.written;
+  begun = record { op_from = is.op_from; op_to = omega (arith, is.op_to); sequence = is.sequence };
+  contents = is.contents;
+  trailer = is.trailer;
+  progress = is.progress;
 }
 
 -- which captured none of what it grew by

@@ -1,5 +1,5 @@
 -- What is recorded of a state is what the machine records of it, and can be used.
-use Rattle.std.proofs.Common.{◌≡◌, inr, ℕ, ◌≤◌, ◌<◌, ◌+◌, ◌^◌, List, [], ◌∷◌, ◌++◌, length, map, drop, get_or, length-drop, Option, Some, None, refl, sym, ◌∙◌, ap, arith}
+use Rattle.std.proofs.Common.{◌≡◌, inl, inr, ℕ, ◌≤◌, ◌<◌, ◌+◌, ◌^◌, List, [], ◌∷◌, ◌++◌, length, map, drop, length-drop, Option, Some, None, refl, sym, ◌∙◌, ap, arith}
 use Rattle.std.specs.Prelude.{slice_get}
 use Rattle.std.specs.List.{range_with_len}
 use Rattle.std.specs.Option.{option_map}
@@ -7,20 +7,20 @@ use Rattle.std.proofs.lemmas.List.{get_or-drop}
 use Rattle.std.proofs.lemmas.List.FromFn.{get_or-map-range_with_len, length-map-range_with_len}
 use Rattle.std.proofs.lemmas.Option.{slice_get-map, slice_get_past}
 use Rattle.df_format.specs.Copies.{content_with}
-use Rattle.df_format.specs.Spelling.{no_checksum}
 use Rattle.df_format.specs.Super.{AreNone}
-use Rattle.df_format.specs.SuperRules.{IsSuper}
+use Rattle.df_format.specs.SuperRules.{IsSuper, IsUsable}
 use Rattle.df_format.specs.declared.superblock.SuperFields.{SuperFields}
 use Rattle.df_sessions.specs.declared.session.Session.{Session}
 use Rattle.df_sessions.specs.Table.{IsTable}
-use Rattle.df_theory.specs.Units.{Content}
 use Rattle.df_model.specs.Memory.{joined}
 use Rattle.df_model.specs.Making as making
 use Rattle.df_model.specs.Making.{named_places, named_sums, sum_or_zero}
 use Rattle.df_checkpoint.specs.Below.{content_of, number_of}
-use Rattle.df_units.specs.Meaning.{offset_list, reply_checksums_of, rest_of}
+use Rattle.df_units.specs.Meaning.{offset_list, or_nothing, reply_checksums_of, rest_of}
+use Rattle.df_units.specs.Superblocks.{AreFieldsOf}
 use Rattle.df_units.proofs.Laws.{by_second, no_number}
-use Rattle.df_rooms.specs.State.{IsState, State, memory, reply_sum, stored_sum}
+use Rattle.df_rooms.specs.State.{IsSecond, IsState, State, memory, reply_sum, stored_sum}
+use Rattle.df_rooms.specs.declared.file.DataFile.{DataFile}
 use Rattle.df_rooms.specs.Recorded.{MayRecord, check_or_zeros, recorded, stored_check, stored_checks}
 
 -- ---- in the words of the machine
@@ -64,7 +64,7 @@ recorded_content s f second = λ i. record (content_of (content_with f)) {
     names = by_second g (map number_of (stored_checks s.table.sessions)) [] second ∙ names_are s
 
     rest : rest_of g ≡ rest_of f
-    rest = ap (λ (l : List ℕ). l ++ offset_list f.first_nonzero) (by_second g [] (number_of s.head_checksum ∷ map number_of (stored_checks s.table.sessions)) second ∙ sym (by_second f [] (number_of f.head_checksum ∷ map number_of f.reply_checksums) second))
+    rest = ap (λ (l : List ℕ). l ++ offset_list f.first_nonzero) (by_second g [] (or_nothing (number_of s.head_checksum ∷ map number_of (stored_checks s.table.sessions))) second ∙ sym (by_second f [] (or_nothing (number_of f.head_checksum ∷ map number_of f.reply_checksums)) second))
 
 -- ---- it can be used
 
@@ -100,6 +100,33 @@ recorded_is_super s f is table may = record {
   trailer_size = may.trailer_size;
   zero = may.zero;
 }
+
+-- of version 2 it has a boot, and names what its file has
+pub second_super : (file : DataFile) (f : SuperFields) → f.version ≡ 2 → IsUsable f → AreFieldsOf file.layout file.cluster f → IsSecond file f
+second_super file f second is of = record {
+  rules = elim is.rules.version [ inl one ↦ absurd (omega (arith, second, one.version)) | inr two ↦ two ];
+  of = of;
+  names = is.fits.reply_checksums;
+  first_nonzero = is.rules.zero;
+}
+
+-- the numbers of a superblock that are its file's
+abbrev pub numbers_of : SuperFields → ℕ × ℕ × ℕ × ℕ × ℕ × ℕ
+numbers_of f = (f.slots, f.message_size, f.clients, f.block_size, f.blocks, f.cluster)
+
+-- another one with the same numbers is of the file, too
+pub numbers_as : (file : DataFile) (f g : SuperFields) → numbers_of g ≡ numbers_of f → AreFieldsOf file.layout file.cluster f → AreFieldsOf file.layout file.cluster g
+numbers_as file f g same of = record {
+  slots = (λ i. (same i).0) ∙ of.slots;
+  message_size = (λ i. (same i).1) ∙ of.message_size;
+  clients = (λ i. (same i).2) ∙ of.clients;
+  block_size = (λ i. (same i).3) ∙ of.block_size;
+  blocks = (λ i. (same i).4) ∙ of.blocks;
+  cluster_is = (λ i. (same i).5) ∙ of.cluster_is;
+}
+
+pub second_as : (file : DataFile) (f g : SuperFields) → IsSecond file f → numbers_of g ≡ numbers_of f → g.version ≡ 2 → IsUsable g → IsSecond file g
+second_as file f g is same second usable = second_super file g second usable (numbers_as file f g same is.of)
 
 -- the superblock of a state may be recorded anew, in the next boot
 pub boot_may_record : (s : State) → IsState s → IsSuper s.fields → s.fields.boot < 2 ^ 62 → MayRecord s (record s.fields { boot = s.fields.boot + 1 })

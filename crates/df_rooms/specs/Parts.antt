@@ -1,9 +1,11 @@
 -- What a replica keeps in memory, live or not: the state that it stands for, its numbers, and how its parts go together.
-use Rattle.std.specs.Prelude.{◌≡◌, ◌<◌, ◌^◌, false, None, length}
+use Rattle.std.specs.Prelude.{◌≡◌, ◌<◌, ◌^◌, ℕ, false, None, length}
+use Rattle.df_layout.specs.declared.layout.Layout.{Layout}
 use Rattle.df_model.specs.declared.answers.Summary.{Summary}
 use Rattle.df_scrub.specs.Scrubber.{new_scrub}
 use Rattle.df_rooms.specs.Courses.{running_of}
 use Rattle.df_rooms.specs.State.{IsState, State}
+use Rattle.df_rooms.specs.declared.file.DataFile.{DataFile}
 use Rattle.df_rooms.specs.declared.parts.Parts.{Parts}
 
 -- the state
@@ -15,8 +17,8 @@ state_in p = record {
   head = p.head;
   head_checksum = p.head_checksum;
   replies = p.replies;
-  table = p.sessions;
   waiting = p.waiting.items;
+  table = p.sessions;
   headers = p.rooms.headers;
   blocks = p.grid.blocks;
   running = running_of p.running;
@@ -26,14 +28,24 @@ state_in p = record {
   live = p.live;
 }
 
--- it makes sense, the grid is of the file's cluster, and all rooms are of the file's layout
+-- the rooms are of this layout
+pub record FitRooms (layout log trailer scrub : Layout) : Type 0 where
+  pub rooms_fit : log ≡ layout
+  pub trailer_fits : trailer ≡ layout
+  pub scrub_fits : scrub ≡ layout
+
+-- a grid of this layout and cluster is the file's
+pub record FitsGrid (file : DataFile) (layout : Layout) (cluster : ℕ) : Type 0 where
+  pub grid_fits : layout ≡ file.layout
+  pub grid_named : cluster ≡ file.cluster
+
+-- it makes sense, and the rooms and the grid are of the file
 pub record AreWhole (p : Parts) : Type 0 where
   pub state : IsState (state_in p)
-  pub rooms_fit : p.rooms.layout ≡ p.file.layout
-  pub grid_fits : p.grid.layout ≡ p.file.layout
-  pub grid_named : p.grid.cluster ≡ p.file.cluster
-  pub trailer_fits : p.trailer.layout ≡ p.file.layout
-  pub scrub_fits : p.scrub.layout ≡ p.file.layout
+  pub rooms : FitRooms p.file.layout p.rooms.layout p.trailer.layout p.scrub.layout
+  pub open rooms use *
+  pub grid : FitsGrid p.file p.grid.layout p.grid.cluster
+  pub open grid use *
 
 -- as a survey finds them: no call may be made yet, the boot can be raised and isn't, no checkpoint runs, the tour is at its start, and nothing was found
 pub record AreFound (p : Parts) : Type 0 where
@@ -46,13 +58,4 @@ pub record AreFound (p : Parts) : Type 0 where
 
 -- the numbers of a state, how many sessions there are, and how many blocks the durable checkpoint references
 abbrev pub summary_of : State → Summary
-summary_of s = record {
-  cluster = s.file.cluster;
-  layout = s.file.layout;
-  sequence = s.fields.sequence;
-  checkpoint_op = s.fields.op;
-  head = s.head;
-  replies = s.replies;
-  sessions = length s.table.sessions;
-  references = length s.blocks.durable;
-}
+summary_of s = record { cluster = s.file.cluster; layout = s.file.layout; sequence = s.fields.sequence; checkpoint_op = s.fields.op; head = s.head; replies = s.replies; sessions = length s.table.sessions; references = length s.blocks.durable }

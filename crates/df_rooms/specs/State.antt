@@ -135,21 +135,41 @@ grid_with file boot b = record { layout = file.layout; cluster = file.cluster; b
 abbrev pub AreAsked : List Units.Session → Type 0
 AreAsked ss = (k : ℕ) (s : Units.Session) → slice_get ss k ≡ Some s → 0 < s.request
 
+-- it was begun behind the superblock, of an op of the log, and ends with the next sequence
+pub record IsBegunFrom (op number head captured next : ℕ) : Type 0 where
+  pub op_from : op ≤ captured
+  pub op_to : captured ≤ head
+  pub sequence : (next ≡ number + 1) × (next ≤ 2 ^ 62)
+
+-- what it captured is an op's checksum, and a root and sessions for which a trailer has room
+pub record IsContents (clients op : ℕ) (checksum kept : List ℕ) (taken : List Session) : Type 0 where
+  pub parent : IsCheck checksum
+  pub first : op ≡ 0 → checksum ≡ no_checksum
+  pub root : length kept ≤ 1024
+  pub sessions : length taken ≤ clients
+
+-- its trailer's text is as long as it says, and fills so many blocks
+pub record IsMeasured (file : DataFile) (text bytes blocks : ℕ) : Type 0 where
+  pub size : bytes ≡ text
+  pub fits : (0 < bytes) × (bytes ≤ greatest_trailer (layout_of file.layout))
+  pub count : IsCount (file.layout.block_size - 256) bytes blocks
+  pub few : blocks ≤ 70
+
+-- of which so many are written, and the grid lists the others
+pub record IsHalfway (b : Blocks) (blocks done : ℕ) : Type 0 where
+  pub all : length b.written + length b.left ≡ blocks
+  pub written : done ≡ length b.written
+
 -- a running checkpoint goes with the superblock and the log that it was begun from, and with the blocks of the grid
 pub record IsRunning (file : DataFile) (f : SuperFields) (head : ℕ) (b : Blocks) (r : RunningState) : Type 0 where
-  pub op_from : f.op ≤ r.op
-  pub op_to : r.op ≤ head
-  pub parent : IsCheck r.op_checksum
-  pub first : r.op ≡ 0 → r.op_checksum ≡ no_checksum
-  pub root : length r.root ≤ 1024
-  pub sessions : length r.sessions ≤ file.layout.clients
-  pub sequence : (r.sequence ≡ f.sequence + 1) × (r.sequence ≤ 2 ^ 62)
-  pub size : r.size ≡ length (captured_text file b r)
-  pub fits : (0 < r.size) × (r.size ≤ greatest_trailer (layout_of file.layout))
-  pub count : IsCount (file.layout.block_size - 256) r.size r.blocks
-  pub few : r.blocks ≤ 70
-  pub all : length b.written + length b.left ≡ r.blocks
-  pub written : r.written ≡ length b.written
+  pub begun : IsBegunFrom f.op f.sequence head r.op r.sequence
+  pub open begun use *
+  pub contents : IsContents file.layout.clients r.op r.op_checksum r.root r.sessions
+  pub open contents use *
+  pub trailer : IsMeasured file (length (captured_text file b r)) r.size r.blocks
+  pub open trailer use *
+  pub progress : IsHalfway b r.blocks r.written
+  pub open progress use *
 
 -- the running checkpoint, if there is one, is the grid's
 abbrev pub IsCourse : DataFile → SuperFields → (head : ℕ) → Blocks → Option RunningState → Type 0
@@ -173,26 +193,41 @@ abbrev pub IsLevel : (head : ℕ) → (checksum : List ℕ) → Option RunningSt
 IsLevel head checksum None = Unit {0}
 IsLevel head checksum (Some r) = head ≡ r.op → checksum ≡ r.op_checksum
 
--- the state makes sense by itself: its numbers are in their ranges, and the header ring is one of the file
+-- the file's superblock is one of its own, and so are the durable checkpoint's root and the header ring
+pub record AreInFile (file : DataFile) (f : SuperFields) (kept : List ℕ) (headers : List Header) : Type 0 where
+  pub cluster : file.cluster < 2 ^ 128
+  pub version : f.version ≡ file.version
+  pub second : IsSecond file f
+  pub sequence : (0 < f.sequence) × (f.sequence ≤ 2 ^ 62)
+  pub root : length kept ≤ 1024
+  pub ring : IsTable file.layout file.cluster headers
+
+-- the log ends behind its checkpoint's op, and within the ring
+pub record EndsLog (slots op : ℕ) (op_checksum : List ℕ) (head : ℕ) (checksum : List ℕ) : Type 0 where
+  pub parent : IsCheck checksum
+  pub order : op ≤ head
+  pub room : head ≤ op + slots
+  pub head_to : head ≤ 2 ^ 62
+  pub first : head ≡ 0 → checksum ≡ no_checksum  -- the first prepare has no parent
+  pub level : head ≡ op → checksum ≡ op_checksum  -- an empty tail ends with the checkpoint's prepare
+
+-- at most eight of its prepares wait for their replies, each of them its client's last request
+pub record AwaitsReplies (clients head replies : ℕ) (unanswered : List (List ℕ)) (table : Table) : Type 0 where
+  pub waiting : replies + length unanswered ≡ head
+  pub few : length unanswered ≤ 8
+  pub places : table.max ≡ clients
+  pub requests : AreNumbered table.sessions
+  pub asked : AreAsked (sessions_of table.sessions)
+  pub tracks : Tracks replies head (sessions_of table.sessions)
+
+-- the state makes sense by itself: its numbers are in their ranges, and its parts go together
 pub record IsState (s : State) : Type 0 where
-  pub cluster : s.file.cluster < 2 ^ 128
-  pub parent : IsCheck s.head_checksum
-  pub version : s.fields.version ≡ s.file.version
-  pub second : IsSecond s.file s.fields
+  pub in_file : AreInFile s.file s.fields s.root s.headers
+  pub open in_file use *
   pub booted : s.live ≡ true → IsBooted s.boot s.fields.boot
-  pub sequence : (0 < s.fields.sequence) × (s.fields.sequence ≤ 2 ^ 62)
-  pub root : length s.root ≤ 1024
-  pub order : s.fields.op ≤ s.head
-  pub room : s.head ≤ s.fields.op + s.file.layout.slots
-  pub head_to : s.head ≤ 2 ^ 62
-  pub waiting : s.replies + length s.waiting ≡ s.head
-  pub few : length s.waiting ≤ 8
-  pub places : s.table.max ≡ s.file.layout.clients
-  pub first : s.head ≡ 0 → s.head_checksum ≡ no_checksum  -- the first prepare has no parent
-  pub level : s.head ≡ s.fields.op → s.head_checksum ≡ s.fields.op_checksum  -- an empty tail ends with the checkpoint's prepare
+  pub ends : EndsLog s.file.layout.slots s.fields.op s.fields.op_checksum s.head s.head_checksum
+  pub open ends use *
+  pub awaits : AwaitsReplies s.file.layout.clients s.head s.replies s.waiting s.table
+  pub open awaits use *
   pub captured : IsLevel s.head s.head_checksum s.running
-  pub requests : AreNumbered s.table.sessions
-  pub asked : AreAsked (sessions_of s.table.sessions)
-  pub tracks : Tracks s.replies s.head (sessions_of s.table.sessions)  -- each prepare that waits for its reply is its client's last request
-  pub ring : IsTable s.file.layout s.file.cluster s.headers
   pub course : IsCourse s.file s.fields s.head s.blocks s.running

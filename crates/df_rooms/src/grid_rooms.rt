@@ -13,8 +13,8 @@ use std::alloc::Global;
 #[derive(Drop)]
 pub struct GridRooms {
     pub layout: Layout,
-    pub free: FreeSet,
     pub checks: Vec<Check>,
+    pub free: FreeSet,
     pub marks: Vec<u8>,
     pub block: Raw<Block>,
     pub trailer: Raw<Trailer>,
@@ -87,15 +87,15 @@ impl GridRooms {
     pub(crate) fn reserve(alloc: Global, layout: &Layout) -> Result<GridRooms, OutOfMemory>
         ensures { IfOk result (λ rooms. rooms.layout ≡ layout.now) }
     {
+        let block = Raw::reserve(alloc, layout)?;
+        let trailer = Raw::reserve(alloc, layout)?;
         let free = free_set(alloc, layout)?;
         let checks = checks(alloc, layout)?;
         let marks = marks(alloc, layout)?;
-        let block = Raw::reserve(alloc, layout)?;
-        let trailer = Raw::reserve(alloc, layout)?;
         Ok(GridRooms {
             layout: *layout,
-            free,
             checks,
+            free,
             marks,
             block,
             trailer,
@@ -109,8 +109,8 @@ impl GridRooms {
     {
         let GridRooms {
             layout,
-            free,
             checks,
+            free,
             marks,
             block,
             trailer,
@@ -133,12 +133,12 @@ impl GridRooms {
         let layout = grid.layout();
         let (free, checks, marks, block, trailer) = grid.into_room();
         GridRooms {
-            layout,
-            free,
             checks,
+            free,
             marks,
             block,
             trailer,
+            layout,
         }
     }
 }

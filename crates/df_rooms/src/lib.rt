@@ -15,6 +15,7 @@ pub use file::DataFile;
 pub use grid_rooms::GridRooms;
 pub use log_rooms::LogRooms;
 pub use parts::{Parts, rooms_of};
+pub use recorded::stored_checks;
 pub use rooms::Rooms;
 pub use running::RunningCheckpoint;
 pub use scrub_rooms::ScrubRooms;

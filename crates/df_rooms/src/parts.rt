@@ -102,19 +102,19 @@ impl Parts {
     {
         let Parts {
             file,
+            rooms,
+            grid,
+            trailer,
+            scrub,
             content: _,
             root: _,
+            live: _,
             head: _,
             head_checksum: _,
+            running: _,
             replies: _,
             sessions: _,
             waiting: _,
-            live: _,
-            rooms,
-            grid,
-            running: _,
-            trailer,
-            scrub,
         } = self;
         rooms_of(file.layout, rooms, grid, trailer, scrub)
     }

@@ -22,8 +22,8 @@ fn stored_check(session: Option<Session>) -> Check
     }
 }
 
-// That of each place.
-fn stored_checks(sessions: &SessionTable) -> [Check; 64]
+/// What a superblock names: for each of its places for sessions the checksum of the session's stored reply, or zeros.
+pub fn stored_checks(sessions: &SessionTable) -> [Check; 64]
     ensures { result ≡ stored_checks sessions.now.sessions }
 {
     let mut checks = NO_CHECKSUMS;

@@ -4,7 +4,7 @@ use Rattle.std.specs.Coded.{Coded, code_by, coded_ℕ, coded_list, coded×}
 use Rattle.std.specs.FinMap as map
 use Rattle.df_rows.specs.declared.command.Command.{Command}
 use Rattle.df_rows.specs.declared.command.Command.TheVariants.{Put, Drop}
-use Rattle.df_rows.specs.Commands.{Map}
+use Rattle.df_rows.specs.Commands.{Map, applied}
 use Rattle.df_rows.specs.Rows.{Entry}
 
 pub record Table : Type 0 where
@@ -47,3 +47,11 @@ with_rows (entry ∷ more) t = with_rows more (with_row entry t)
 abbrev pub AreNew : List Entry → Table → Type 0
 AreNew [] t = ⊤
 AreNew (entry ∷ more) t = IsNew t entry.0 × AreNew more (with_row entry t)
+
+-- the table behind a command, and behind commands, in order
+abbrev pub with_command : Command → Table → Table
+with_command command t = record { max = t.max; rows = applied command t.rows }
+
+abbrev pub with_commands : List Command → Table → Table
+with_commands [] t = t
+with_commands (command ∷ more) t = with_commands more (with_command command t)

@@ -27,6 +27,8 @@ impl ObjectTable {
         requires block { block < limits.block_count (limits.rows_in_block layout.now) (map.len self.now.rows) }
         requires room { 64 * limits.rows_in_block layout.now ≤ length into.old }
         ensures size { result ≤ length into.old }
+        ensures few { result ≤ 64 * limits.rows_in_block layout.now }
+        ensures len { length into.new ≡ length into.old }
         ensures bytes { take result into.new ≡ rows_of (slice_chunk (map.entries self.now.rows) (limits.rows_in_block layout.now) block) }
     {
         let rows = self.rows();
@@ -83,6 +85,7 @@ fn chunk(rows: &[Row], per: u64, block: u64) -> &[Row]
 fn put_rows(rows: &[Row], into: &mut [u8]) -> usize
     requires { 64 * length rows.now ≤ length into.old }
     ensures size { result ≡ 64 * length rows.now }
+    ensures len { length into.new ≡ length into.old }
     ensures bytes { take result into.new ≡ rows_of rows.now }
 {
     for (k, row) in rows.iter().enumerate() {

@@ -42,18 +42,8 @@ module _ (file : DataFile) (g : Grade) where
       let es = calls.2.call.events in
       let then = subst (λ (f : DataFile). Keeps g calls.0 (next f w a.given a.command).0 (after_all es base)) same (calls.2.call.keeps g w base keeps).1.1 in
       let later = behind k (next file w a.given a.command).0 calls.0 calls.1 (after_all es base) acts answers t new log (calls.2.call.file ∙ same) calls.2.call.live then calls.3 since in
-      record {
-        replica = later.replica;
-        old = later.old;
-        told = later.told;
-        answers = later.answers;
-        same = later.same;
-        live = later.live;
-        keeps = later.keeps;
-        calls = later.calls;
-        ends = after_append es (events_of calls.0 calls.1 acts answers t new calls.3) base ∙ later.ends;
-        since = later.since;
-      }
+      let ends = after_append es (events_of calls.0 calls.1 acts answers t new calls.3) base ∙ later.ends in
+      record { replica = later.replica; old = later.old; told = later.told; answers = later.answers; same = later.same; live = later.live; keeps = later.keeps; calls = later.calls; ends = ends; since = later.since }
 
   -- a moment of some calls
   at_moment : (r : Replica) (w : Work) (acts : List Act) (told : Told) (new : Option Told) (log : Log) → r.file ≡ file → EachIsMidway r.file g w acts (Some told) new → Extends log told.log → IsUntil new log → IsMidway file g w acts log

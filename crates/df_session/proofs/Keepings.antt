@@ -8,14 +8,16 @@ use Rattle.df_theory.specs.View.{View}
 use Rattle.df_units.specs.Bytes.{unit_at}
 use Rattle.df_model.specs.Work.{Work}
 use Rattle.df_result.specs.Begun.{begun_work}
-use Rattle.df_result.specs.Below.{DataFile, State as Replica, shape, told_after}
+use Rattle.df_result.specs.Below.{DataFile, State as Replica, begun, shape, told_after}
 use Rattle.df_result.specs.Following.{MayOpen}
 use Rattle.df_result.specs.Opened.{MendsAll, begun_state}
 use Rattle.df_result.specs.Serving.{Firm, Grade, Keeps, StandsFor}
 use Rattle.df_result.proofs.Laws.{begun_is_work, begun_keeps}
+use Rattle.df_session.specs.Links.{events_to}
 use Rattle.df_session.specs.Laws.{CallsOnOpenFileKeepIt, made_on}
 use Rattle.df_session.proofs.Acknowledged.{keeps_answered}
 use Rattle.df_session.proofs.Kept.{OpenedOver, answers_alone, ends_add, keeps_over, opened_over}
+use Rattle.df_session.proofs.Lived.{calls_lived, safe_each}
 use Rattle.df_session.proofs.Resulted.{opened_answers}
 use Rattle.df_session.proofs.Spared.{spares_blocks}
 
@@ -50,5 +52,11 @@ calls_keep t s mended found to new acts answers failed calls whole live = record
   acknowledged = λ g view base same may stands.
       keeps_answered s.file g (begun_work s.file t.shown view) (Some (told_after found.mending.events (did Sync base))) (made_on s mended to new acts answers failed calls) refl live
       (opened_here t s mended found whole g view base same may stands).kept_for;
+  lived = λ log logs may.
+      calls_lived t s mended found whole (events_to s to mended new acts answers failed calls)
+      (λ view opens.
+      safe_each s.file Firm (begun_work s.file t.shown view) (begun t) acts answers failed found.mending.events (events_to s to mended new acts answers failed calls)
+      (keeps_over Firm s view (begun_work s.file t.shown view) (begun t) (told_after found.mending.events (did Sync (begun t))) live (opened_here t s mended found whole Firm view (begun t) refl opens tt)
+      to mended new acts answers failed calls)) log logs may;
   spares = λ view is. spares_blocks (begun_work s.file t.shown view) (made_on s mended to new acts answers failed calls) live (begun_here t s mended found view whole is);
 }

@@ -7,4 +7,4 @@ pub use Rattle.df_session.proofs.Resulted.{opened_agrees, opened_answers, unit_s
 pub use Rattle.df_session.proofs.Spared.{spares_blocks}
 pub use Rattle.df_session.proofs.Founds.{file_there, layout_there, view_there}
 pub use Rattle.df_session.proofs.Keepings.{begun_here, calls_keep}
-pub use Rattle.df_result.proofs.Laws.{added_is_told, answer_is_of_hurt, begun_is_work, call_is_own, call_is_the_one, filter_more, found_is_usable, found_keeps, headers_may_be_hurt, one_more_is_result, one_super, opened_is_written_for, probe_is_of_hurt, safe_is_not_refused, same_file, shown_after, super_shown, two_copies_are_enough}
+pub use Rattle.df_result.proofs.Laws.{added_is_told, answer_is_of_hurt, begun_is_work, begun_may_open, call_is_own, call_is_the_one, filter_more, found_is_usable, found_keeps, found_was_since, headers_may_be_hurt, lived_layout, one_more_is_result, one_super, opened_is_written_for, probe_is_of_hurt, safe_is_not_refused, same_file, shown_after, super_shown, two_copies_are_enough}

@@ -3,6 +3,7 @@ mod Joins
 mod Exact
 mod InWords
 mod Kept
+mod Lived
 mod Resulted
 mod Acknowledged
 mod Spared

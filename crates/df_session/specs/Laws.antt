@@ -1,7 +1,8 @@
 -- What is promised of calls on a file that was opened, whatever they are.
-use Rattle.std.specs.Prelude.{◌≡◌, true, List, [], Option, None, Some}
+use Rattle.std.specs.Prelude.{◌≡◌, true, List, [], ◌∷◌, Option, None, Some}
 use Rattle.df_base.specs.Image.{IsImage}
-use Rattle.df_base.specs.Log.{Sync}
+use Rattle.df_base.specs.Log.{Log, Sync, add}
+use Rattle.df_base.specs.Moments.{EachMoment}
 use Rattle.df_disk.specs.Adds.{after_all}
 use Rattle.df_disk.specs.Told.{Told, did}
 use Rattle.df_theory.specs.Found.{IsFound}
@@ -9,7 +10,7 @@ use Rattle.df_theory.specs.View.{View}
 use Rattle.df_units.specs.Bytes.{unit_at}
 use Rattle.df_model.specs.Commands.{Answer}
 use Rattle.df_model.specs.Supply.{Shown}
-use Rattle.df_result.specs.Below.{State as Replica, shape, told_after}
+use Rattle.df_result.specs.Below.{IsLivedDisk, MayReopen, State as Replica, begun, shape, told_after}
 use Rattle.df_result.specs.Following.{MayOpen}
 use Rattle.df_result.specs.Begun.{begun_work}
 use Rattle.df_result.specs.Opened.{AreRaising, Mends, MendsAll, raised_state}
@@ -26,7 +27,7 @@ use Rattle.df_session.specs.Sparing.{SparesBlocks}
 -- The calls were made on a file that was found in what the disk showed, mended and raised. On whatever image: the mending and the boot update are their own device calls alone, as each of the calls is; the answers
 -- are the machine's, from the state behind the boot update on, for which the replica stands, and a function of what was shown; what is told is what the calls added; no call writes a sector of a block that is held, but a step those of the running trailer's next. By each log that shows what was shown, and by which
 -- the file may be opened, the told one or one that is begun anew there: the file is kept at the open, at the end all that was answered is there, and so it is at each moment from its
--- answer on.
+-- answer on. Whatever history of damage and opens the file has, it is lived with the log that is begun anew at the open, at each moment.
 pub record CallsKeep (t : Told) (s : Replica) (mended : Option Told) (mending : Mends s.file (Some (did Sync t)) mended) (c : CallsMade) : Type 0 where
   pub stands : (view : View) → IsFound (shape s.file) (unit_at s.file.layout s.file.cluster t.shown) view → Keeps Firm s (begun_work s.file t.shown view) None
   pub answered : (view : View) → IsFound (shape s.file) (unit_at s.file.layout s.file.cluster t.shown) view → c.answers ≡ answers_of s.file (begun_work s.file t.shown view) c.acts
@@ -40,6 +41,8 @@ pub record CallsKeep (t : Told) (s : Replica) (mended : Option Told) (mending : 
       → KeepsFile s.file g (begun_work s.file t.shown view) base c.acts c.answers c.failed (over mending.events (events_made c) base)
   pub acknowledged : (g : Grade) (view : View) (base : Told) → base.shown ≡ t.shown → MayOpen s.file view base → StandsFor g (unit_at s.file.layout s.file.cluster t.shown) view
       → KeepsAnswered s.file g (begun_work s.file t.shown view) (over mending.events [] base) c
+  pub lived : (log : Log) (logs : List Log) → MayReopen s.file log logs t.shown
+      → EachMoment (did Sync (begun t)).log (told_after (events_made c) (told_after mending.events (did Sync (begun t)))).log (IsLivedDisk s.file (add Sync log ∷ logs))
   pub spares : (view : View) → IsFound (shape s.file) (unit_at s.file.layout s.file.cluster t.shown) view → SparesBlocks s.file (begun_work s.file t.shown view) c
 
 -- these calls, made on what an open found and mended

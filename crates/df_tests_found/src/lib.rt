@@ -5,4 +5,6 @@
 #[cfg(test)]
 mod forged;
 #[cfg(test)]
+mod groups;
+#[cfg(test)]
 mod rows;

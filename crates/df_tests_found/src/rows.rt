@@ -9,10 +9,10 @@ use std::process::Abort;
 use std::test::Fail;
 
 // The head, how many replies are stored, and how many places are to be mended; or the refusal.
-type Answer = Result<(u64, u64, usize), OpenError>;
+pub(crate) type Answer = Result<(u64, u64, usize), OpenError>;
 
 // What a survey finds where the version is asked for; a caller's proof is told nothing.
-fn surveyed(alloc: Global, disk: &mut MemoryDisk, version: u32) -> Result<Answer, Fail> {
+pub(crate) fn surveyed(alloc: Global, disk: &mut MemoryDisk, version: u32) -> Result<Answer, Fail> {
     let rooms = match Rooms::reserve(alloc, &Layout::small()) {
         Ok(rooms) => rooms,
         Err(_) => return Err("no memory for the rooms".into()),
@@ -27,7 +27,7 @@ fn surveyed(alloc: Global, disk: &mut MemoryDisk, version: u32) -> Result<Answer
     }
 }
 
-fn damaged(zone: Zone, index: u64, class: Class) -> Answer {
+pub(crate) fn damaged(zone: Zone, index: u64, class: Class) -> Answer {
     Err(OpenError::Damaged {
         place: Place { zone, index },
         class,
@@ -256,39 +256,6 @@ fn a_named_reply_is_known_by_its_checksum(rt: HostRuntime) -> Result<(), Fail> {
         replies: [file.replies[0], foreign],
     };
     assert_eq!(rt; found_with(rt.alloc(), &named, &[])?, stale);
-    Ok(())
-}
-
-#[test]
-fn a_group_counts_as_a_whole(rt: HostRuntime) -> Result<(), Fail> {
-    let file = made_file();
-    let five = Unit {
-        group: (5, 6),
-        ..fifth(&file, 3)
-    };
-    let six = Unit {
-        group: (5, 6),
-        ..prepare(6, sum_of(&five), 8, 1, 2, 3)
-    };
-    let both = [Put::Prepare(five), Put::Prepare(six)];
-    assert_eq!(rt; found_with(rt.alloc(), &file, &both)?, Ok((6, 2, 2)));
-    assert_eq!(rt;
-        found_with(rt.alloc(), &file, &[Put::Prepare(five)])?,
-        Ok((4, 2, 0))
-    );
-    assert_eq!(rt;
-        found_with(rt.alloc(), &file, &[Put::Prepare(six)])?,
-        Ok((4, 2, 0))
-    );
-    let told = [Put::Prepare(five), Put::Header(six)];
-    assert_eq!(rt;
-        found_with(rt.alloc(), &file, &told)?,
-        damaged(Zone::WalPrepares, 6, Class::Blank)
-    );
-    assert_eq!(rt;
-        found_with(rt.alloc(), &file, &[Put::Both(six)])?,
-        damaged(Zone::WalPrepares, 5, Class::Blank)
-    );
     Ok(())
 }
 

@@ -9,7 +9,7 @@ use df_buffers::{Prepare, Raw};
 use df_cases::Decision;
 use df_disk::Disk;
 use df_headers::HeaderTable;
-use df_journal::{Tail, append, count_rings, find_tail, is_behind, is_lost, ring_top};
+use df_journal::{Tail, append, bound_top, count_rings, find_reach, is_behind, is_lost};
 use df_layout::{Class, Layout};
 use df_memdisk::{MemoryDisk, Strike};
 use df_sessions::SessionTable;
@@ -100,10 +100,10 @@ fn found(
 {
     let found = scanned(rt, alloc, disk, layout, boot);
     let mut sessions = SessionTable::new(4);
-    let tail = find_tail(layout, &found, &[0; 16], &mut sessions);
+    let tail = find_reach(layout, &found, &[0; 16], &mut sessions).tail;
     let seen = count_rings(&found);
     let own = Counters {
-        ring_op: ring_top(&found, boot),
+        ring_op: bound_top(&found, boot, tail.op),
         ..seen
     };
     (

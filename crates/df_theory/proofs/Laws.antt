@@ -7,18 +7,20 @@ pub use Rattle.df_theory.proofs.Mends.{mend_law, mends_whole_law}
 pub use Rattle.df_theory.proofs.Keeps.{stands_law, whole_append_law, whole_block_law, whole_reply_law, whole_update_law}
 pub use Rattle.df_theory.proofs.Runs.{commands_law}
 pub use Rattle.df_theory.proofs.Headline.{barrier_law, clean_start_law, headline_law}
-pub use Rattle.df_theory.proofs.Tidy.{tidy_append_law, tidy_block_law, tidy_finish_law, tidy_idle_law, tidy_mend_law, tidy_reply_law, tidy_sync_law}
+pub use Rattle.df_theory.proofs.Standing.{standing_after, standing_all}
+pub use Rattle.df_theory.proofs.Tidy.{spare_append, spare_table, spare_update, standing_update, tidy_append_law, tidy_block_law, tidy_finish_law, tidy_idle_law, tidy_mend_law, tidy_reply_law, tidy_sync_law}
 pub use Rattle.df_theory.proofs.TidyMakes.{tidy_format_law}
 pub use Rattle.df_theory.proofs.FlushLaws.{flush_law}
 pub use Rattle.df_theory.proofs.TidyGroups.{clear_law, tidy_boot_law, tidy_flush_law}
 pub use Rattle.df_theory.proofs.TidyRuns.{standing_run_law, tidy_run_law}
 -- ---- images, and what an open finds
 pub use Rattle.df_theory.proofs.OneFound.{found_law, one_chosen_law, one_found_law, one_view_law}
-pub use Rattle.df_theory.proofs.OneAnswer.{found_answer_law, one_answer_law}
+pub use Rattle.df_theory.proofs.OneAnswer.{found_answer_law, one_answer_law, spent_answer_law}
 pub use Rattle.df_theory.proofs.Founds.{chain_at, found_sound, slot_law}
 pub use Rattle.df_theory.proofs.Decisions.{decision_law}
 pub use Rattle.df_theory.proofs.GroupWalks.{alone_law, clear_slot_law, lost_law, walk_law}
 pub use Rattle.df_theory.proofs.GroupRules.{group_rule_law}
+pub use Rattle.df_theory.proofs.KnownLaws.{known_ends_law}
 pub use Rattle.df_theory.proofs.Images.{short_clear, short_same, unheld}
 -- ---- histories and damage
 pub use Rattle.df_theory.proofs.Past.{one_prepare_law, stamp_law}
@@ -28,7 +30,7 @@ pub use Rattle.df_theory.proofs.Fields.{fields_hold_law}
 pub use Rattle.df_theory.proofs.BadFields.{no_bad_field_law, arrives_more, links_more}
 pub use Rattle.df_theory.proofs.Blames.{blame_law, read_law}
 -- ---- sectors
-pub use Rattle.df_theory.proofs.Bridge.{disk_law, firm_units, moments, moments_law, new_disk_law, now_units, put_law, run_moments_law, safe_disk_law, safe_moments_law, same_log, settled_law, shown_law, steps_join_law, unit_moments_law}
+pub use Rattle.df_theory.proofs.Bridge.{changed_kept, disk_law, firm_units, moments, moments_law, new_disk_law, now_units, put_law, run_moments_law, safe_disk_law, safe_moments_law, same_log, settled_law, shown_law, steps_join_law, unit_moments_law}
 pub use Rattle.df_theory.proofs.PutShown.{put_shown_law}
 pub use Rattle.df_theory.proofs.DiskStops.{disk_barrier_law, disk_stop_law}
 pub use Rattle.df_theory.proofs.TidyDisk.{standing_moments_law, tidy_moments_law}
@@ -42,6 +44,7 @@ pub use Rattle.df_theory.proofs.Choices.{chosen_above, same_copy}
 pub use Rattle.df_theory.proofs.Runs.{after_append, each_append, each_weaker}
 pub use Rattle.df_theory.proofs.Tails.{chain_ops, in_dropped, in_either, in_one, in_single, in_front, in_drop}
 pub use Rattle.df_theory.proofs.Sessions.{chain_append, last_mark-append, noted_get, sessions-append, sessions-drop, tracks_chain, tracks_noted}
+pub use Rattle.df_theory.proofs.BootSounds.{boot_sound}
 pub use Rattle.df_theory.proofs.Sounds.{append_sound, checkpoint_sound, reply_sound, tracks}
 -- ---- what histories of several logs stand on
 pub use Rattle.df_theory.proofs.Agreeing.{prepare_agrees, take_boot}
@@ -50,7 +53,7 @@ pub use Rattle.df_theory.proofs.Choices.{boot_higher, one_chosen, rank_low}
 pub use Rattle.df_theory.proofs.Clear.{low_steps, low_update}
 pub use Rattle.df_theory.proofs.Founds.{holds_found}
 pub use Rattle.df_theory.proofs.Grew.{next_grew}
-pub use Rattle.df_theory.proofs.Grouped.{group_from, group_holds, same_group}
+pub use Rattle.df_theory.proofs.Grouped.{group_from, group_holds, groups_append, same_group}
 pub use Rattle.df_theory.proofs.Hurts.{pool_pools}
 pub use Rattle.df_theory.proofs.Images.{IsOpen, bears_open, chosen_same}
 pub use Rattle.df_theory.proofs.Mends.{IsUnderWay, half_way, header_steps_miss, is_mend, missed, under_way_still}
@@ -66,7 +69,7 @@ pub use Rattle.df_theory.proofs.SampleUnits.{AreTold, copies_all, distinct_of, l
 pub use Rattle.df_theory.proofs.Without.{without, without_else, without_shows}
 pub use Rattle.df_theory.proofs.Settled.{append_here, base_here, made_content, made_reply, reply_here}
 pub use Rattle.df_theory.proofs.Tails.{chain_last}
-pub use Rattle.df_theory.proofs.Upgrades.{raise_anew_law, raise_ends_law}
+pub use Rattle.df_theory.proofs.Upgrades.{open_law, raise_anew_law, raise_ends_law, upgrade_law}
 pub use Rattle.df_theory.proofs.Writes.{no_choice}
 pub use Rattle.df_theory.proofs.Replies.{stored_at, stored_else}
 pub use Rattle.df_theory.proofs.RaiseLogs.{dry_copies, dry_headers}

@@ -21,6 +21,7 @@ mod Causes
 mod RunCalls
 mod Runs
 mod Hurts
+mod Reopens
 mod Within
 mod WorksOn
 mod Made

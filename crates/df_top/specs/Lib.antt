@@ -19,6 +19,7 @@ pub mod Scrubs
 pub mod Touring
 pub mod Run
 pub mod Hurting
+pub mod Reopening
 pub mod Upgrading
 pub mod Within
 pub mod Formats

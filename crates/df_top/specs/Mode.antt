@@ -5,7 +5,6 @@ use Rattle.df_pace.specs.Beats.{idle}
 use Rattle.df_pace.specs.declared.pace.Pace.{Pace}
 use Rattle.df_top.specs.declared.mode.Mode.{Mode}
 use Rattle.df_top.specs.declared.mode.Mode.TheVariants.{Format, Run, Recover, Inspect, Scrub, Workload, Upgrade, Paced}
-use Rattle.df_top.specs.declared.mode.NewFile.{NewFile}
 use Rattle.df_top.specs.declared.mode.Task.{Task}
 use Rattle.df_top.specs.declared.mode.Task.TheVariants.{Make, Open}
 use Rattle.df_top.specs.declared.mode.Task.TheVariants as task

@@ -9,7 +9,8 @@ ghost use Rattle.df_top.specs.declared.mode.Mode.{Mode};
 ghost use Rattle.df_top.specs.Mode.{AsksScript, IsOfFile, IsRunnable, Means, MeansNothing, ReadsScript};
 ghost use Rattle.df_top.specs.Formats.{Formats, MakesFile};
 ghost use Rattle.df_top.specs.Hurting.{RunsOverHurt};
-ghost use Rattle.df_top.specs.Outside.{Blames, HasCauses};
+ghost use Rattle.df_top.specs.Outside.{Blames, HasCauses, around, counts};
+ghost use Rattle.df_top.specs.Reopening.{RunsOverHistory};
 ghost use Rattle.df_top.specs.Run.{IsWithout, PrintsUsage, Runs};
 ghost use Rattle.df_top.specs.Upgrading.{RunsUpgrade, UpgradesOverHurt};
 ghost use Rattle.df_top.specs.Within.{WritesOwn, WritesOwnAs};
@@ -57,17 +58,11 @@ fn run_file<D: Disk, S: Source, W: Sink>(
     disk: &mut D,
 ) -> Status
     requires runnable { IsRunnable mode }
-    ensures runs { Runs mode
-        (record { told = D.told disk.old; left = S.left source.old; written = W.written sink.old })
-        (record { told = D.told disk.new; left = S.left source.new; written = W.written sink.new }) result }
+    ensures runs { Runs mode (around (D.told disk.old) (S.left source.old) (W.written sink.old)) (around (D.told disk.new) (S.left source.new) (W.written sink.new)) result }
     ensures inspects { mode ≡ Mode.Inspect → AddsPart (Sync ∷ []) (D.told disk.old) (D.told disk.new) }
     ensures unread { (ReadsScript mode → ⊥) → S.left source.new ≡ S.left source.old }
-    ensures causes { HasCauses
-        (record { disk = D.faults disk.old; source = S.faults source.old; sink = W.faults sink.old })
-        (record { disk = D.faults disk.new; source = S.faults source.new; sink = W.faults sink.new }) result }
-    ensures memory { result ≡ Status.Memory → IsWithout
-        (record { told = D.told disk.old; left = S.left source.old; written = W.written sink.old })
-        (record { told = D.told disk.new; left = S.left source.new; written = W.written sink.new }) }
+    ensures causes { HasCauses (counts (D.faults disk.old) (S.faults source.old) (W.faults sink.old)) (counts (D.faults disk.new) (S.faults source.new) (W.faults sink.new)) result }
+    ensures memory { result ≡ Status.Memory → IsWithout (around (D.told disk.old) (S.left source.old) (W.written sink.old)) (around (D.told disk.new) (S.left source.new) (W.written sink.new)) }
     ensures usage { result ≡ Status.Words → ⊥ }
 {
     let Ok(mut room) = ProbeRoom::reserve(alloc) else {
@@ -138,6 +133,12 @@ pub fn run<D: Disk, S: Source, W: Sink>(
     // Where sectors of the file were damaged, lost or swapped before, they find a state that the file really had, or refuse it
     // because of a sector that is hurt; and a read of a script gives what is the state's own, as it was written.
     ensures hurt { (mode : Mode) → IsOfFile mode → Means (map string_bytes words.now) mode → RunsOverHurt mode
+        (record { told = D.told disk.old; left = S.left source.old; written = W.written sink.old })
+        (record { told = D.told disk.new; left = S.left source.new; written = W.written sink.new }) result }
+
+    // Where they were before other opens, too, while two superblock copies were spared before each, the state is one that the file had
+    // since the last open that raised its boot; and from the barrier on the history stays such a one at each moment.
+    ensures lived { (mode : Mode) → IsOfFile mode → Means (map string_bytes words.now) mode → RunsOverHistory mode
         (record { told = D.told disk.old; left = S.left source.old; written = W.written sink.old })
         (record { told = D.told disk.new; left = S.left source.new; written = W.written sink.new }) result }
 

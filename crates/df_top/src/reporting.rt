@@ -5,7 +5,7 @@ ghost use Rattle.df_disk.specs.Adds.{AddsPart};
 ghost use Rattle.df_inspect.specs.Reports.{summary_text};
 ghost use Rattle.df_session.specs.Replica.{summary_of};
 ghost use Rattle.df_top.specs.declared.mode.Mode.{Mode};
-ghost use Rattle.df_top.specs.Outside.{Blames, HasCauses, PrintsLine};
+ghost use Rattle.df_top.specs.Outside.{Blames, EndsWithFile, HasCauses, PrintsLine, around, counts};
 ghost use Rattle.df_top.specs.Reporting.{OneReport, report_of, status_of};
 ghost use Rattle.df_top.specs.Run.{ServesIn};
 
@@ -59,15 +59,10 @@ fn summarise<W: Sink>(sink: &mut W, replica: &Replica) -> Status
 
 /// Surveys the file and prints the report of what is found, or why the file is refused. Nothing is written to the disk, and no boot is raised.
 pub fn inspect_file<D: Disk, W: Sink>(rooms: Rooms, sink: &mut W, disk: &mut D) -> Status
-    ensures inspects { (left : Option (List ℕ)) → ServesIn Mode.Inspect rooms.layout
-        (record { told = D.told disk.old; left = left; written = W.written sink.old })
-        (record { told = D.told disk.new; left = left; written = W.written sink.new }) result }
+    ensures inspects { (left : Option (List ℕ)) → ServesIn Mode.Inspect rooms.layout (around (D.told disk.old) left (W.written sink.old)) (around (D.told disk.new) left (W.written sink.new)) result }
     ensures syncs { AddsPart (Sync ∷ []) (D.told disk.old) (D.told disk.new) }
-    ensures causes { (source : ℕ) → HasCauses
-        (record { disk = D.faults disk.old; source = source; sink = W.faults sink.old })
-        (record { disk = D.faults disk.new; source = source; sink = W.faults sink.new }) result }
-    ensures memory { result ≡ Status.Memory → ⊥ }
-    ensures words { result ≡ Status.Words → ⊥ }
+    ensures causes { (source : ℕ) → HasCauses (counts (D.faults disk.old) source (W.faults sink.old)) (counts (D.faults disk.new) source (W.faults sink.new)) result }
+    ensures ends { EndsWithFile result }
 {
     match survey(disk, rooms) {
         Ok(surveyed) => report(sink, &surveyed),
@@ -77,14 +72,9 @@ pub fn inspect_file<D: Disk, W: Sink>(rooms: Rooms, sink: &mut W, disk: &mut D) 
 
 /// Opens the file, which mends it and raises its boot, and prints its summary, or why the file is refused.
 pub fn recover_file<D: Disk, W: Sink>(rooms: Rooms, sink: &mut W, disk: &mut D) -> Status
-    ensures recovers { (left : Option (List ℕ)) → ServesIn Mode.Recover rooms.layout
-        (record { told = D.told disk.old; left = left; written = W.written sink.old })
-        (record { told = D.told disk.new; left = left; written = W.written sink.new }) result }
-    ensures causes { (source : ℕ) → HasCauses
-        (record { disk = D.faults disk.old; source = source; sink = W.faults sink.old })
-        (record { disk = D.faults disk.new; source = source; sink = W.faults sink.new }) result }
-    ensures memory { result ≡ Status.Memory → ⊥ }
-    ensures words { result ≡ Status.Words → ⊥ }
+    ensures recovers { (left : Option (List ℕ)) → ServesIn Mode.Recover rooms.layout (around (D.told disk.old) left (W.written sink.old)) (around (D.told disk.new) left (W.written sink.new)) result }
+    ensures causes { (source : ℕ) → HasCauses (counts (D.faults disk.old) source (W.faults sink.old)) (counts (D.faults disk.new) source (W.faults sink.new)) result }
+    ensures ends { EndsWithFile result }
 {
     match Replica::open(disk, rooms) {
         Ok(replica) => summarise(sink, &replica),

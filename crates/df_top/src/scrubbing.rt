@@ -6,7 +6,7 @@ ghost use Rattle.df_model.specs.Work.{first_tour};
 ghost use Rattle.df_model.specs.declared.answers.Scrubbed.TheVariants as scrubs;
 ghost use Rattle.df_script_model.specs.Texts.{scrubbed_text};
 ghost use Rattle.df_top.specs.declared.mode.Mode.{Mode};
-ghost use Rattle.df_top.specs.Outside.{Blames, HasCauses, PrintsLine};
+ghost use Rattle.df_top.specs.Outside.{Blames, EndsWithFile, HasCauses, PrintsLine, around, counts};
 ghost use Rattle.df_top.specs.Run.{ServesIn};
 ghost use Rattle.df_top.specs.Scrubs.{PrintsTour, tour_status};
 ghost use Rattle.df_top.specs.Touring.{EndsTour, TakesStep, TellsFound, TellsStep};
@@ -98,14 +98,9 @@ fn tour<D: Disk, W: Sink>(disk: &mut D, sink: &mut W, replica: &mut Replica) -> 
 
 /// Opens the file, which mends it and raises its boot, and prints the referenced blocks that fail, or why the file is refused.
 pub fn scrub_file<D: Disk, W: Sink>(rooms: Rooms, sink: &mut W, disk: &mut D) -> Status
-    ensures scrubs { (left : Option (List ℕ)) → ServesIn Mode.Scrub rooms.layout
-        (record { told = D.told disk.old; left = left; written = W.written sink.old })
-        (record { told = D.told disk.new; left = left; written = W.written sink.new }) result }
-    ensures causes { (source : ℕ) → HasCauses
-        (record { disk = D.faults disk.old; source = source; sink = W.faults sink.old })
-        (record { disk = D.faults disk.new; source = source; sink = W.faults sink.new }) result }
-    ensures memory { result ≡ Status.Memory → ⊥ }
-    ensures words { result ≡ Status.Words → ⊥ }
+    ensures scrubs { (left : Option (List ℕ)) → ServesIn Mode.Scrub rooms.layout (around (D.told disk.old) left (W.written sink.old)) (around (D.told disk.new) left (W.written sink.new)) result }
+    ensures causes { (source : ℕ) → HasCauses (counts (D.faults disk.old) source (W.faults sink.old)) (counts (D.faults disk.new) source (W.faults sink.new)) result }
+    ensures ends { EndsWithFile result }
 {
     match Replica::open(disk, rooms) {
         Ok(mut replica) => tour(disk, sink, &mut replica),

@@ -4,9 +4,10 @@ ghost use Rattle.df_base.specs.Log.{Sync};
 ghost use Rattle.df_disk.specs.Adds.{AddsPart};
 ghost use Rattle.df_lines.specs.Room.{IsFresh, line_bound};
 ghost use Rattle.df_top.specs.Hurting.{ServesOverHurt};
+ghost use Rattle.df_top.specs.Reopening.{ServesOverHistory};
 ghost use Rattle.df_top.specs.declared.mode.Mode.{Mode};
 ghost use Rattle.df_top.specs.Mode.{AsksOfFile, AsksScript, Executes, IsRunnable, Means, ReadsScript};
-ghost use Rattle.df_top.specs.Outside.{Blames, HasCauses};
+ghost use Rattle.df_top.specs.Outside.{Blames, EndsWithFile, HasCauses, around, counts};
 ghost use Rattle.df_top.specs.Refusing.{PrintsError};
 ghost use Rattle.df_top.specs.Run.{ServesIn};
 ghost use Rattle.df_top.specs.Within.{WritesIn};
@@ -41,22 +42,17 @@ pub(crate) fn refuse_file<W: Sink>(sink: &mut W, error: &OpenError) -> Status
 
 // Opens the file and serves the script, with this work beside it.
 fn serve_file<D: Disk, S: Source, W: Sink>(
-    pace: Pace,
     rooms: Rooms,
     lines: LineRoom,
+    pace: Pace,
     source: &mut S,
     sink: &mut W,
     disk: &mut D,
 ) -> Status
     requires lines { IsFresh (line_bound rooms.layout) lines }
-    ensures serves { (mode : Mode) → Executes mode pace → ServesIn mode rooms.layout
-        (record { told = D.told disk.old; left = S.left source.old; written = W.written sink.old })
-        (record { told = D.told disk.new; left = S.left source.new; written = W.written sink.new }) result }
-    ensures causes { HasCauses
-        (record { disk = D.faults disk.old; source = S.faults source.old; sink = W.faults sink.old })
-        (record { disk = D.faults disk.new; source = S.faults source.new; sink = W.faults sink.new }) result }
-    ensures memory { result ≡ Status.Memory → ⊥ }
-    ensures words { result ≡ Status.Words → ⊥ }
+    ensures serves { (mode : Mode) → Executes mode pace → ServesIn mode rooms.layout (around (D.told disk.old) (S.left source.old) (W.written sink.old)) (around (D.told disk.new) (S.left source.new) (W.written sink.new)) result }
+    ensures causes { HasCauses (counts (D.faults disk.old) (S.faults source.old) (W.faults sink.old)) (counts (D.faults disk.new) (S.faults source.new) (W.faults sink.new)) result }
+    ensures ends { EndsWithFile result }
 {
     match Replica::open(disk, rooms) {
         Ok(replica) => {
@@ -97,12 +93,12 @@ pub(crate) fn carry_out<D: Disk, S: Source, W: Sink>(
     ensures usage { result ≡ Status.Words → ⊥ }
 {
     match mode {
-        Mode::Run => serve_file(Pace::idle(), rooms, lines, source, sink, disk),
+        Mode::Run => serve_file(rooms, lines, Pace::idle(), source, sink, disk),
         Mode::Recover => recover_file(rooms, sink, disk),
         Mode::Inspect => inspect_file(rooms, sink, disk),
         Mode::Scrub => scrub_file(rooms, sink, disk),
         Mode::Workload { seed, count } => workload_file(rooms, seed, count, sink, disk),
-        Mode::Paced { pace } => serve_file(pace, rooms, lines, source, sink, disk),
+        Mode::Paced { pace } => serve_file(rooms, lines, pace, source, sink, disk),
         Mode::Upgrade
         | Mode::Format {
             layout: _,
@@ -128,6 +124,9 @@ pub fn serve<D: Disk, S: Source, W: Sink>(
         (record { told = D.told disk.new; left = S.left source.new; written = W.written sink.new }) result }
     ensures inspects { Means (map string_bytes words.now) Mode.Inspect → AddsPart (Sync ∷ []) (D.told disk.old) (D.told disk.new) }
     ensures hurt { (mode : Mode) → Means (map string_bytes words.now) mode → ServesOverHurt mode rooms.layout
+        (record { told = D.told disk.old; left = S.left source.old; written = W.written sink.old })
+        (record { told = D.told disk.new; left = S.left source.new; written = W.written sink.new }) result }
+    ensures lived { (mode : Mode) → Means (map string_bytes words.now) mode → ServesOverHistory mode rooms.layout
         (record { told = D.told disk.old; left = S.left source.old; written = W.written sink.old })
         (record { told = D.told disk.new; left = S.left source.new; written = W.written sink.new }) result }
     ensures within { WritesIn rooms.layout (D.told disk.old) (D.told disk.new) }

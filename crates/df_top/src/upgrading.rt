@@ -1,7 +1,7 @@
 // The word `upgrade`: a file of version 1 becomes one of version 2, and its sequence is printed.
 ghost use Rattle.std.specs.Prelude.{◌≡◌, ℕ, List, Option};
 ghost use Rattle.df_inspect.specs.Opening.{upgraded_text};
-ghost use Rattle.df_top.specs.Outside.{Blames, HasCauses, PrintsLine};
+ghost use Rattle.df_top.specs.Outside.{Blames, EndsWithFile, HasCauses, PrintsLine, around, counts};
 ghost use Rattle.df_top.specs.Run.{IsWithout};
 ghost use Rattle.df_top.specs.Upgrading.{RunsUpgrade, UpgradesIn};
 
@@ -30,14 +30,9 @@ fn tell_upgraded<W: Sink>(sink: &mut W, sequence: u64) -> Status
 
 // Upgrades the file that the disk shows, over rooms of its layout, and prints its sequence, or why it is refused. It takes no memory.
 fn upgrade_there<D: Disk, W: Sink>(rooms: Rooms, sink: &mut W, disk: &mut D) -> Status
-    ensures upgrades { (left : Option (List ℕ)) → UpgradesIn rooms.layout
-        (record { told = D.told disk.old; left = left; written = W.written sink.old })
-        (record { told = D.told disk.new; left = left; written = W.written sink.new }) result }
-    ensures causes { (source : ℕ) → HasCauses
-        (record { disk = D.faults disk.old; source = source; sink = W.faults sink.old })
-        (record { disk = D.faults disk.new; source = source; sink = W.faults sink.new }) result }
-    ensures memory { result ≡ Status.Memory → ⊥ }
-    ensures words { result ≡ Status.Words → ⊥ }
+    ensures upgrades { (left : Option (List ℕ)) → UpgradesIn rooms.layout (around (D.told disk.old) left (W.written sink.old)) (around (D.told disk.new) left (W.written sink.new)) result }
+    ensures causes { (source : ℕ) → HasCauses (counts (D.faults disk.old) source (W.faults sink.old)) (counts (D.faults disk.new) source (W.faults sink.new)) result }
+    ensures ends { EndsWithFile result }
 {
     match upgrade_file(disk, rooms) {
         Ok(upgraded) => tell_upgraded(sink, upgraded.sequence),

@@ -6,7 +6,7 @@ ghost use Rattle.df_workload.specs.Sound.{is_at_end, left};
 ghost use Rattle.df_workload.specs.declared.state.Point.{Point};
 ghost use Rattle.df_session.specs.Endings.{is_disk};
 ghost use Rattle.df_top.specs.declared.mode.Mode.{Mode};
-ghost use Rattle.df_top.specs.Outside.{Blames, HasCauses};
+ghost use Rattle.df_top.specs.Outside.{Blames, EndsWithFile, HasCauses, around, counts};
 ghost use Rattle.df_top.specs.Run.{ServesIn};
 ghost use Rattle.df_top.specs.Works.{Comes, IsRunning, PrintsRun, steps_left, workload_of};
 
@@ -184,14 +184,9 @@ pub fn workload_file<D: Disk, W: Sink>(
 ) -> Status
     requires some { 1 ≤ count }
     requires million { count ≤ 1000000 }
-    ensures works { (left : Option (List ℕ)) → ServesIn (Mode.Workload seed count) rooms.layout
-        (record { told = D.told disk.old; left = left; written = W.written sink.old })
-        (record { told = D.told disk.new; left = left; written = W.written sink.new }) result }
-    ensures causes { (source : ℕ) → HasCauses
-        (record { disk = D.faults disk.old; source = source; sink = W.faults sink.old })
-        (record { disk = D.faults disk.new; source = source; sink = W.faults sink.new }) result }
-    ensures memory { result ≡ Status.Memory → ⊥ }
-    ensures words { result ≡ Status.Words → ⊥ }
+    ensures works { (left : Option (List ℕ)) → ServesIn (Mode.Workload seed count) rooms.layout (around (D.told disk.old) left (W.written sink.old)) (around (D.told disk.new) left (W.written sink.new)) result }
+    ensures causes { (source : ℕ) → HasCauses (counts (D.faults disk.old) source (W.faults sink.old)) (counts (D.faults disk.new) source (W.faults sink.new)) result }
+    ensures ends { EndsWithFile result }
 {
     match Replica::open(disk, rooms) {
         Ok(mut replica) => {

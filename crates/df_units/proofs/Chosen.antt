@@ -15,11 +15,11 @@ use Rattle.df_quorum.specs.Quorum
 use Rattle.df_theory.specs.Units
 use Rattle.df_theory.specs.Units.{CopyUnit}
 use Rattle.df_theory.specs.Copies
-use Rattle.df_units.specs.Meaning.{content_of, number_of, offset_list, rest_of}
+use Rattle.df_units.specs.Meaning.{content_of, number_of, offset_list, or_nothing, rest_of}
 use Rattle.df_units.specs.Bytes.{copy_unit, unit_at}
 use Rattle.df_units.specs.Superblocks.{ChoiceIsChosen, ChosenIsChoice, HasChecks, ShownHasChecks, SplitIsSplit}
 use Rattle.df_units.proofs.Numbers.{one_number}
-use Rattle.df_units.proofs.Versions.{by_other, by_second, checks_same, parts_same}
+use Rattle.df_units.proofs.Versions.{by_other, by_second, checks_same, named_or_nothing, parts_same}
 
 -- ---- contents
 
@@ -28,6 +28,10 @@ offset_is None None same = refl
 offset_is None (Some n) same = absurd (cc)
 offset_is (Some n) None same = absurd (cc)
 offset_is (Some n) (Some m) same = let both : suc n ≡ suc m = cc in let inner : n ≡ m = omega arith in ap Some inner
+
+few : (o : Option ℕ) → length (offset_list o) ≤ 1
+few None = omega arith
+few (Some n) = omega arith
 
 -- what version 2 names, or leaves empty in another version
 named_same : (c d : Content) → HasChecks c → HasChecks d → content_of c ≡ content_of d → (c.fields.head_checksum ≡ d.fields.head_checksum) × (c.fields.reply_checksums ≡ d.fields.reply_checksums) × (c.fields.first_nonzero ≡ d.fields.first_nonzero)
@@ -45,9 +49,9 @@ named_same c d one two same =
           let sums : map number_of f.reply_checksums ≡ map number_of g.reply_checksums =
           sym (by_second f (map number_of f.reply_checksums) [] second) ∙ ap (λ (e : Units.Content). e.reply_checksums) same ∙ by_second g (map number_of g.reply_checksums) [] other in
           let offsets : offset_list f.first_nonzero ≡ offset_list g.first_nonzero =
-          ap (λ (l : List ℕ). l ++ offset_list f.first_nonzero) (sym (by_second f [] (number_of f.head_checksum ∷ map number_of f.reply_checksums) second))
+          ap (λ (l : List ℕ). l ++ offset_list f.first_nonzero) (sym (by_second f [] (or_nothing (number_of f.head_checksum ∷ map number_of f.reply_checksums)) second))
           ∙ rest
-          ∙ ap (λ (l : List ℕ). l ++ offset_list g.first_nonzero) (by_second g [] (number_of g.head_checksum ∷ map number_of g.reply_checksums) other) in (
+          ∙ ap (λ (l : List ℕ). l ++ offset_list g.first_nonzero) (by_second g [] (or_nothing (number_of g.head_checksum ∷ map number_of g.reply_checksums)) other) in (
             one_number f.head_checksum g.head_checksum one.head_checksum two.head_checksum head,
             checks_same f.reply_checksums g.reply_checksums one.reply_checksums.each two.reply_checksums.each size sums,
             offset_is f.first_nonzero g.first_nonzero offsets,
@@ -56,9 +60,11 @@ named_same c d one two same =
           let other : g.version ≢ 2 = λ second. differs (version ∙ second) in
           let mine : List ℕ = number_of f.head_checksum ∷ map number_of f.reply_checksums in
           let its : List ℕ = number_of g.head_checksum ∷ map number_of g.reply_checksums in
-          let all : mine ++ offset_list f.first_nonzero ≡ its ++ offset_list g.first_nonzero =
-          ap (λ (l : List ℕ). l ++ offset_list f.first_nonzero) (sym (by_other f [] mine differs)) ∙ rest ∙ ap (λ (l : List ℕ). l ++ offset_list g.first_nonzero) (by_other g [] its other) in
-          let both = parts_same mine its (offset_list f.first_nonzero) (offset_list g.first_nonzero) (omega (arith, size, length-map f.reply_checksums number_of, length-map g.reply_checksums number_of)) all in
+          let all : or_nothing mine ++ offset_list f.first_nonzero ≡ or_nothing its ++ offset_list g.first_nonzero =
+          ap (λ (l : List ℕ). l ++ offset_list f.first_nonzero) (sym (by_other f [] (or_nothing mine) differs)) ∙ rest ∙ ap (λ (l : List ℕ). l ++ offset_list g.first_nonzero) (by_other g [] (or_nothing its) other) in
+          let many : length (map number_of f.reply_checksums) ≡ 64 = length-map f.reply_checksums number_of ∙ one.reply_checksums.size in
+          let also : length (map number_of g.reply_checksums) ≡ 64 = length-map g.reply_checksums number_of ∙ two.reply_checksums.size in
+          let both = named_or_nothing mine its (offset_list f.first_nonzero) (offset_list g.first_nonzero) (omega (arith, many, also)) (omega (arith, also, few g.first_nonzero, few f.first_nonzero)) (omega (arith, many, few g.first_nonzero)) all in
           let parts = parts_same (number_of f.head_checksum ∷ []) (number_of g.head_checksum ∷ []) (map number_of f.reply_checksums) (map number_of g.reply_checksums) refl both.0 in (
             one_number f.head_checksum g.head_checksum one.head_checksum two.head_checksum (ap (λ (l : List ℕ). slice_index l 0) parts.0),
             checks_same f.reply_checksums g.reply_checksums one.reply_checksums.each two.reply_checksums.each size parts.1,

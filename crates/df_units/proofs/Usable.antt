@@ -1,7 +1,8 @@
 -- A superblock can be used exactly where it passes the theory's tests.
 use Rattle.std.proofs.Common.{inl, inr, ◌≡◌, ◌≢◌, ℕ, zero, suc, ◌<◌, ◌≤◌, ◌+◌, ◌^◌, List, [], ◌∷◌, ◌++◌, length, drop, get_or, Option, Some, None, refl, sym, ◌∙◌, ap, subst, arith}
 use Rattle.std.specs.Prelude.{All, map, slice_index}
-use Rattle.std.proofs.lemmas.List.{append-nil, get_or-drop, get_or-map, get_or_append_left, length-drop, length-map, length-replicate}
+use Rattle.std.proofs.lemmas.Bool.{cases_eq}
+use Rattle.std.proofs.lemmas.List.{append-nil, get_or-drop, get_or-map, length-drop, length-replicate}
 use Rattle.df_base.proofs.Laws.{AreBytes-zeros}
 use Rattle.df_layout.specs.Limits.{AreSlots, IsMessageSize, AreClients, IsBlockSize, AreBlocks}
 use Rattle.df_layout.specs.declared.layout.Layout.{Layout}
@@ -14,11 +15,11 @@ use Rattle.df_theory.specs.Units
 use Rattle.df_theory.specs.Shape.{Shape}
 use Rattle.df_theory.specs.Trailer.{IsReference}
 use Rattle.df_theory.specs.View.{IsOfVersion, PassesTests}
-use Rattle.df_units.specs.Meaning.{answered_of, content_of, layout_of, number_of, offset_list, pin_checksum_of, pin_of, rest_of, unnamed_of}
+use Rattle.df_units.specs.Meaning.{answered_of, content_of, layout_of, number_of, offset_list, or_nothing, pin_checksum_of, pin_of, rest_of, unnamed_of}
 use Rattle.df_units.specs.Format.{shape_as, shape_of}
 use Rattle.df_units.specs.Superblocks.{AreFieldsOf, HasChecks, PassingIsUsable, UsablePasses}
 use Rattle.df_units.proofs.Numbers.{no_number, one_number}
-use Rattle.df_units.proofs.Versions.{by_other, by_second, none_zero, spare_zero}
+use Rattle.df_units.proofs.Versions.{are_zeros_of, by_other, by_second, named_zeros, none_zero, nothing, spare_zero, zeros_are}
 
 zeros_behind : (xs : List ℕ) (o : Option ℕ) → ((i : ℕ) → slice_index xs i ≡ 0) → o ≡ None → (i : ℕ) → slice_index (xs ++ offset_list o) i ≡ 0
 zeros_behind xs None zeros none i = ap (λ (l : List ℕ). slice_index l i) (append-nil xs) ∙ zeros i
@@ -27,14 +28,17 @@ zeros_behind xs (Some n) zeros none i = absurd (cc)
 -- what version 1 leaves empty is zeros, and what version 2 does
 first_rest : (f : SuperFields) → IsFirstSuper f → f.first_nonzero ≡ None → (i : ℕ) → slice_index (rest_of f) i ≡ 0
 first_rest f is none =
-    zeros_behind (unnamed_of f) f.first_nonzero (λ i. ap (λ (l : List ℕ). slice_index l i) (by_other f [] (number_of f.head_checksum ∷ map number_of f.reply_checksums) (λ second. omega (arith, second, is.version))) ∙ zeros i) none
+    zeros_behind (unnamed_of f) f.first_nonzero (λ i. ap (λ (l : List ℕ). slice_index l i) (by_other f [] (or_nothing mine) (λ second. omega (arith, second, is.version)) ∙ nothing mine (are_zeros_of mine zeros))) none
   where
+    mine : List ℕ
+    mine = number_of f.head_checksum ∷ map number_of f.reply_checksums
+
     zeros : (i : ℕ) → slice_index (number_of f.head_checksum ∷ map number_of f.reply_checksums) i ≡ 0
     zeros zero = ap number_of is.named.head ∙ no_number
     zeros (suc i) = none_zero f.reply_checksums is.named.replies i
 
 second_rest : (f : SuperFields) → f.version ≡ 2 → f.first_nonzero ≡ None → (i : ℕ) → slice_index (rest_of f) i ≡ 0
-second_rest f is none = zeros_behind (unnamed_of f) f.first_nonzero (λ i. ap (λ (l : List ℕ). slice_index l i) (by_second f [] (number_of f.head_checksum ∷ map number_of f.reply_checksums) is)) none
+second_rest f is none = zeros_behind (unnamed_of f) f.first_nonzero (λ i. ap (λ (l : List ℕ). slice_index l i) (by_second f [] (or_nothing (number_of f.head_checksum ∷ map number_of f.reply_checksums)) is)) none
 
 -- what the tests ask of a version alone
 record PassesVersion (sh : Shape) (c : Units.Content) : Type 0 where
@@ -132,12 +136,22 @@ nothing_else xs None zeros = refl
 nothing_else [] (Some n) zeros = absurd (let one : suc n ≡ 0 = zeros 0 in omega arith)
 nothing_else (x ∷ xs) (Some n) zeros = nothing_else xs (Some n) (λ i. zeros (suc i))
 
+-- and where that and these numbers are zeros, nothing is there
+pub no_rest : (f : SuperFields) → ((i : ℕ) → slice_index (rest_of f) i ≡ 0) → rest_of f ≡ []
+no_rest f zeros =
+    let mine : List ℕ = number_of f.head_checksum ∷ map number_of f.reply_checksums in
+    let none : f.first_nonzero ≡ None = nothing_else (unnamed_of f) f.first_nonzero zeros in
+    let unnamed : unnamed_of f ≡ [] = elim (cases_eq f.version 2) [
+      | inl second ↦ by_second f [] (or_nothing mine) second
+      | inr other ↦
+          let is : unnamed_of f ≡ or_nothing mine = by_other f [] (or_nothing mine) other in
+          is ∙ nothing mine (named_zeros mine (offset_list f.first_nonzero) (λ i. ap (λ (l : List ℕ). slice_index (l ++ offset_list f.first_nonzero) i) (sym is) ∙ zeros i))
+    ] in
+    λ i. unnamed i ++ offset_list (none i)
+
 -- checksums whose numbers are zeros are none
 none_from : (checks : List (List ℕ)) → All IsCheck checks → ((k : ℕ) → k < length checks → slice_index (map number_of checks) k ≡ 0) → AreNone checks
 none_from checks each zeros k past inside = zero_number (get_or checks k past) (each k past inside) (sym (get_or-map number_of checks k past 0 inside) ∙ zeros k inside)
-
-front_zero : (xs ys : List ℕ) (k : ℕ) → ((i : ℕ) → slice_index (xs ++ ys) i ≡ 0) → k < length xs → slice_index xs k ≡ 0
-front_zero xs ys k zeros inside = sym (get_or_append_left xs ys 0 k inside) ∙ zeros k
 
 module _ (c : Content) (checks : HasChecks c) where
   abbrev f : SuperFields
@@ -146,14 +160,14 @@ module _ (c : Content) (checks : HasChecks c) where
   first_from : f.version ≡ 1 → IsOfVersion (content_of c) → ((i : ℕ) → slice_index (rest_of f) i ≡ 0) → IsFirstSuper f
   first_from first of rest =
       let mine : List ℕ = number_of f.head_checksum ∷ map number_of f.reply_checksums in
-      let same : rest_of f ≡ mine ++ offset_list f.first_nonzero = ap (λ (l : List ℕ). l ++ offset_list f.first_nonzero) (by_other f [] mine (λ second. omega (arith, second, first))) in
-      let all : (i : ℕ) → slice_index (mine ++ offset_list f.first_nonzero) i ≡ 0 = λ i. sym (ap (λ (l : List ℕ). slice_index l i) same) ∙ rest i in
+      let same : rest_of f ≡ or_nothing mine ++ offset_list f.first_nonzero = ap (λ (l : List ℕ). l ++ offset_list f.first_nonzero) (by_other f [] (or_nothing mine) (λ second. omega (arith, second, first))) in
+      let all : (i : ℕ) → slice_index mine i ≡ 0 = zeros_are mine (named_zeros mine (offset_list f.first_nonzero) (λ i. sym (ap (λ (l : List ℕ). slice_index l i) same) ∙ rest i)) in
       record {
         version = first;
         boot = (of.one first).0;
         named = record {
           head = zero_number f.head_checksum checks.head_checksum (all 0);
-          replies = none_from f.reply_checksums checks.reply_checksums.each (λ k inside. front_zero (map number_of f.reply_checksums) (offset_list f.first_nonzero) k (λ i. all (suc i)) (omega (arith, inside, length-map f.reply_checksums number_of)));
+          replies = none_from f.reply_checksums checks.reply_checksums.each (λ k inside. all (suc k));
         };
       }
 

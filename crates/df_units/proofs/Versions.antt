@@ -1,8 +1,8 @@
 -- What the two versions of a superblock and of a header mean, and that contents of either can be told apart.
-use Rattle.std.proofs.Common.{inl, inr, ◌≡◌, ◌≢◌, ◌≤◌, ◌+◌, ◌-◌, ◌==◌, ℕ, suc, List, [], ◌∷◌, ◌++◌, length, drop, get_or, cond, refl, sym, ◌∙◌, ap, arith}
+use Rattle.std.proofs.Common.{inl, inr, ◌≡◌, ◌≢◌, ◌⊎◌, ◌≤◌, ◌<◌, ◌+◌, ◌-◌, ◌==◌, ℕ, zero, suc, List, [], ◌∷◌, ◌++◌, true, false, length, drop, get_or, cond, refl, sym, ◌∙◌, ap, arith}
 use Rattle.std.specs.Prelude.{All, map, slice_index}
-use Rattle.std.proofs.lemmas.Bool.{cond-true, cond-false, cases_lt, eq-eqb, ne_eqb}
-use Rattle.std.proofs.lemmas.List.{ext_get_or, get_or-drop, get_or-map, get_or_past, length-drop, length-map, length-replicate}
+use Rattle.std.proofs.lemmas.Bool.{and_from, and_parts, cases_Bool, cond-true, cond-false, cases_lt, eq-eqb, eqb-true, ne_eqb}
+use Rattle.std.proofs.lemmas.List.{ext_get_or, get_or-drop, get_or-map, get_or_append_left, get_or_past, length-append, length-drop, length-map, length-replicate}
 use Rattle.df_format.specs.declared.header.Header.{Header}
 use Rattle.df_format.specs.declared.kind.Kind.{Kind}
 use Rattle.df_format.specs.declared.kind.Kind.TheVariants.{Reserved, Prepare, Reply, Block, Trailer}
@@ -12,7 +12,7 @@ use Rattle.df_format.specs.Rules.{HasBoot, ObeysVersion}
 use Rattle.df_format.specs.Super.{AreNone, no_checksums}
 use Rattle.df_format.proofs.Laws.{no_names}
 use Rattle.df_theory.specs.Units.{IsAlone}
-use Rattle.df_units.specs.Meaning.{header_of, number_of, number_or}
+use Rattle.df_units.specs.Meaning.{are_zeros, header_of, number_of, number_or, or_nothing}
 use Rattle.df_units.proofs.Numbers.{no_number, one_number}
 
 -- ---- headers
@@ -87,6 +87,49 @@ parts_same (x ∷ xs) (y ∷ ys) behind after size same =
     let both = cons_same x y (xs ++ behind) (ys ++ after) same in
     let rest = parts_same xs ys behind after (omega (arith, size)) both.1 in
     ((λ i. both.0 i ∷ rest.0 i), rest.1)
+
+-- ---- numbers that are zeros
+
+pub zeros_are : (ns : List ℕ) → are_zeros ns ≡ true → (k : ℕ) → slice_index ns k ≡ 0
+zeros_are [] are k = refl
+zeros_are (n ∷ ns) are zero = eqb-true n 0 (and_parts (n == 0) (are_zeros ns) are).0
+zeros_are (n ∷ ns) are (suc k) = zeros_are ns (and_parts (n == 0) (are_zeros ns) are).1 k
+
+pub are_zeros_of : (ns : List ℕ) → ((k : ℕ) → slice_index ns k ≡ 0) → are_zeros ns ≡ true
+are_zeros_of [] zeros = refl
+are_zeros_of (n ∷ ns) zeros = and_from (n == 0) (are_zeros ns) (eq-eqb n 0 (zeros 0)) (are_zeros_of ns (λ k. zeros (suc k)))
+
+one_zeros : (xs ys : List ℕ) → length xs ≡ length ys → are_zeros xs ≡ true → are_zeros ys ≡ true → xs ≡ ys
+one_zeros xs ys size none nothing = ext_get_or 0 xs ys size (λ k inside. zeros_are xs none k ∙ sym (zeros_are ys nothing k))
+
+pub nothing : (ns : List ℕ) → are_zeros ns ≡ true → or_nothing ns ≡ []
+nothing ns are = cond-true (are_zeros ns) [] ns are
+
+something : (ns : List ℕ) → are_zeros ns ≡ false → or_nothing ns ≡ ns
+something ns are = cond-false (are_zeros ns) [] ns are
+
+-- zeros are there or not: with others behind them they are told apart from lists of their length
+pub named_or_nothing : (xs ys behind after : List ℕ) → length xs ≡ length ys → length behind < length ys → length after < length xs → or_nothing xs ++ behind ≡ or_nothing ys ++ after → (xs ≡ ys) × (behind ≡ after)
+named_or_nothing xs ys behind after size few less same = by (cases_Bool (are_zeros xs)) (cases_Bool (are_zeros ys))
+  where
+    short : (ws more rest : List ℕ) → length more < length ws → more ≡ ws ++ rest → ⊥
+    short ws more rest few is = omega (arith, few, ap length is, length-append ws rest)
+
+    by : (are_zeros xs ≡ true) ⊎ (are_zeros xs ≡ false) → (are_zeros ys ≡ true) ⊎ (are_zeros ys ≡ false) → (xs ≡ ys) × (behind ≡ after)
+    by (inl none) (inl no_other) = (one_zeros xs ys size none no_other, ap (λ (l : List ℕ). l ++ behind) (sym (nothing xs none)) ∙ same ∙ ap (λ (l : List ℕ). l ++ after) (nothing ys no_other))
+    by (inl none) (inr other) = absurd (short ys behind after few (ap (λ (l : List ℕ). l ++ behind) (sym (nothing xs none)) ∙ same ∙ ap (λ (l : List ℕ). l ++ after) (something ys other)))
+    by (inr some) (inl no_other) = absurd (short xs after behind less (ap (λ (l : List ℕ). l ++ after) (sym (nothing ys no_other)) ∙ sym same ∙ ap (λ (l : List ℕ). l ++ behind) (something xs some)))
+    by (inr some) (inr other) = parts_same xs ys behind after size (ap (λ (l : List ℕ). l ++ behind) (sym (something xs some)) ∙ same ∙ ap (λ (l : List ℕ). l ++ after) (something ys other))
+
+-- where all that is there is zeros, so are these
+pub named_zeros : (ns behind : List ℕ) → ((k : ℕ) → slice_index (or_nothing ns ++ behind) k ≡ 0) → are_zeros ns ≡ true
+named_zeros ns behind zeros = elim (cases_Bool (are_zeros ns)) [ inl none ↦ none | inr some ↦ are_zeros_of ns (each some) ]
+  where
+    each : are_zeros ns ≡ false → (k : ℕ) → slice_index ns k ≡ 0
+    each some k = elim (cases_lt k (length ns)) [
+      | inl inside ↦ sym (get_or_append_left ns behind 0 k inside) ∙ ap (λ (l : List ℕ). slice_index (l ++ behind) k) (sym (something ns some)) ∙ zeros k
+      | inr past ↦ get_or_past ns k 0 past
+    ]
 
 -- checksums are told apart by their numbers
 pub checks_same : (xs ys : List (List ℕ)) → All IsCheck xs → All IsCheck ys → length xs ≡ length ys → map number_of xs ≡ map number_of ys → xs ≡ ys

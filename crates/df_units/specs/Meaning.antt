@@ -1,6 +1,6 @@
 -- The dictionary: which place, layout and unit of the theory each one of the format is. It goes one way: the bytes learn the
 -- theory's words here, once, and the theory never learns of bytes.
-use Rattle.std.specs.Prelude.{◌==◌, ◌+◌, ℕ, suc, if◌then◌else◌, List, [], ◌∷◌, ◌++◌, map, Option, Some, None}
+use Rattle.std.specs.Prelude.{◌==◌, ◌+◌, ◌&&◌, ℕ, suc, Bool, true, if◌then◌else◌, List, [], ◌∷◌, ◌++◌, map, Option, Some, None}
 use Rattle.df_base.specs.Fields.{field_at}
 use Rattle.df_layout.specs.declared.layout.Layout.{Layout}
 use Rattle.df_layout.specs.declared.places.Place.{Place}
@@ -86,11 +86,20 @@ answered_of f = if f.version == 2 then f.replies + 1 else 0
 abbrev pub reply_checksums_of : SuperFields → List ℕ
 reply_checksums_of f = if f.version == 2 then map number_of f.reply_checksums else []
 
+-- all of these numbers are zeros
+abbrev pub are_zeros : List ℕ → Bool
+are_zeros [] = true
+are_zeros (n ∷ ns) = (n == 0) && are_zeros ns
+
+-- these numbers, and nothing where all of them are zeros
+abbrev pub or_nothing : List ℕ → List ℕ
+or_nothing ns = if are_zeros ns then [] else ns
+
 -- what version 2 names, where another version leaves it empty
 abbrev pub unnamed_of : SuperFields → List ℕ
-unnamed_of f = if f.version == 2 then [] else number_of f.head_checksum ∷ map number_of f.reply_checksums
+unnamed_of f = if f.version == 2 then [] else or_nothing (number_of f.head_checksum ∷ map number_of f.reply_checksums)
 
--- what the version leaves zero: that, and the offset of the first byte that isn't zero where it has no fields, if any
+-- what should be zero in this version and isn't: that, and the offset of the first byte that isn't zero where it has no fields, if any
 abbrev pub rest_of : SuperFields → List ℕ
 rest_of f = unnamed_of f ++ offset_list f.first_nonzero
 

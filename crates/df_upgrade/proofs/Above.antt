@@ -19,9 +19,7 @@ use Rattle.df_format.specs.declared.superblock.SuperFields.{SuperFields}
 use Rattle.df_headers.specs.Ring.{sector_writes}
 use Rattle.df_quorum.specs.Quorum.{IsChosen}
 use Rattle.df_superblock.specs.Events.{repair_events}
-use Rattle.df_superblock.proofs.Mends.{Spares, member_spared, other_written, written_shows}
-use Rattle.df_superblock.proofs.Puts.{copy_put}
-use Rattle.df_superblock.proofs.Sights.{seen_apart}
+use Rattle.df_superblock.proofs.Laws.{Spares, copy_put, member_spared, other_written, seen_apart, written_shows}
 use Rattle.df_damage.proofs.Laws.{added_is_told, super_as}
 use Rattle.df_damage.specs.Anew.{told_after}
 use Rattle.df_opening.specs.Mending.{header_events, sectors_of}

@@ -1,5 +1,5 @@
 -- What an upgrade does behind its survey keeps the bare view in a log that is begun anew, whatever the copies showed, and leaves a file of version 2.
-use Rattle.std.proofs.Common.{◌≡◌, ◌⊎◌, inl, inr, ℕ, ◌++◌, List, [], length, slice_index, Option, Some, None, ◌∙◌, ap, append-nil, subst, arith, refl, sym}
+use Rattle.std.proofs.Common.{◌≡◌, ◌⊎◌, inl, inr, ℕ, ◌||◌, false, List, [], ◌∷◌, length, slice_index, Option, Some, None, ◌∙◌, ap, subst, arith, refl, sym}
 use Rattle.std.specs.Prelude.{Ok}
 use Rattle.df_base.specs.Log as Log
 use Rattle.df_base.specs.Image.{Image, IsImage}
@@ -8,31 +8,33 @@ use Rattle.df_disk.specs.Adds.{after_all}
 use Rattle.df_disk.specs.Told.{Told}
 use Rattle.df_disk.proofs.Laws.{after_append}
 use Rattle.df_format.specs.Copies.{content_with}
-use Rattle.df_format.specs.Message.{Message}
 use Rattle.df_format.specs.SuperRules.{IsUsable}
 use Rattle.df_theory.specs.Chance.{EachLeft}
-use Rattle.df_theory.specs.Device.{AreSteps, Format}
-use Rattle.df_theory.specs.Found.{AreOfPlaces, IsFound}
-use Rattle.df_theory.specs.Holds.{IsWhole}
-use Rattle.df_theory.specs.Next.{IsSameBare, MayBoot, SameCheckpoint, booted}
-use Rattle.df_theory.specs.Runs.{AtEach, Step, after_steps}
+use Rattle.df_theory.specs.Device.{AreSteps, NoChanceOf, units_log}
+use Rattle.df_theory.specs.Found.{AreOfPlaces, IsClean, IsFound}
+use Rattle.df_theory.specs.Holds.{Holds, IsWhole}
+use Rattle.df_theory.specs.Next.{IsSameBare, MayBoot, booted}
+use Rattle.df_theory.specs.Runs.{AtEach, Puts, Step, Syncs, after_steps}
 use Rattle.df_theory.specs.Shape.{Shape}
+use Rattle.df_theory.specs.Shows.{AgreesCopy}
 use Rattle.df_theory.specs.Units
-use Rattle.df_theory.specs.Units.{AnyUnit, BlockPlace, BlockUnit, Content, CopyPlace, CopyUnit, HeaderPlace, HeaderUnit, PreparePlace, PrepareUnit, ReplyPlace, ReplyUnit}
+use Rattle.df_theory.specs.Units.{AnyUnit, BlockPlace, Content, CopyPlace, CopyUnit, Place, PreparePlace, ReplyPlace, is_some, or_else}
+use Rattle.df_theory.specs.UnitLog as units
 use Rattle.df_theory.specs.UnitLog.{UnitLog, now}
 use Rattle.df_theory.specs.Upgrades as upgrades
-use Rattle.df_theory.specs.Upgrades.{EndsRaised, HasBare, MayRaise, as_version, of_version, raise_steps}
+use Rattle.df_theory.specs.Upgrades.{BeginsRaised, EndsRaised, HasBare, IsRaised, MayRaise, as_version, of_version}
 use Rattle.df_theory.specs.View.{View, boot_of}
-use Rattle.df_theory.proofs.Laws.{firm_units, moments, now_units}
-use Rattle.df_theory.proofs.Upgrades.{upgrade_law}
-use Rattle.df_units.specs.Bytes.{copy_unit, message_unit, unit_at}
-use Rattle.df_units.specs.Meaning.{block_of, content_of, header_of, layout_of, message_of, number_of, offset_list, unit_of}
-use Rattle.df_units.proofs.Laws.{all_added, call_ends, is_format, of_places}
+use Rattle.df_theory.proofs.Laws.{firm_units, moments, now_units, one_chosen_law, raise_anew_law, raise_ends_law, upgrade_law}
+use Rattle.df_units.specs.Bytes.{unit_at}
+use Rattle.df_units.specs.Meaning.{content_of, layout_of, number_of, offset_list}
+use Rattle.df_units.specs.Puts.{put_copies}
+use Rattle.df_units.proofs.Laws.{all_added, call_ends, is_format, no_rest, of_places}
 use Rattle.df_trailer.specs.Text.{parse_of}
 use Rattle.df_superblock.specs.Copies.{AreEqual}
 use Rattle.df_superblock.specs.Events.{update_events}
 use Rattle.df_superblock.specs.Steps.{repaired}
-use Rattle.df_superblock.proofs.Written.{ends_equal}
+use Rattle.df_superblock.proofs.Laws.{ends_equal}
+use Rattle.df_model.specs.Result.{AgreeReads}
 use Rattle.df_model.proofs.Laws.{boot_may_law}
 use Rattle.df_damage.specs.Anew.{IsStill, begun, told_after}
 use Rattle.df_damage.specs.Below.{DataFile, Represents, shape, spelling}
@@ -42,40 +44,31 @@ use Rattle.df_opening.specs.Keeping.{format}
 use Rattle.df_opening.specs.Mending.{first_state, sector_puts, sectors_of}
 use Rattle.df_opening.specs.Raising.{IsPlannedOf}
 use Rattle.df_opening.specs.Survey.{Survey}
-use Rattle.df_opening.proofs.Laws.{IsPlannedIn, codec_of, content_is, planned_in}
+use Rattle.df_opening.proofs.Laws.{IsPlannedIn, clean_beyond, codec_of, content_is, planned_in, put_nothing, raising_aside, unit_after}
 use Rattle.df_upgrade.specs.Base.{base_fields}
-use Rattle.df_upgrade.specs.Upgrading.{EndsUpgraded, StaysBare, UpgradesAnew, as_second, restoring_events, second, upgraded, upgrading_events, upgrading_steps}
-use Rattle.df_upgrade.proofs.Filled.{checksum_filled, copy_to, fill_image, fill_unit, filled, first_filled, from_at, second_filled}
-use Rattle.df_upgrade.proofs.FillSteps.{filled_format, filled_steps, is_filled, puts_of, raising_filled}
-use Rattle.df_upgrade.proofs.FillChances.{IsOwn, no_chance_filled}
-use Rattle.df_upgrade.proofs.Reread.{first_found, found_filled, second_found}
+use Rattle.df_upgrade.specs.Upgrading.{EndsUpgraded, Leaves, StaysBare, UpgradesAnew, restoring_events, second, upgraded, upgrading_events, upgrading_steps}
 use Rattle.df_upgrade.proofs.Records.{base_content}
 
--- a copy of the superblock is shown at a copy's place alone
-own_message : (place : Units.Place) (o : Option Message) (x : AnyUnit) → (at : (u : Message) → (y : AnyUnit) × (unit_of place u ≡ Some y) × IsOwn place y) → message_unit place o ≡ Some x → IsOwn place x
-own_message place None x at is = absurd (let none : None ≡ Some x = is in cc)
-own_message place (Some u) x at is =
-    let y = at u in
-    let same : y.0 ≡ x = (let both : Some y.0 ≡ Some x = sym y.1 ∙ is in cc) in
-    subst (IsOwn place) same y.2
+-- ---- what steps leave alone
 
-own_units : (file : DataFile) (image : Image) (place : Units.Place) (x : AnyUnit) → unit_at file.layout file.cluster image place ≡ Some x → IsOwn place x
-own_units file image (CopyPlace n) x is = tt
-own_units file image (HeaderPlace s) x is = own_message (HeaderPlace s) _ x (λ u. (HeaderUnit (header_of u.header), refl, tt)) is
-own_units file image (PreparePlace s) x is = own_message (PreparePlace s) _ x (λ u. (PrepareUnit (message_of u), refl, tt)) is
-own_units file image (ReplyPlace k) x is = own_message (ReplyPlace k) _ x (λ u. (ReplyUnit (message_of u), refl, tt)) is
-own_units file image (BlockPlace a) x is = own_message (BlockPlace a) _ x (λ u. (BlockUnit (block_of u), refl, tt)) is
+module _ (place : Place) (shown : Option AnyUnit) where
+  -- nothing is loose there, and this is shown
+  abbrev IsFirm : UnitLog → Type 0
+  IsFirm log = (units.loose log place ≡ false) × (now log place ≡ shown)
 
--- units that carry more are of their places
-places_filled : (zs : List ℕ) (sh : Shape) (image : Units.Units) → AreOfPlaces sh image → AreOfPlaces sh (fill_image zs image)
-places_filled zs sh image of (CopyPlace n) x is =
-    let old = from_at zs (CopyPlace n) (image (CopyPlace n)) x is in
-    let c = of (CopyPlace n) old.0 old.1 in
-    (filled zs c.0, old.2 ∙ ap (fill_unit zs) c.1, omega (arith, c.2, checksum_filled zs c.0))
-places_filled zs sh image of (HeaderPlace s) x is = of (HeaderPlace s) x is
-places_filled zs sh image of (PreparePlace s) x is = of (PreparePlace s) x is
-places_filled zs sh image of (ReplyPlace k) x is = of (ReplyPlace k) x is
-places_filled zs sh image of (BlockPlace a) x is = of (BlockPlace a) x is
+  stays_firm : (ss : List Step) (log : UnitLog) → unit_after ss place None ≡ None → IsFirm log → AtEach IsFirm log ss
+  stays_firm [] log none firm = firm
+  stays_firm ((Puts put) ∷ ss) log none firm =
+      let parts = put_nothing put ss place none in
+      (firm, stays_firm ss (units.wrote put log) parts.1 (ap (λ (o : Option AnyUnit). is_some o || units.loose log place) parts.0 ∙ firm.0, ap (λ (o : Option AnyUnit). or_else o (now log place)) parts.0 ∙ firm.1))
+  stays_firm (Syncs ∷ ss) log none firm = (firm, stays_firm ss (units.add units.Synced log) none (refl, firm.1))
+
+-- an image that holds a view is a clean start
+clean_of : (sh : Shape) (image : Units.Units) (v : View) → Holds sh image v → IsClean image v
+clean_of sh image v holds n c there =
+    let agrees = holds.bears.agrees (CopyPlace n) (CopyUnit c) there in
+    let same : c ≡ agrees.0 = (let both : CopyUnit c ≡ CopyUnit agrees.0 = agrees.1 in cc) in
+    subst (AgreesCopy v n) (sym same) agrees.2
 
 module _ (view : View) (s : Survey) (base : Told) (four : length s.chosen.members ≡ 4) (one : s.state.file.version ≡ 1) (usable : IsUsable (base_fields s.state))
     (plan : IsPlannedOf s (begun base)) (whole : IsImage base.shown) (found : IsFound (shape s.state.file) (unit_at s.state.file.layout s.state.file.cluster base.shown) view)
@@ -83,37 +76,26 @@ module _ (view : View) (s : Survey) (base : Told) (four : length s.chosen.member
   abbrev file : DataFile
   file = s.state.file
 
+  abbrev c : Content
+  c = view.checkpoint.content
+
+  abbrev d : Content
+  d = content_of (content_with (base_fields s.state))
+
+  abbrev headers : List Units.Units
+  headers = sector_puts s.state.headers (sectors_of file.layout s.mends)
+
   abbrev sh : Shape
   sh = shape file
 
   abbrev later : Shape
   later = shape (second file)
 
-  abbrev image : Units.Units
-  image = unit_at file.layout file.cluster base.shown
-
-  abbrev headers : List Units.Units
-  headers = sector_puts s.state.headers (sectors_of file.layout s.mends)
-
   abbrev copies : List (ℕ × Units.Units)
   copies = repaired s.state.fields 0 s.chosen.members
 
-  abbrev c : Content
-  c = view.checkpoint.content
-
-  -- what version 1 leaves empty
-  abbrev zs : List ℕ
-  zs = c.rest
-
-  abbrev f : Format
-  f = filled_format zs (format file)
-
-  -- the new superblock, and the content that carries it
-  abbrev e : Content
-  e = content_of (content_with (base_fields s.state))
-
-  abbrev d : Content
-  d = filled zs e
+  abbrev image : Units.Units
+  image = unit_at file.layout file.cluster base.shown
 
   own_content : c ≡ content_of (content_with s.state.fields)
   own_content = content_is file view s.state.headers s.mends s.state.fields s.chosen.members (begun base) four plan whole found distinct
@@ -132,57 +114,28 @@ module _ (view : View) (s : Survey) (base : Told) (four : length s.chosen.member
 
   -- ---- the content
 
-  rest_none : e.rest ≡ []
-  rest_none = ap offset_list usable.rules.zero
-
-  zeros : (i : ℕ) → slice_index e.rest i ≡ 0
-  zeros i = ap (λ (l : List ℕ). slice_index l i) rest_none
-
-  carries : d ≡ record e { rest = zs }
-  carries = second_filled zs e refl ∙ (λ i. record e { rest = zs ++ rest_none i }) ∙ (λ i. record e { rest = append-nil zs i })
+  -- version 1 leaves nothing there, and version 2 does
+  same_rest : d.rest ≡ c.rest
+  same_rest =
+      let nothing : d.rest ≡ [] = ap offset_list usable.rules.zero in
+      nothing ∙ sym (ap (λ (x : Content). x.rest) own_content ∙ no_rest s.state.fields (λ i. ap (λ (x : Content). slice_index x.rest i) (sym own_content) ∙ found.checkpoint.tests.rest i))
 
   may_boot : MayBoot (as_version 2 view) d
   may_boot =
-      subst (MayBoot (as_version 2 view)) (sym (carries ∙ base_content s.state sh (spelling file) image view unbooted stands))
+      subst (MayBoot (as_version 2 view)) (sym ((λ i. record d { rest = same_rest i }) ∙ base_content s.state sh (spelling file) image view unbooted stands))
       (boot_may_law sh (spelling file) image view (number_of (content_with (base_fields s.state)).checksum) (codec_of file) (omega (arith, file.layout.clients_within.1)) places found (omega (arith, unbooted)))
 
-  copy_same : (n : ℕ) → image (CopyPlace n) ≡ Some (CopyUnit c) → fill_image zs image (CopyPlace n) ≡ Some (CopyUnit c)
-  copy_same n at = copy_to zs image n c at ∙ ap (λ (x : Content). Some (CopyUnit x)) (first_filled zs c first)
-
-  may : MayRaise sh 2 (fill_image zs image) view (headers_in s.state.headers) headers copies d
-  may = record {
-    places = places_filled zs sh image places;
-    found = found_filled zs sh image view first found;
-    tells = λ slot. record { from = (planned.tells slot).from; tail = (planned.tells slot).tail };
-    puts_headers = planned.puts_headers;
-    agreed = record {
-      first = planned.agreed.first;
-      second = planned.agreed.second;
-      apart = planned.agreed.apart;
-      inside = planned.agreed.inside;
-      at_first = copy_same planned.agreed.first planned.agreed.at_first;
-      at_second = copy_same planned.agreed.second planned.agreed.at_second;
-    };
-    puts_copies = planned.puts_copies;
-    each_slot = planned.each_slot;
-    each_copy = λ k below. elim (planned.each_copy k below) [ inl shown ↦ inl (copy_same k shown) | inr number ↦ inr number ];
-    boot = may_boot;
-  }
+  may : MayRaise sh 2 image view (headers_in s.state.headers) headers copies d
+  may = record { places = places; found = found; tells = planned.tells; puts_headers = planned.puts_headers; agreed = planned.agreed; puts_copies = planned.puts_copies; each_slot = planned.each_slot; each_copy = planned.each_copy; boot = may_boot }
 
   -- ---- the law
 
   abbrev ss : List Step
-  ss = raise_steps headers copies (puts_of d)
+  ss = upgrading_steps s
 
-  are : AreSteps f (upgrading_events s) ss
-  are =
-      let own : content_of (content_with s.state.fields) ≡ c = sym own_content in
-      let same : filled zs (content_of (content_with s.state.fields)) ≡ content_of (content_with s.state.fields) = first_filled zs (content_of (content_with s.state.fields)) (ap (λ (x : Content). x.version) own ∙ first) in
-      subst (AreSteps f (upgrading_events s)) (raising_filled zs file.layout s.state.headers s.mends s.state.fields s.chosen.members (base_fields s.state) same) (filled_steps zs (format file) (upgrading_events s) (upgrading_steps s) steps)
-
-  law : AtEach (λ log. EachLeft log (λ left. HasBare sh 2 left view d)) (upgrades.begun (fill_image zs image)) ss × IsSameBare (as_version 2 view) (booted view d)
-      × EndsRaised (of_version 2 sh) (after_steps ss (upgrades.begun (fill_image zs image))) (booted view d) × (c.version ≡ 1) × (d.version ≡ 2) × (d.boot ≡ 1)
-  law = upgrade_law sh (fill_image zs image) view (headers_in s.state.headers) headers copies d (puts_of d) one may
+  law : AtEach (λ log. EachLeft log (λ left. HasBare sh 2 left view d)) (upgrades.begun image) ss × IsSameBare (as_version 2 view) (booted view d)
+      × EndsRaised (of_version 2 sh) (after_steps ss (upgrades.begun image)) (booted view d) × (c.version ≡ 1) × (d.version ≡ 2) × (d.boot ≡ 1)
+  law = upgrade_law sh image view (headers_in s.state.headers) headers copies d (put_copies (base_fields s.state)) one may
 
   -- ---- its moments
 
@@ -192,33 +145,63 @@ module _ (view : View) (s : Survey) (base : Told) (four : length s.chosen.member
   added : end.log ≡ adds (upgrading_events s) (begun base).log
   added = all_added (upgrading_events s) (begun base) end (sym (added_is_told (upgrading_events s) (begun base)))
 
-  back : (m : Image) → HasBare sh 2 (fill_image zs (unit_at file.layout file.cluster m)) view d → IsFound sh (unit_at file.layout file.cluster m) view ⊎ IsFound later (unit_at file.layout file.cluster m) (upgraded view (base_fields s.state))
-  back m (inl old) = inl (first_found zs sh (unit_at file.layout file.cluster m) view first old)
-  back m (inr new) = inr (second_found zs later (unit_at file.layout file.cluster m) view e refl zeros new)
+  -- what each image left has by the steps, it has by the device calls
+  module _ (P : UnitLog → Type 0) (Q : Log.Log → Type 0) (implies : (l : Log.Log) → Log.IsLog l → P (units_log (format file) l) → Q l) (each : AtEach P (upgrades.begun image) ss) where
+    at_moments : EachMoment (begun base).log end.log Q
+    at_moments = subst (λ (l : Log.Log). EachMoment (begun base).log l Q) (sym added) (moments (format file) P Q implies (upgrading_events s) ss (begun base).log (record { start = whole; events = tt }) steps each)
 
-  moments_both : EachMoment (begun base).log end.log (λ l. Log.IsLog l × StaysBare file view (base_fields s.state) l)
-  moments_both =
-      subst (λ (l : Log.Log). EachMoment (begun base).log l (λ m. Log.IsLog m × StaysBare file view (base_fields s.state) m)) (sym added)
-      (moments f (λ log. EachLeft log (λ left. HasBare sh 2 left view d)) (λ l. Log.IsLog l × StaysBare file view (base_fields s.state) l)
-      (λ l is left. (
-        is,
-        record {
-          left = λ m gone chance.
-              back m (left (fill_image zs (unit_at file.layout file.cluster m)) (firm_units f (is_filled zs (format file) (is_format file.layout file.cluster)) l m gone.kept) (no_chance_filled zs (format file) (own_units file) l m chance));
-        },
-      )) (upgrading_events s) ss (begun base).log (record { start = whole; events = tt }) are law.0)
+  left_by : (l : Log.Log) (m : Image) → Log.IsLeft l m → units.IsLeftBy (units_log (format file) l) (unit_at file.layout file.cluster m)
+  left_by l m gone = firm_units (format file) (is_format file.layout file.cluster) l m gone.kept
 
-  bare : IsSameBare (as_second view) (upgraded view (base_fields s.state))
-  bare =
-      let same : SameCheckpoint (record c { version = 2 }) (record e { rest = zs }) = subst (SameCheckpoint (record c { version = 2 })) carries law.1.content in
-      record {
-        content = record { file = (same.file.0, same.file.1, same.file.2, rest_none); sequence = same.sequence; op = same.op; trailer = same.trailer };
-        chain = refl;
-        parts = refl;
-        tail = refl;
-        replies = refl;
-        stored = λ k. refl;
-      }
+  -- of the images left
+  abbrev OfLeft : (Units.Units → Type 0) → Log.Log → Type 0
+  OfLeft R l = (m : Image) → Log.IsLeft l m → NoChanceOf (format file) l m → R (unit_at file.layout file.cluster m)
+
+  have_bare : EachMoment (begun base).log end.log (OfLeft (λ left. HasBare sh 2 left view d))
+  have_bare = at_moments (λ log. EachLeft log (λ left. HasBare sh 2 left view d)) (OfLeft (λ left. HasBare sh 2 left view d)) (λ l is each m gone chance. each (unit_at file.layout file.cluster m) (left_by l m gone) chance) law.0
+
+  hold : IsClean image view → EachMoment (begun base).log end.log (OfLeft (λ left. Holds sh left view ⊎ IsRaised (of_version 2 sh) left (booted view d)))
+  hold clean =
+      at_moments (λ log. EachLeft log (λ left. Holds sh left view ⊎ IsRaised (of_version 2 sh) left (booted view d))) (OfLeft (λ left. Holds sh left view ⊎ IsRaised (of_version 2 sh) left (booted view d)))
+      (λ l is each m gone chance. each (unit_at file.layout file.cluster m) (left_by l m gone) chance)
+      (raise_anew_law sh 2 image view (headers_in s.state.headers) headers copies d (put_copies (base_fields s.state)) may clean)
+
+  same_at : (place : Place) → unit_after ss place None ≡ None → EachMoment (begun base).log end.log (λ l. (m : Image) → Log.IsLeft l m → unit_at file.layout file.cluster m place ≡ image place)
+  same_at place aside =
+      at_moments (IsFirm place (image place)) (λ l. (m : Image) → Log.IsLeft l m → unit_at file.layout file.cluster m place ≡ image place) (λ l is firm m gone. left_by l m gone place firm.0 ∙ firm.1)
+      (stays_firm place (image place) ss (upgrades.begun image) aside (refl, refl))
+
+  same_reads : EachMoment (begun base).log end.log (λ l. (m : Image) → Log.IsLeft l m → AgreeReads (unit_at file.layout file.cluster m) image)
+  same_reads l moment m gone = record {
+    prepare = λ k. same_at (PreparePlace k) (raising_aside (PreparePlace k) file.layout s.state.headers s.mends s.state.fields s.chosen.members (base_fields s.state) (λ n. refl) (λ n g. refl) None) l moment m gone;
+    reply = λ k. same_at (ReplyPlace k) (raising_aside (ReplyPlace k) file.layout s.state.headers s.mends s.state.fields s.chosen.members (base_fields s.state) (λ n. refl) (λ n g. refl) None) l moment m gone;
+    block = λ a. same_at (BlockPlace a) (raising_aside (BlockPlace a) file.layout s.state.headers s.mends s.state.fields s.chosen.members (base_fields s.state) (λ n. refl) (λ n g. refl) None) l moment m gone;
+  }
+
+  -- the two superblocks aren't one
+  not_both : (u : Units.Units) → IsFound sh u view → Holds (of_version 2 sh) u (booted view d) → ⊥
+  not_both u old new = let same : c ≡ d = one_chosen_law u c d old.chosen new.chosen in omega (arith, ap (λ (x : Content). x.version) same, law.3, law.4)
+
+  nor_both : (u : Units.Units) → Holds sh u view → IsFound later u (booted view d) → ⊥
+  nor_both u old new = let same : c ≡ d = one_chosen_law u c d old.chosen new.chosen in omega (arith, ap (λ (x : Content). x.version) same, law.3, law.4)
+
+  moments_bare : EachMoment (begun base).log end.log (StaysBare file view (base_fields s.state))
+  moments_bare l moment = record {
+    left =
+        subst (λ (start : Image). (m : Image) → Log.IsLeft l m → NoChanceOf (format file) l m → Leaves file view view start m ⊎ Leaves (second file) view (upgraded view (base_fields s.state)) start m) (sym moment.since.2)
+        (λ m gone chance. elim (have_bare l moment m gone chance) [
+          | inl old ↦ inl (record {
+            found = old;
+            reads = same_reads l moment m gone;
+            clean = λ clean. elim (hold clean l moment m gone chance) [ inl holds ↦ clean_of sh (unit_at file.layout file.cluster m) view holds | inr raised ↦ absurd (not_both (unit_at file.layout file.cluster m) old raised.holds) ];
+          })
+          | inr new ↦ inr (record {
+            found = new;
+            reads = same_reads l moment m gone;
+            clean = λ clean. elim (hold clean l moment m gone chance) [ inl holds ↦ absurd (nor_both (unit_at file.layout file.cluster m) holds new) | inr raised ↦ clean_of later (unit_at file.layout file.cluster m) (booted view d) raised.holds ];
+          })
+        ]);
+  }
 
   -- ---- its end
 
@@ -237,22 +220,24 @@ module _ (view : View) (s : Survey) (base : Told) (four : length s.chosen.member
   equal = ends_equal {T = Unit {0}} {E = Unit {0}} (base_fields s.state) (Some mid) (Some end) (Ok tt) usable update
 
   -- what is there is what the steps leave
-  image_is : fill_image zs (unit_at file.layout file.cluster (Log.now end.log)) ≡ now (after_steps ss (upgrades.begun (fill_image zs image)))
+  image_is : unit_at file.layout file.cluster (Log.now end.log) ≡ now (after_steps ss (upgrades.begun image))
   image_is =
-      sym (now_units f end.log.start end.log.events)
-      ∙ ap (λ (l : UnitLog). now l) (call_ends f (upgrading_events s) ss (begun base) end (record { start = whole; events = tt }) are (sym (added_is_told (upgrading_events s) (begun base))))
+      sym (now_units (format file) end.log.start end.log.events)
+      ∙ ap (λ (l : UnitLog). now l) (call_ends (format file) (upgrading_events s) ss (begun base) end (record { start = whole; events = tt }) steps (sym (added_is_told (upgrading_events s) (begun base))))
+
+  begins : BeginsRaised (of_version 2 sh) (now (after_steps ss (upgrades.begun image))) (booted view d)
+  begins = (raise_ends_law sh 2 image view (headers_in s.state.headers) headers copies d (put_copies (base_fields s.state)) may).1 (clean_beyond file base.shown view)
 
   ends : EndsUpgraded file view (base_fields s.state) end.log
-  ends =
-      let there : IsWhole later (fill_image zs (unit_at file.layout file.cluster (Log.now end.log))) (booted view d) = subst (λ (u : Units.Units). IsWhole later u (booted view d)) (sym image_is) law.2.whole in
-      record {
-        still = still;
-        equal = equal;
-        version = refl;
-        boot = refl;
-        whole = record { copies = λ n below. ap copy_unit (equal n below); headers = λ k below. let h = there.headers k below in (h.0, h.1, h.2) };
-        found = second_found zs later (unit_at file.layout file.cluster (Log.now end.log)) view e refl zeros (subst (λ (u : Units.Units). IsFound later u (booted view d)) (sym image_is) law.2.found);
-      }
+  ends = record {
+    still = still;
+    equal = equal;
+    version = refl;
+    boot = refl;
+    whole = subst (λ (u : Units.Units). IsWhole later u (booted view d)) (sym image_is) law.2.whole;
+    found = subst (λ (u : Units.Units). IsFound later u (booted view d)) (sym image_is) law.2.found;
+    clean = subst (λ (u : Units.Units). IsClean u (booted view d)) (sym image_is) (clean_of later (now (after_steps ss (upgrades.begun image))) (booted view d) begins.raised.holds);
+  }
 
   pub upgrades_anew : UpgradesAnew view s.state (upgrading_events s) (begun base)
-  upgrades_anew = record { moments = λ l moment. (moments_both l moment).1; bare = bare; ends = ends }
+  upgrades_anew = record { moments = moments_bare; bare = law.1; ends = ends }

@@ -1,8 +1,7 @@
--- What an open that asks for version 1 answers, and which device calls an upgrade of it makes.
-use Rattle.std.proofs.Common.{◌≡◌, ◌∙◌, List, Option, Some, Result, ap, subst, sym, arith}
+-- What an open that asks for version 1 answers.
+use Rattle.std.proofs.Common.{◌≡◌, Option, Some, Result, subst, sym, arith}
 use Rattle.df_base.specs.Image.{IsImage}
 use Rattle.df_disk.specs.Told.{Told}
-use Rattle.df_layout.specs.declared.damage.Mend.{Mend}
 use Rattle.df_layout.specs.declared.layout.Layout.{Layout}
 use Rattle.df_model.specs.Work.{opened}
 use Rattle.df_model.specs.declared.errors.OpenError.{OpenError}
@@ -14,13 +13,8 @@ use Rattle.df_damage.specs.Below.{Represents, State, shape}
 use Rattle.df_damage.specs.Surveying.{TellsSurveyAs}
 use Rattle.df_damage.specs.Surveys.{IsOpenedAs}
 use Rattle.df_damage.proofs.Laws.{answer_is_of_hurt_as}
-use Rattle.df_opening.specs.Mending.{first_state, raising_events}
-use Rattle.df_opening.specs.Survey.{Survey}
-use Rattle.df_opening.specs.Surveying.{IsMendable, TellsMends, mends_of}
-use Rattle.df_upgrade.specs.Base.{base_fields}
+use Rattle.df_opening.specs.Mending.{first_state}
 use Rattle.df_upgrade.specs.Old.{TellsHurtOld}
-use Rattle.df_upgrade.specs.Upgraded.{AreUpgrading}
-use Rattle.df_upgrade.specs.Upgrading.{upgrading_events}
 
 -- of a disk that may be hurt
 pub hurt_old : (layout : Layout) (told : Option Told) (result : Result State OpenError) → TellsSurveyAs 1 layout told result → TellsHurtOld layout told result
@@ -33,15 +27,3 @@ pub stands_old : (layout : Layout) (t : Told) (s : State) (view : View) → s.fi
 stands_old layout t s view of answer whole found =
     let is : IsOpenedAs 1 s.file.layout t.shown s = subst (λ (l : Layout). IsOpenedAs 1 l t.shown s) (sym of) (answer whole) in
     subst (λ (v : View). Represents s (opened (shape s.file) (unit_at s.file.layout s.file.cluster t.shown) v)) (one_found_law (shape s.file) (unit_at s.file.layout s.file.cluster t.shown) is.view view is.found found) is.stands
-
--- what a survey lists is what is to be mended of the image
-pub own_upgrading : (layout : Layout) (told : Option Told) (t : Told) (s : Survey) → told ≡ Some t → s.state.file.layout ≡ layout → TellsMends layout told s → IsImage t.shown → AreUpgrading t s.state (upgrading_events s)
-own_upgrading layout told t s is of tells whole =
-    let may : IsMendable layout t.shown s = (subst (λ (o : Option Told). TellsMends layout o s) is tells) whole in
-    record {
-      chosen = s.chosen;
-      choice = may.choice;
-      are =
-          ap (λ (list : List Mend). raising_events s.state.file.layout s.state.headers list s.state.fields s.chosen.members (base_fields s.state))
-          (may.mends ∙ ap (λ (l : Layout). mends_of l t.shown s.state.fields s.state.head s.chosen.members) (sym of));
-    }

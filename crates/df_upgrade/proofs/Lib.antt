@@ -1,7 +1,3 @@
-pub mod Filled
-pub mod FillSteps
-pub mod FillChances
-pub mod Reread
 pub mod Records
 pub mod Above
 pub mod Anew

@@ -19,7 +19,7 @@ use Rattle.df_model.specs.Work.{opened}
 use Rattle.df_damage.specs.Below.{IsState, MayRecord, State, memory}
 use Rattle.df_damage.specs.Surveying.{state_found}
 use Rattle.df_damage.specs.Types.{Surveyed}
-use Rattle.df_damage.proofs.Laws.{recorded_content, recorded_is_super}
+use Rattle.df_damage.proofs.Laws.{found_awaits, found_ends, numbers_as, recorded_content, recorded_is_super}
 use Rattle.df_upgrade.specs.Base.{base_fields}
 use Rattle.df_upgrade.specs.Old.{IsOld}
 use Rattle.df_upgrade.specs.Upgrading.{second}
@@ -42,44 +42,29 @@ module _ (y : Surveyed) (old : IsOld y) (usable : IsUsable y.scanned.copies.foun
 
   sense : IsState (in_second s)
   sense = record {
-    cluster = subst (λ (n : ℕ). n < 2 ^ 128) (sym old.found.read.named) usable.fits.cluster;
-    parent = old.found.ends.checksum;
-    version = refl;
-    second = record {
-      rules = record {
-        version = refl;
-        boot = omega (arith, first.boot);
-        no_head = λ none. usable.rules.op_checksum (omega (arith, none, usable.rules.head.0));
-        head_is_op = λ level. refl;
-        spare = All-drop (λ (check : List ℕ). check ≡ no_checksum) f.clients f.reply_checksums first.named.replies;
+    in_file = record {
+      cluster = subst (λ (n : ℕ). n < 2 ^ 128) (sym old.found.read.named) usable.fits.cluster;
+      version = refl;
+      second = record {
+        rules = record {
+          version = refl;
+          boot = omega (arith, first.boot);
+          no_head = λ none. usable.rules.op_checksum (omega (arith, none, usable.rules.head.0));
+          head_is_op = λ level. refl;
+          spare = All-drop (λ (check : List ℕ). check ≡ no_checksum) f.clients f.reply_checksums first.named.replies;
+        };
+        of = numbers_as s.file f (record f { version = 2; head_checksum = f.op_checksum }) refl old.found.read.fields;
+        names = usable.fits.reply_checksums;
+        first_nonzero = usable.rules.zero;
       };
-      of = record {
-        slots = old.found.read.fields.slots;
-        message_size = old.found.read.fields.message_size;
-        clients = old.found.read.fields.clients;
-        block_size = old.found.read.fields.block_size;
-        blocks = old.found.read.fields.blocks;
-        cluster_is = old.found.read.fields.cluster_is;
-      };
-      names = usable.fits.reply_checksums;
-      first_nonzero = usable.rules.zero;
+      sequence = usable.rules.sequence;
+      root = omega arith;
+      ring = old.planned.is_table;
     };
     booted = λ live. absurd (let none : false ≡ true = live in cc);
-    sequence = usable.rules.sequence;
-    root = omega arith;
-    order = old.found.ends.from;
-    room = old.found.ends.within;
-    head_to = old.found.ends.most;
-    waiting = old.found.waiting;
-    few = omega (arith, old.found.waiting, old.found.ends.few);
-    places = old.found.read.places;
-    first = λ zero_head. old.found.ends.empty (omega (arith, old.found.ends.from, zero_head)) ∙ usable.rules.op_checksum (omega (arith, old.found.ends.from, zero_head));
-    level = old.found.ends.empty;
+    ends = found_ends y old.found usable.rules;
+    awaits = found_awaits y old.found;
     captured = tt;
-    requests = old.found.sessions.numbered;
-    asked = old.found.sessions.asked;
-    tracks = old.found.sessions.tracks;
-    ring = old.planned.is_table;
     course = old.found.read.idle;
   }
 
@@ -112,7 +97,7 @@ names_same : (sh : Shape) (spell : Parts → List ℕ) (image : Units) (v : View
 unfolding named_sums
 names_same sh spell image v = refl
 
--- it is the content of a boot update of the view as version 2 has it, but for what version 1 leaves empty: its own has nothing there
+-- it is the content of a boot update of the view as version 2 has it, with what that leaves empty
 pub base_content : (s : State) (sh : Shape) (spell : Parts → List ℕ) (image : Units) (v : View) → v.checkpoint.content.boot ≡ 0 → memory s ≡ memory_of sh spell (opened sh image v)
     → record (content_of (content_with (base_fields s))) { rest = v.checkpoint.content.rest } ≡ boot_content (memory_of sh spell (opened sh image (as_version 2 v))) (number_of (content_with (base_fields s)).checksum)
 base_content s sh spell image v boot stands =

@@ -4,26 +4,22 @@ use Rattle.df_base.specs.Image.{IsImage}
 use Rattle.df_base.specs.Log.{Event, Sync}
 use Rattle.df_base.specs.Moments.{EachMoment}
 use Rattle.df_disk.specs.Told.{Told, did}
-use Rattle.df_disk.specs.Adds.{AddsPart}
 use Rattle.df_layout.specs.declared.layout.Layout.{Layout}
-use Rattle.df_quorum.specs.declared.choice.Chosen.{Chosen}
 use Rattle.df_theory.specs.Found.{IsFound}
 use Rattle.df_theory.specs.Next.{IsSameBare}
+use Rattle.df_theory.specs.Upgrades.{as_version}
 use Rattle.df_theory.specs.View.{View}
 use Rattle.df_units.specs.Bytes.{unit_at}
 use Rattle.df_model.specs.declared.errors.OpenError.{OpenError}
 use Rattle.df_damage.specs.Anew.{begun, told_after}
 use Rattle.df_damage.specs.Below.{State, shape}
-use Rattle.df_damage.specs.Found.{IsChoiceOf}
 use Rattle.df_damage.specs.Plan.{AreDistinct}
 use Rattle.df_damage.specs.Surveying.{TellsSurveyAs}
 use Rattle.df_damage.specs.Surveys.{IsOpenedAs}
-use Rattle.df_opening.specs.Mending.{raising_events}
-use Rattle.df_opening.specs.Opened.{Mends}
-use Rattle.df_opening.specs.Surveying.{mends_of}
+use Rattle.df_opening.specs.Opened.{AreRaisingTo, BeginsRaisingTo, Mends}
 use Rattle.df_upgrade.specs.Base.{base_fields}
 use Rattle.df_upgrade.specs.Old.{TellsHurtOld}
-use Rattle.df_upgrade.specs.Upgrading.{StaysBare, UpgradesAnew, as_second, upgraded}
+use Rattle.df_upgrade.specs.Upgrading.{StaysBare, UpgradesAnew, upgraded}
 use Rattle.df_upgrade.specs.declared.upgraded.Upgraded.{Upgraded}
 
 -- the sequence of the file, or the refusal
@@ -45,18 +41,12 @@ TellsHurtUpgraded layout told (Err e) = TellsHurtOld layout told (Err e)
 
 -- ---- what it leaves
 
--- These are the device calls of an upgrade behind its survey, each once and in this order: of what is to be mended of the image that was shown the header sectors, from the table
--- in memory, and a sync, where there is one; then the copies that aren't members of the choice, each with a sync; then the four copies of version 2, each with a sync.
-pub record AreUpgrading (t : Told) (found : State) (events : List Event) : Type 0 where
-  pub chosen : Chosen
-  pub choice : IsChoiceOf t.shown chosen
-  pub are : events ≡ raising_events found.file.layout found.headers (mends_of found.file.layout t.shown found.fields found.head chosen.members) found.fields chosen.members (base_fields found)
+-- these are the device calls of an upgrade behind its survey: the superblock is of version 2
+abbrev pub AreUpgrading : Told → State → List Event → Type 0
+AreUpgrading t found events = AreRaisingTo (base_fields found) t found events
 
--- they were begun: the first of them were made, and no others
-pub record BeginsUpgrading (t : Told) (found : State) (later : Option Told) : Type 0 where
-  pub events : List Event
-  pub own : AreUpgrading t found events
-  pub part : AddsPart events (Some (did Sync t)) later
+abbrev pub BeginsUpgrading : Told → State → Option Told → Type 0
+BeginsUpgrading t found later = BeginsRaisingTo (base_fields found) t found later
 
 -- The file was found and is upgraded: what is told changed by these events alone, whose writes lie within the zones of the file, and each place that a call reads is as it was.
 pub record UpgradesAll (layout : Layout) (t : Told) (sequence : ℕ) (later : Option Told) : Type 0 where
@@ -74,7 +64,7 @@ pub record UpgradesPartly (layout : Layout) (t : Told) (later : Option Told) : T
   pub writes : Mends found.file (Some (did Sync t)) later
   pub own : IsImage t.shown → BeginsUpgrading t found later
   pub anew : (view : View) → IsImage t.shown → IsFound (shape found.file) (unit_at found.file.layout found.file.cluster t.shown) view → AreDistinct (unit_at found.file.layout found.file.cluster t.shown)
-      → EachMoment (begun t).log (told_after writes.events (begun t)).log (StaysBare found.file view (base_fields found)) × IsSameBare (as_second view) (upgraded view (base_fields found))
+      → EachMoment (begun t).log (told_after writes.events (begun t)).log (StaysBare found.file view (base_fields found)) × IsSameBare (as_version 2 view) (upgraded view (base_fields found))
 
 -- it failed in the barrier, which added a sync or nothing, or in a read behind it; or within the upgrade
 abbrev pub StopsUpgrading : Layout → Told → Option Told → Type 0

@@ -33,9 +33,9 @@ fn upgrade_in<D: Disk>(
     rooms: &mut LogRooms,
     base: &SuperFields,
 ) -> Result<(), MendError>
+    requires above { IsAbove (D.told disk.old) base.now }
     requires version { base.now.version ≡ 2 }
     requires rules { fault_of base.now ≡ None }
-    requires above { IsAbove (D.told disk.old) base.now }
     ensures layout { rooms.new.layout ≡ rooms.old.layout }
     ensures events { AddsRaising (update_events base.now) (D.told disk.old) (D.told disk.new) result }
     ensures read_back { IsReadBack base.now (D.told disk.new) result }

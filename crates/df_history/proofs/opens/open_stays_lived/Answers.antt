@@ -1,4 +1,4 @@
-use Rattle.df_history.proofs.Mendings.{open_lived_law}
+use Rattle.df_history.proofs.Awakened.{open_lived_law}
 use Rattle.df_history.proofs.opens.open_stays_lived.Goals as goal
 
 pub returns : goal.returns

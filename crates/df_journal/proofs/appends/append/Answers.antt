@@ -37,13 +37,8 @@ returns-clause-steps g c = append_steps c.args.layout.now c.args.unit.now.unit c
 
 pub returns-clause-moments : goal.returns-clause-moments
 returns-clause-moments g c =
-    let layout = c.args.layout.now in
-    let held = c.args.unit.now in
-    let table = c.args.table.now in
-    let old = g.D.Disk.told c.args.disk.now in
-    let new = g.D.Disk.told c.settle.new.disk in
-    let both = both_add layout c.args.room.now.layout held table c.put.new.table _ old (g.D.Disk.told c.put.new.disk) new c.settle.result c.requires.room c.in_ok-put.ensures.table (ap (λ (h : Header). h.slot / 16 ∷ []) c.header.ensures.header) c.in_ok-put.ensures.events c.settle.ensures.events in
-    moments_of layout held table c.put.ensures.own c.requires.table c.put.ensures.brings old new (adds_part (journal_events layout held table) old new c.settle.result both)
+    let both = both_add c.args.layout.now c.args.room.now.layout c.args.unit.now c.args.table.now c.put.new.table _ (g.D.Disk.told c.args.disk.now) (g.D.Disk.told c.put.new.disk) (g.D.Disk.told c.settle.new.disk) c.settle.result c.requires.room c.in_ok-put.ensures.table (ap (λ (h : Header). h.slot / 16 ∷ []) c.header.ensures.header) c.in_ok-put.ensures.events c.settle.ensures.events in
+    moments_of c.args.layout.now c.args.unit.now c.args.table.now c.put.ensures.own c.requires.table c.put.ensures.brings (g.D.Disk.told c.args.disk.now) (g.D.Disk.told c.settle.new.disk) (adds_part (journal_events c.args.layout.now c.args.unit.now c.args.table.now) (g.D.Disk.told c.args.disk.now) (g.D.Disk.told c.settle.new.disk) c.settle.result both)
 
 pub returns-clause-appended : goal.returns-clause-appended
 returns-clause-appended g c =

@@ -6,10 +6,11 @@ use Rattle.df_sessions.specs.declared.session.Session.{Session}
 use Rattle.df_sessions.specs.Table.{Table}
 use Rattle.df_journal.specs.Scan.{Scan}
 use Rattle.df_journal.specs.declared.table.Start.{Start}
-use Rattle.df_journal.specs.declared.tail.Tail.{Tail}
-use Rattle.df_journal.specs.declared.groups.Position.{Position}
+use Rattle.df_group.specs.declared.groups.Tail.{Tail}
+use Rattle.df_group.specs.declared.groups.Position.{Position}
 use Rattle.df_journal.specs.Tail.{AreNumbered, AreUnstored, GoesOn, IsNext, position_of, tail_to}
-use Rattle.df_journal.proofs.Walks.{EndsThere, IsWalk, either_kept, end_at, shape_walk, still_numbered, still_unstored, walk_begins, walk_on, walk_reaches, walk_stops}
+use Rattle.df_group.proofs.Laws.{either_kept, end_at}
+use Rattle.df_journal.proofs.Walks.{EndsThere, IsTakenWalk, shape_walk, still_numbered, still_unstored, taken_begins, taken_on, walk_reaches, walk_stops}
 use Rattle.df_journal.proofs.reach.find_reach.Goals as goal
 
 pub loop-at-init : goal.loop-at-init
@@ -36,7 +37,7 @@ loop-at-init c =
       unstored_on = λ none. subst (λ (t : Table). AreUnstored t.sessions) (sym ahead) none;
       numbered = λ small. small;
       numbered_on = λ small. subst (λ (t : Table). AreNumbered t.sessions) (sym ahead) small;
-      walk = λ sh image b tells starts. walk_begins image sh b c.args.layout.now c.args.found.now.start c.args.checksum.now c.args.sessions.now.sessions starts c.empty_tail-tail.result c.position_behind-at.result c.copied-ahead.result.sessions tail c.position_behind-at.ensures (ap (λ (t : Table). t.sessions) ahead);
+      walk = λ sh image b tells starts. taken_begins image sh b c.args.layout.now c.args.found.now.start c.args.checksum.now c.args.sessions.now.sessions starts c.empty_tail-tail.result c.position_behind-at.result c.copied-ahead.result.sessions tail c.position_behind-at.ensures (ap (λ (t : Table). t.sessions) ahead);
     }
 
 pub loop-at-preserved : goal.loop-at-preserved
@@ -68,12 +69,12 @@ loop-at-preserved c =
       numbered = λ small. either (λ t s. AreNumbered s.sessions) (inv.numbered small) (still_numbered h c.loop-at.ahead.sessions _ c.apply.result c.in-Some.ensures.sound.request c.apply.ensures.there c.apply.ensures.others (inv.numbered_on small));
       numbered_on = λ small. still_numbered h c.loop-at.ahead.sessions _ c.apply.result c.in-Some.ensures.sound.request c.apply.ensures.there c.apply.ensures.others (inv.numbered_on small);
       walk = λ sh image b tells starts.
-          let more = walk_on c.args.layout.now c.args.found.now.start.cluster c.args.found.now.slots image b c.args.found.now.start c.loop-at.tail c.keep_whole.new.tail c.loop-at.sessions.sessions c.keep_whole.new.sessions.sessions c.loop-at.at c.loop-at.ahead.sessions h c.requires.table tells.shows
+          let more = taken_on c.args.layout.now c.args.found.now.start.cluster c.args.found.now.slots image b c.args.found.now.start c.loop-at.tail c.keep_whole.new.tail c.loop-at.sessions.sessions c.keep_whole.new.sessions.sessions c.loop-at.at c.loop-at.ahead.sessions h c.requires.table tells.shows
           (record { boot = starts.boot; pin = starts.pin }) (inv.walk sh image b tells starts) next
           (λ low. let moved = over (subst (λ (p : Position). p.group_last ≤ p.last.op) at_is low) in (moved.0 ∙ sym last_is, ap (λ (t : Table). t.sessions) moved.1 ∙ c.apply.ensures.sessions))
           (λ up. let stayed = open_yet (subst (λ (p : Position). p.last.op < p.group_last) at_is up) in (stayed.0, ap (λ (t : Table). t.sessions) stayed.1)) in
-          subst (λ (p : Position). IsWalk c.args.layout.now.clients c.args.layout.now.slots image b c.keep_whole.new.tail c.keep_whole.new.sessions.sessions p c.apply.new.self.sessions) at_is
-          (subst (λ (ss : List Session). IsWalk c.args.layout.now.clients c.args.layout.now.slots image b c.keep_whole.new.tail c.keep_whole.new.sessions.sessions (position_of h) ss) (sym c.apply.ensures.sessions) more);
+          subst (λ (p : Position). IsTakenWalk c.args.layout.now.clients c.args.layout.now.slots image b c.keep_whole.new.tail c.keep_whole.new.sessions.sessions p c.apply.new.self.sessions) at_is
+          (subst (λ (ss : List Session). IsTakenWalk c.args.layout.now.clients c.args.layout.now.slots image b c.keep_whole.new.tail c.keep_whole.new.sessions.sessions (position_of h) ss) (sym c.apply.ensures.sessions) more);
     }
 
 pub loop-at-smaller : goal.loop-at-smaller

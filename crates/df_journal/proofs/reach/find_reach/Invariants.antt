@@ -6,7 +6,7 @@ use Rattle.df_theory.specs.Shape.{Shape}
 use Rattle.df_theory.specs.View.{Checkpoint}
 use Rattle.df_journal.specs.Shows.{TellsRings}
 use Rattle.df_journal.specs.Tail.{AreNumbered, AreUnstored, BeginsAt}
-use Rattle.df_journal.proofs.Walks.{IsWalk}
+use Rattle.df_journal.proofs.Walks.{IsTakenWalk}
 use Rattle.df_journal.proofs.reach.find_reach.Given as goal
 
 abbrev pub invariant-loop-at : goal.invariant-loop-at
@@ -25,7 +25,7 @@ invariant-loop-at l = record {
   numbered : AreNumbered l.initial.sessions.sessions → AreNumbered l.sessions.sessions;
   numbered_on : AreNumbered l.initial.sessions.sessions → AreNumbered l.ahead.sessions;
   walk : (sh : Shape) (image : Units) (b : Checkpoint) → TellsRings l.layout image l.found → BeginsAt sh b l.layout l.found.start l.checksum l.initial.sessions.sessions
-      → IsWalk l.layout.clients l.layout.slots image b l.tail l.sessions.sessions l.at l.ahead.sessions;
+      → IsTakenWalk l.layout.clients l.layout.slots image b l.tail l.sessions.sessions l.at l.ahead.sessions;
 }
 
 abbrev pub decreases-loop-at : goal.decreases-loop-at

@@ -1,16 +1,11 @@
 -- What is shown is a unit, so its fields are in range.
-use Rattle.std.proofs.Common.{◌+◌, ◌%◌, ◌<◌, ◌⊎◌, ℕ, length, ap, arith, subst, sym}
-use Rattle.df_sessions.specs.Table.{IsKnown}
-use Rattle.df_journal.proofs.Asks.{asks_room}
-use Rattle.df_journal.proofs.Decisions.{not_taken, shown_unit, slot_checks, taken_check, taken_client, taken_group, taken_op, taken_parent, taken_request}
+use Rattle.std.proofs.Common.{◌+◌, ◌%◌, ◌<◌, ℕ, ap, arith, sym}
+use Rattle.df_group.proofs.Laws.{asks_within}
+use Rattle.df_journal.proofs.Decisions.{not_taken, shown_unit, slot_checks, taken_check, taken_client, taken_group, taken_op, taken_request}
 use Rattle.df_journal.proofs.reach.next.Goals as goal
 
 pub taken-requires : goal.taken-requires
 taken-requires c = slot_checks c.args.layout.now c.args.found.now.start.cluster _ c.args.found.now.slots c.seen-seen.result c.requires.table c.seen-seen.ensures
-
-pub goes_on-requires-clause-parent : goal.goes_on-requires-clause-parent
-goes_on-requires-clause-parent c =
-    taken_parent c.args.layout.now c.args.found.now.start.cluster _ c.in_ok-header.header (shown_unit c.args.layout.now c.args.found.now.start.cluster _ c.args.found.now.slots c.seen-seen.result c.in_ok-header.header c.requires.table c.seen-seen.ensures c.in_ok-header.ensures.shown)
 
 pub goes_on-requires-clause-group : goal.goes_on-requires-clause-group
 goes_on-requires-clause-group c =
@@ -29,7 +24,7 @@ returns-then-goes_on-clause-sound c =
     let client : 0 < c.in_ok-header.header.client = taken_client c.args.layout.now c.args.found.now.start.cluster _ c.in_ok-header.header there in
     record {
       client = λ none. omega (arith, client, none);
-      room = subst (λ (n : ℕ). IsKnown c.in_ok-header.header.client c.args.sessions.now.sessions ⊎ (length c.args.sessions.now.sessions < n)) (sym c.requires.places) (asks_room c.args.layout.now.clients c.in_ok-header.header c.args.sessions.now.sessions fits.asks);
+      room = asks_within c.args.layout.now.clients c.args.sessions.now.max c.in_ok-header.header c.args.sessions.now.sessions (sym c.requires.places) fits.asks;
       checksum = taken_check c.args.layout.now c.args.found.now.start.cluster _ c.in_ok-header.header there;
       request = taken_request c.args.layout.now c.args.found.now.start.cluster _ c.in_ok-header.header there;
       op = taken_op c.args.layout.now c.args.found.now.start.cluster _ c.in_ok-header.header there;

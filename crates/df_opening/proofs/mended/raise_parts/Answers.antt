@@ -3,7 +3,7 @@ use Rattle.std.proofs.Common.{◌≡◌, ◌∙◌, ◌+◌, ℕ, true, ap, subs
 use Rattle.df_format.specs.SuperRules.{IsUsable}
 use Rattle.df_format.specs.declared.superblock.SuperFields.{SuperFields}
 use Rattle.df_grid.specs.Grid.{GridState}
-use Rattle.df_damage.specs.Below.{IsState, State, state_in}
+use Rattle.df_damage.specs.Below.{FitsGrid, IsState, State, state_in}
 use Rattle.df_opening.proofs.RaisedState.{raised_sense}
 use Rattle.df_opening.proofs.Refused.{unharmed_fault, unharmed_of, unharmed_ok}
 use Rattle.df_opening.proofs.mended.raise_parts.Goals as goal
@@ -26,11 +26,8 @@ returns-clause-whole g c =
     let old = c.requires.whole in
     record {
       state = subst IsState (sym (returns-clause-state g c)) (raised_sense s old.state (subst IsUsable c.requires.content c.fields.ensures.usable));
-      rooms_fit = old.rooms_fit;
-      grid_fits = ap (λ (x : GridState). x.layout) c.set_boot.ensures ∙ old.grid_fits;
-      grid_named = ap (λ (x : GridState). x.cluster) c.set_boot.ensures ∙ old.grid_named;
-      trailer_fits = old.trailer_fits;
-      scrub_fits = old.scrub_fits;
+      rooms = old.rooms;
+      grid = subst (λ (x : GridState). FitsGrid s.file x.layout x.cluster) (sym c.set_boot.ensures) old.grid;
     }
 
 pub returns-clause-unharmed : goal.returns-clause-unharmed

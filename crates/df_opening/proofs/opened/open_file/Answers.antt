@@ -1,12 +1,14 @@
 -- What was surveyed behind the barrier is mended and raised, and the state is that of the survey, but for its boot.
-use Rattle.std.proofs.Common.{◌≡◌, ◌∙◌, ℕ, List, Option, Some, inr, refl, ap, subst, sym}
+use Rattle.std.proofs.Common.{◌≡◌, ◌∙◌, ℕ, List, ◌∷◌, Option, Some, inr, refl, ap, subst, sym}
 use Rattle.std.specs.Prelude.{Ok, Err}
 use Rattle.df_base.specs.Causes.{Blamed}
 use Rattle.df_base.specs.Image.{Image}
-use Rattle.df_base.specs.Log.{Event, Sync}
+use Rattle.df_base.specs.Log.{Event, Sync, add}
 use Rattle.df_disk.specs.Adds.{AddsPart, after_all}
 use Rattle.df_disk.specs.Told.{Told, after, did}
 use Rattle.df_damage.specs.Anew.{begun}
+use Rattle.df_damage.specs.Histories.{IsLivedDisk}
+use Rattle.df_damage.proofs.Laws.{begun_goes_on, found_was_since}
 use Rattle.df_layout.specs.declared.layout.Layout.{Layout}
 use Rattle.df_units.proofs.Laws.{steps_within}
 use Rattle.df_units.specs.Bytes.{unit_at}
@@ -17,12 +19,13 @@ use Rattle.df_damage.specs.Below.{State, boot_fields, shape, state_in}
 use Rattle.df_damage.specs.Surveys.{IsOpenedAs}
 use Rattle.df_opening.specs.Mending.{StaysFound, begun_state, raised_state}
 use Rattle.df_opening.specs.Opened.{MendsAll}
-use Rattle.df_opening.specs.Keeping.{IsGoodFor, StandsFor, format}
+use Rattle.df_opening.specs.Keeping.{Firm, IsGoodFor, StandsFor, format}
 use Rattle.df_opening.specs.Raising.{opening_events, opening_steps}
 use Rattle.df_opening.specs.Survey.{Survey, survey_in}
 use Rattle.df_opening.specs.Surveying.{TellsSurvey}
 use Rattle.df_opening.proofs.Barriers.{barrier_rests}
-use Rattle.df_opening.proofs.Hurts.{tells_hurt}
+use Rattle.df_opening.proofs.Hurts.{tells_hurt, tells_lived}
+use Rattle.df_opening.proofs.Followed.{begun_may_open}
 use Rattle.df_opening.proofs.MendShows.{front_spares, raising_copies, raising_spares}
 use Rattle.df_opening.proofs.Opens.{front_moments, mend_stops, open_settles, own_raising, planned_same, stands_anew, stands_over}
 use Rattle.df_opening.proofs.Refused.{blamed_open, fault_adds, no_refusal, refused_tells}
@@ -38,6 +41,13 @@ returns-in-Ok-mend_file-clause-hurt g c = (
   tells_hurt c.args.rooms.layout (g.D.Disk.told c.args.disk.now) (Ok (state_in c.in-Ok.surveyed.parts)) c.in-Ok.ensures.answer,
 )
 
+pub returns-in-Ok-mend_file-clause-lived : goal.returns-in-Ok-mend_file-clause-lived
+returns-in-Ok-mend_file-clause-lived g c = (
+  state_in c.in-Ok.surveyed.parts,
+  c.in-Ok-mend_file.ensures.state,
+  tells_lived c.args.rooms.layout (g.D.Disk.told c.args.disk.now) (Ok (state_in c.in-Ok.surveyed.parts)) c.in-Ok.ensures.answer,
+)
+
 pub returns-in-Ok-mend_file-clause-told : goal.returns-in-Ok-mend_file-clause-told
 returns-in-Ok-mend_file-clause-told g c =
     let es : List Event = opening_events (survey_in c.in-Ok.surveyed) in
@@ -50,6 +60,9 @@ returns-in-Err-mend_file-clause-answer g c =
 
 pub returns-in-Err-mend_file-clause-hurt : goal.returns-in-Err-mend_file-clause-hurt
 returns-in-Err-mend_file-clause-hurt g c = tells_hurt c.args.rooms.layout (g.D.Disk.told c.args.disk.now) (Err c.refusal_of.result) (returns-in-Err-mend_file-clause-answer g c)
+
+pub returns-in-Err-mend_file-clause-lived : goal.returns-in-Err-mend_file-clause-lived
+returns-in-Err-mend_file-clause-lived g c = tells_lived c.args.rooms.layout (g.D.Disk.told c.args.disk.now) (Err c.refusal_of.result) (returns-in-Err-mend_file-clause-answer g c)
 
 pub returns-in-Err-mend_file-clause-refused : goal.returns-in-Err-mend_file-clause-refused
 returns-in-Err-mend_file-clause-refused g c = λ other.
@@ -79,7 +92,7 @@ returns-in-Ok-mend_file-clause-opened g c = λ t is.
         within = steps_within s.state.file.layout s.state.file.cluster es (opening_steps s) c.in-Ok-mend_file.ensures.steps;
         spares = raising_spares s.state.file s.state.headers s.mends s.state.fields s.chosen.members (boot_fields s.state) c.in-Ok-mend_file.ensures.steps;
       };
-      own = λ whole. own_raising c.args.rooms.layout (g.D.Disk.told c.args.disk.now) t s is c.in-Ok.ensures.kept c.in-Ok.ensures.mends whole;
+      own = λ whole. own_raising (boot_fields s.state) c.args.rooms.layout (g.D.Disk.told c.args.disk.now) t s is c.in-Ok.ensures.kept c.in-Ok.ensures.mends whole;
       copies = λ whole. raising_copies s.state.file s.state.headers s.mends s.state.fields s.chosen.members (boot_fields s.state) c.in-Ok-mend_file.ensures.steps t.shown whole;
       over = λ grade view base same may stands.
           let planned = planned_same s.state.file s.state.headers s.mends s.state.fields s.chosen.members (did Sync t) (did Sync base) same plan in
@@ -90,6 +103,13 @@ returns-in-Ok-mend_file-clause-opened g c = λ t is.
           let anew = planned_same s.state.file s.state.headers s.mends s.state.fields s.chosen.members (did Sync t) (begun t) refl plan in
           let by = c.in-Ok-mend_file.ensures.anew t view anew whole found distinct (stands_anew c.args.rooms.layout t s.state view c.in-Ok.ensures.kept answer whole found) in
           record { moments = by.moments; bare = by.bare; kept_for = by.kept_for };
+      lived = λ log logs may.
+          let is : IsOpenedAs 2 s.state.file.layout t.shown s.state = subst (λ (l : Layout). IsOpenedAs 2 l t.shown s.state) (sym c.in-Ok.ensures.kept) (answer may.whole) in
+          let finds = found_was_since s.state.file log logs t.shown s.state may is in
+          let opens = begun_may_open s.state.file finds.found t may.version finds.begins in
+          let planned = planned_same s.state.file s.state.headers s.mends s.state.fields s.chosen.members (did Sync t) (did Sync (begun t)) refl plan in
+          let by = c.in-Ok-mend_file.ensures.over (did Sync (begun t)) Firm finds.found planned (barrier_rests Firm s.state.file finds.found (begun t) opens tt) (stands_over c.args.rooms.layout t (begun t) s.state refl finds.found opens c.in-Ok.ensures.kept answer) in
+          by.lived (add Sync log) logs (begun_goes_on s.state.file finds.found log logs t.shown may finds.is_found).synced;
     } in
     subst (λ (r : State). MendsAll t r (g.D.Disk.told c.mend_file.new.disk)) (sym c.in-Ok-mend_file.ensures.state) all
 
@@ -114,7 +134,7 @@ returns-in-Err-mend_file-clause-stopped g c = λ t is whole fault.
       };
       own = λ image. record {
         events = es;
-        own = own_raising c.args.rooms.layout (g.D.Disk.told c.args.disk.now) t s is c.in-Ok.ensures.kept c.in-Ok.ensures.mends image;
+        own = own_raising (boot_fields s.state) c.args.rooms.layout (g.D.Disk.told c.args.disk.now) t s is c.in-Ok.ensures.kept c.in-Ok.ensures.mends image;
         part = subst (λ (o : Option Told). AddsPart es o (g.D.Disk.told c.mend_file.new.disk)) synced adds;
       };
       moments = λ grade view base same may stands.
@@ -126,4 +146,11 @@ returns-in-Err-mend_file-clause-stopped g c = λ t is whole fault.
           let anew = planned_same s.state.file s.state.headers s.mends s.state.fields s.chosen.members (did Sync t) (begun t) refl plan in
           let by = c.in-Err-mend_file.ensures.anew t view anew image found distinct (stands_anew c.args.rooms.layout t s.state view c.in-Ok.ensures.kept answer image found) in
           front_moments es (begun t) part.part part.again (StaysFound s.state.file view (boot_fields s.state)) by.moments;
+      lived = λ log logs may.
+          let is : IsOpenedAs 2 s.state.file.layout t.shown s.state = subst (λ (l : Layout). IsOpenedAs 2 l t.shown s.state) (sym c.in-Ok.ensures.kept) (answer whole) in
+          let finds = found_was_since s.state.file log logs t.shown s.state may is in
+          let opens = begun_may_open s.state.file finds.found t may.version finds.begins in
+          let planned = planned_same s.state.file s.state.headers s.mends s.state.fields s.chosen.members (did Sync t) (did Sync (begun t)) refl plan in
+          let by = c.in-Err-mend_file.ensures.over (did Sync (begun t)) Firm finds.found planned (barrier_rests Firm s.state.file finds.found (begun t) opens tt) (stands_over c.args.rooms.layout t (begun t) s.state refl finds.found opens c.in-Ok.ensures.kept answer) in
+          front_moments es (did Sync (begun t)) part.part part.again (IsLivedDisk s.state.file (add Sync log ∷ logs)) (by.lived (add Sync log) logs (begun_goes_on s.state.file finds.found log logs t.shown may finds.is_found).synced).moments;
     }))

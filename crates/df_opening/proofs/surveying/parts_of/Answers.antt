@@ -1,10 +1,10 @@
 -- The parts make sense by themselves: what was found is in its ranges, and the table is one of the file.
-use Rattle.std.proofs.Common.{◌≡◌, ◌∙◌, ℕ, refl, sym, arith, ◌<◌, ◌^◌, subst}
+use Rattle.std.proofs.Common.{◌≡◌, ◌∙◌, ℕ, refl, sym, ◌<◌, ◌^◌, subst}
 use Rattle.std.specs.Prelude.{None, false, true}
 use Rattle.df_format.specs.SuperRules.{IsUsable}
 use Rattle.df_damage.specs.Below.{ScrubState}
 use Rattle.df_opening.specs.Survey.{Survey}
-use Rattle.df_damage.proofs.Laws.{second_super}
+use Rattle.df_damage.proofs.Laws.{found_awaits, found_ends, second_super}
 use Rattle.df_opening.proofs.surveying.parts_of.Goals as goal
 
 pub returns-clause-found : goal.returns-clause-found
@@ -16,33 +16,26 @@ returns-clause-found c =
     record {
       whole = record {
         state = record {
-          cluster = cluster;
-          version = sym found.read.version;
-          parent = found.ends.checksum;
-          second = second_super c.args.surveyed.scanned.file f (sym found.read.version ∙ c.requires.version) usable found.read.fields;
+          in_file = record {
+            cluster = cluster;
+            version = sym found.read.version;
+            second = second_super c.args.surveyed.scanned.file f (sym found.read.version ∙ c.requires.version) usable found.read.fields;
+            sequence = usable.rules.sequence;
+            root = c.root_fits.ensures;
+            ring = c.requires.planned.is_table;
+          };
           booted = λ live. absurd (let none : false ≡ true = live in cc);
-          sequence = usable.rules.sequence;
-          root = c.root_fits.ensures;
-          order = found.ends.from;
-          room = found.ends.within;
-          head_to = found.ends.most;
-          waiting = found.waiting;
-          few = omega (arith, found.waiting, found.ends.few);
-          places = found.read.places;
-          first = λ zero_head. found.ends.empty (omega (arith, found.ends.from, zero_head)) ∙ usable.rules.op_checksum (omega (arith, found.ends.from, zero_head));
-          level = found.ends.empty;
+          ends = found_ends c.args.surveyed found usable.rules;
+          awaits = found_awaits c.args.surveyed found;
           captured = tt;
-          requests = found.sessions.numbered;
-          asked = found.sessions.asked;
-          tracks = found.sessions.tracks;
-          ring = c.requires.planned.is_table;
           course = found.read.idle;
         };
-        rooms_fit = c.args.surveyed.scanned.log_fits;
-        grid_fits = c.args.surveyed.scanned.grid_fits;
-        grid_named = c.args.surveyed.scanned.grid_named;
-        trailer_fits = c.args.surveyed.scanned.trailer_fits;
-        scrub_fits = c.cleared-scrub.ensures.layout ∙ c.args.surveyed.scanned.scrub_fits;
+        rooms = record {
+          rooms_fit = c.args.surveyed.scanned.log_fits;
+          trailer_fits = c.args.surveyed.scanned.trailer_fits;
+          scrub_fits = c.cleared-scrub.ensures.layout ∙ c.args.surveyed.scanned.scrub_fits;
+        };
+        grid = record { grid_fits = c.args.surveyed.scanned.grid_fits; grid_named = c.args.surveyed.scanned.grid_named };
       };
       dead = refl;
       unspent = found.ends.unspent;

@@ -2,7 +2,7 @@
 use Rattle.std.proofs.Common.{◌∙◌, Ok, Err, ap, subst, sym}
 use Rattle.df_opening.specs.Survey.{Survey}
 use Rattle.df_opening.specs.Surveying.{TellsMends, TellsSurvey}
-use Rattle.df_opening.proofs.Hurts.{tells_hurt}
+use Rattle.df_opening.proofs.Hurts.{tells_hurt, tells_lived}
 use Rattle.df_opening.proofs.SurveyPlans.{IsPlannedOn, survey_planned, told_mends}
 use Rattle.df_opening.proofs.surveying.survey_file.Goals as goal
 
@@ -26,3 +26,9 @@ returns-in-Ok-clause-hurt g c = tells_hurt c.args.rooms.layout (g.D.Disk.told c.
 
 pub returns-in-Err-clause-hurt : goal.returns-in-Err-clause-hurt
 returns-in-Err-clause-hurt g c = tells_hurt c.args.rooms.layout (g.D.Disk.told c.args.disk.now) (Err c.in-Err.refused.1) c.in-Err.ensures.answer
+
+pub returns-in-Ok-clause-lived : goal.returns-in-Ok-clause-lived
+returns-in-Ok-clause-lived g c = tells_lived c.args.rooms.layout (g.D.Disk.told c.args.disk.now) _ (returns-in-Ok-clause-answer g c)
+
+pub returns-in-Err-clause-lived : goal.returns-in-Err-clause-lived
+returns-in-Err-clause-lived g c = tells_lived c.args.rooms.layout (g.D.Disk.told c.args.disk.now) (Err c.in-Err.refused.1) c.in-Err.ensures.answer

@@ -31,8 +31,8 @@ pub invariant_of-trailer : goal.invariant_of-trailer
 invariant_of-trailer g c =
     let same = ap (λ (x : GridState). x.layout) c.into_grid-grid.ensures ∙ c.requires.rooms.grid_is ∙ sym c.requires.rooms.trailer_is in
     record {
-      bits_fit = complete_gives (λ (l : Layout) (op : ℕ). vec_len c.into_parts-root.result.bits ≡ (l.blocks + 63) / 64) c.into_grid-grid.result c.args.content.now.op c.read_chain.new.reader c.args.rooms.layout c.in-Ok.ensures.complete same c.into_parts-root.ensures.bits;
-      checks_fit = complete_gives (λ (l : Layout) (op : ℕ). vec_len c.into_parts-root.result.checks ≡ l.blocks) c.into_grid-grid.result c.args.content.now.op c.read_chain.new.reader c.args.rooms.layout c.in-Ok.ensures.complete same c.into_parts-root.ensures.checks;
+      bits_fit = complete_gives (λ (l : Layout) (op : ℕ). vec_len c.into_parts-parts.result.bits ≡ (l.blocks + 63) / 64) c.into_grid-grid.result c.args.content.now.op c.read_chain.new.reader c.args.rooms.layout c.in-Ok.ensures.complete same c.into_parts-parts.ensures.bits;
+      checks_fit = complete_gives (λ (l : Layout) (op : ℕ). vec_len c.into_parts-parts.result.checks ≡ l.blocks) c.into_grid-grid.result c.args.content.now.op c.read_chain.new.reader c.args.rooms.layout c.in-Ok.ensures.complete same c.into_parts-parts.ensures.checks;
       piece_fits = c.args.rooms.piece_fits;
       block_fits = c.args.rooms.block_fits;
     }
@@ -43,11 +43,11 @@ returns-in-Ok-clause-text g c =
     let f = c.args.content.now in
     let layout = ap (λ (x : GridState). x.layout) c.into_grid-grid.ensures ∙ c.requires.rooms.grid_is in
     let cluster = ap (λ (x : GridState). x.cluster) c.into_grid-grid.ensures in
-    let parts = c.into_parts-root.result in
+    let parts = c.into_parts-parts.result in
     record {
       tells = told_text file (g.D.Disk.told c.args.disk.now) f c.read_chain.new.grid c.into_grid-grid.result c.read_chain.new.reader parts layout cluster (c.in-Ok.ensures.grid.layout ∙ layout)
-          (c.in-Ok.ensures.answer (shape file) (ap layout_of (sym layout)) refl) c.into_parts-root.ensures.parts;
-      sessions = complete_gives (λ (l : Layout) (op : ℕ). AreRead l.clients op parts.sessions.items) c.into_grid-grid.result f.op c.read_chain.new.reader file.layout c.in-Ok.ensures.complete layout c.into_parts-root.ensures.sessions;
+          (c.in-Ok.ensures.answer (shape file) (ap layout_of (sym layout)) refl) c.into_parts-parts.ensures.parts;
+      sessions = complete_gives (λ (l : Layout) (op : ℕ). AreRead l.clients op parts.sessions.items) c.into_grid-grid.result f.op c.read_chain.new.reader file.layout c.in-Ok.ensures.complete layout c.into_parts-parts.ensures.sessions;
       fits = record {
         layout_is = c.in-Ok.ensures.grid.layout ∙ layout;
         cluster_is = c.in-Ok.ensures.grid.cluster ∙ cluster;

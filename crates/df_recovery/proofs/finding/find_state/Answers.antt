@@ -44,7 +44,7 @@ returns-then-is_lost-clause-answer c = at_place _ (PreparePlace c.slot_of.result
     let early = (c.is_behind.ensures.none sh image b.content counts (boot_is sh image b _ is c.fields-content.result.now c.fields-content.ensures.value) (ap (λ (x : Content). x.sequence) content) (ap (λ (x : Content). x.op) content) is.slots_are).0 c.if-is_behind.false in
     let found = c.in-Ok.ensures.reach sh image b is.tells (is_base sh image b _ is c.fields-content.result.now c.fields-content.ensures.value) in
     let bound = counts_bound sh image b _ is c.fields-content.result.now c.in-Ok.reach.tail.op c.bound_of-bound.result c.fields-content.ensures.value (c.bound_of-bound.ensures image is.tells.shows (c.count_all-seen.ensures.own image is.tells.shows is.shows)) in
-    let lost = (c.is_lost.ensures.bound image b.content bound (ap (λ (x : Content). x.head) content)).0 c.if-is_lost.true in
+    let lost = (c.is_lost.ensures.lost image b.content bound (ap (λ (x : Content). x.head) content)).0 c.if-is_lost.true in
     opens_lost sh image b _ is c.in-Ok.reach c.find_known.new.sessions.sessions early found c.slot_of.result c.slot_of.ensures.value lost)
     (λ t scanned. (class_shown c.args.layout.now t c.args.slots.now c.slot_of.result scanned.slots c.slot_of.ensures.below).1)
 
@@ -56,7 +56,7 @@ returns-in-Some-clause-answer c = at_place _ (ReplyPlace c.in-Some.lacking.place
     let early = (c.is_behind.ensures.none sh image b.content counts (boot_is sh image b _ is c.fields-content.result.now c.fields-content.ensures.value) (ap (λ (x : Content). x.sequence) content) (ap (λ (x : Content). x.op) content) is.slots_are).0 c.if-is_behind.false in
     let found = c.in-Ok.ensures.reach sh image b is.tells (is_base sh image b _ is c.fields-content.result.now c.fields-content.ensures.value) in
     let bound = counts_bound sh image b _ is c.fields-content.result.now c.in-Ok.reach.tail.op c.bound_of-bound.result c.fields-content.ensures.value (c.bound_of-bound.ensures image is.tells.shows (c.count_all-seen.ensures.own image is.tells.shows is.shows)) in
-    let kept = (c.is_lost.ensures.unbound image b.content bound (ap (λ (x : Content). x.head) content)).0 c.if-is_lost.false in
+    let kept = (c.is_lost.ensures.none image b.content bound (ap (λ (x : Content). x.head) content)).0 c.if-is_lost.false in
     let number = c.replies-stored.ensures image b.content found.tail is.shows (boot_is sh image b _ is c.fields-content.result.now c.fields-content.ensures.value) (ap (λ (x : Content). x.replies) content) (sym found.ends.mark) in
     opens_lacking sh image b _ is c.in-Ok.reach c.find_known.new.sessions.sessions early found c.replies-stored.result c.in-Some.lacking.place kept number
     (subst (λ (x : Content). LacksReply image x (sessions_of c.find_known.new.sessions.sessions) c.replies-stored.result c.in-Some.lacking.place) (sym content) (c.in-Some.ensures.lacks image is.shows)))
@@ -70,7 +70,7 @@ returns-then-content-eq-GREATEST_BOOT-clause-answer c = λ sh image b is.
     let early = (c.is_behind.ensures.none sh image b.content counts (boot_is sh image b _ is c.fields-content.result.now c.fields-content.ensures.value) (ap (λ (x : Content). x.sequence) content) (ap (λ (x : Content). x.op) content) is.slots_are).0 c.if-is_behind.false in
     let found = c.in-Ok.ensures.reach sh image b is.tells (is_base sh image b _ is c.fields-content.result.now c.fields-content.ensures.value) in
     let bound = counts_bound sh image b _ is c.fields-content.result.now c.in-Ok.reach.tail.op c.bound_of-bound.result c.fields-content.ensures.value (c.bound_of-bound.ensures image is.tells.shows (c.count_all-seen.ensures.own image is.tells.shows is.shows)) in
-    let kept = (c.is_lost.ensures.unbound image b.content bound (ap (λ (x : Content). x.head) content)).0 c.if-is_lost.false in
+    let kept = (c.is_lost.ensures.none image b.content bound (ap (λ (x : Content). x.head) content)).0 c.if-is_lost.false in
     let number = c.replies-stored.ensures image b.content found.tail is.shows (boot_is sh image b _ is c.fields-content.result.now c.fields-content.ensures.value) (ap (λ (x : Content). x.replies) content) (sym found.ends.mark) in
     opens_spent sh image b _ is c.in-Ok.reach c.find_known.new.sessions.sessions early found c.replies-stored.result (boot_is sh image b _ is c.fields-content.result.now c.fields-content.ensures.value ∙ c.if-content-eq-GREATEST_BOOT.true) stored_found kept number
     (subst (λ (x : Content). AllAnswered image x (sessions_of c.find_known.new.sessions.sessions) c.replies-stored.result) (sym content) (c.in-None.ensures.lacks image is.shows))
@@ -82,7 +82,7 @@ returns-else-content-eq-GREATEST_BOOT-clause-answer c = λ sh image b is.
     let early = (c.is_behind.ensures.none sh image b.content counts (boot_is sh image b _ is c.fields-content.result.now c.fields-content.ensures.value) (ap (λ (x : Content). x.sequence) content) (ap (λ (x : Content). x.op) content) is.slots_are).0 c.if-is_behind.false in
     let found = c.in-Ok.ensures.reach sh image b is.tells (is_base sh image b _ is c.fields-content.result.now c.fields-content.ensures.value) in
     let bound = counts_bound sh image b _ is c.fields-content.result.now c.in-Ok.reach.tail.op c.bound_of-bound.result c.fields-content.ensures.value (c.bound_of-bound.ensures image is.tells.shows (c.count_all-seen.ensures.own image is.tells.shows is.shows)) in
-    let kept = (c.is_lost.ensures.unbound image b.content bound (ap (λ (x : Content). x.head) content)).0 c.if-is_lost.false in
+    let kept = (c.is_lost.ensures.none image b.content bound (ap (λ (x : Content). x.head) content)).0 c.if-is_lost.false in
     let number = c.replies-stored.ensures image b.content found.tail is.shows (boot_is sh image b _ is c.fields-content.result.now c.fields-content.ensures.value) (ap (λ (x : Content). x.replies) content) (sym found.ends.mark) in
     finds sh image b _ is c.in-Ok.reach c.find_known.new.sessions.sessions early found c.replies-stored.result (below_spent sh image b _ is c.fields-content.result.now c.fields-content.ensures.value c.if-content-eq-GREATEST_BOOT.false) stored_found kept number
     (subst (λ (x : Content). AllAnswered image x (sessions_of c.find_known.new.sessions.sessions) c.replies-stored.result) (sym content) (c.in-None.ensures.lacks image is.shows))

@@ -9,16 +9,8 @@ use Rattle.df_recovery.proofs.surveying.settle.Goals as goal
 pub with_plan-requires-clause-scanned : goal.with_plan-requires-clause-scanned
 with_plan-requires-clause-scanned c =
     let scan = c.requires.scanned in
-    record {
-      named = scan.named;
-      version = scan.version;
-      size = scan.size;
-      fields = scan.fields;
-      start = scan.start;
-      slots = scan.slots;
-      places = c.store_replies.ensures.places ∙ c.in-Ok.ensures.places ∙ scan.places;
-      idle = scan.idle;
-    }
+    let places = c.store_replies.ensures.places ∙ c.in-Ok.ensures.places ∙ scan.places in
+    record { named = scan.named; version = scan.version; size = scan.size; fields = scan.fields; start = scan.start; slots = scan.slots; places = places; idle = scan.idle }
 
 pub with_plan-requires-clause-tail : goal.with_plan-requires-clause-tail
 with_plan-requires-clause-tail c =

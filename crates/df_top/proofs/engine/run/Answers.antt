@@ -11,6 +11,7 @@ use Rattle.df_top.specs.declared.mode.Mode.{Mode}
 use Rattle.df_top.specs.declared.mode.Mode.TheVariants.{Format, Inspect, Upgrade}
 use Rattle.df_top.proofs.Hurts.{runs_over_hurt}
 use Rattle.df_top.proofs.Modes.{one_mode}
+use Rattle.df_top.proofs.Reopens.{runs_over_history}
 use Rattle.df_top.proofs.Upgrades.{upgrades_over_hurt, upgrades_within}
 use Rattle.df_top.proofs.Within.{runs_within}
 use Rattle.df_top.proofs.Words.{makes_alone, makes_file, makes_none, opens_file, runnable, same_cluster_asked, same_layout_asked, upgrades_alone, upgrades_file}
@@ -43,6 +44,7 @@ returns-in-Open g c =
       made_within = λ layout cluster asks. absurd (makes_alone words layout cluster mode asks mine of);
       within = λ other of_other asks. runs_within mode old new c.run_file.result c.run_file.ensures.runs;
       hurt = λ other of_other asks. runs_over_hurt other old new c.run_file.result (subst (λ (m : Mode). Runs m old new c.run_file.result) (one_mode words mode other mine asks) c.run_file.ensures.runs);
+      lived = λ other of_other asks. runs_over_history other old new c.run_file.result (subst (λ (m : Mode). Runs m old new c.run_file.result) (one_mode words mode other mine asks) c.run_file.ensures.runs);
       upgrades = λ asks. absurd (upgrades_alone words mode asks mine of);
       upgraded_within = λ asks. absurd (upgrades_alone words mode asks mine of);
       upgraded_hurt = λ asks. absurd (upgrades_alone words mode asks mine of);
@@ -73,6 +75,7 @@ returns-in-Upgrade g c =
       within = λ mode of asks. absurd (upgrades_alone words mode mine asks of);
       upgraded_within = λ asks. upgrades_within old new c.upgrade_old.result (c.upgrade_old.ensures.upgrades left);
       hurt = λ mode of asks. absurd (upgrades_alone words mode mine asks of);
+      lived = λ mode of asks. absurd (upgrades_alone words mode mine asks of);
       upgraded_hurt = λ asks. upgrades_over_hurt old new c.upgrade_old.result (c.upgrade_old.ensures.upgrades left);
       causes = c.upgrade_old.ensures.causes (g.S.Source.faults c.args.source.now);
       memory = c.upgrade_old.ensures.memory left;
@@ -137,6 +140,12 @@ returns-in-Make-clause-hurt g c = λ mode of asks.
     let mine = subst (Means (map string_bytes c.args.words.now)) (makes_file c.in-Some.mode file (sym c.task_of.ensures ∙ c.in-Make.is)) c.in-Some.ensures.found in
     absurd (makes_alone (map string_bytes c.args.words.now) file.layout file.cluster mode mine asks of)
 
+pub returns-in-Make-clause-lived : goal.returns-in-Make-clause-lived
+returns-in-Make-clause-lived g c = λ mode of asks.
+    let file = c.in-Make.file in
+    let mine = subst (Means (map string_bytes c.args.words.now)) (makes_file c.in-Some.mode file (sym c.task_of.ensures ∙ c.in-Make.is)) c.in-Some.ensures.found in
+    absurd (makes_alone (map string_bytes c.args.words.now) file.layout file.cluster mode mine asks of)
+
 pub returns-in-Make-clause-upgrades : goal.returns-in-Make-clause-upgrades
 returns-in-Make-clause-upgrades g c = λ asks.
     let file = c.in-Make.file in
@@ -174,6 +183,9 @@ returns-in-None-clause-inspects g c = λ asks. absurd (c.in-None.ensures.none In
 
 pub returns-in-None-clause-hurt : goal.returns-in-None-clause-hurt
 returns-in-None-clause-hurt g c = λ mode of asks. absurd (c.in-None.ensures.none mode asks)
+
+pub returns-in-None-clause-lived : goal.returns-in-None-clause-lived
+returns-in-None-clause-lived g c = λ mode of asks. absurd (c.in-None.ensures.none mode asks)
 
 pub returns-in-None-clause-within : goal.returns-in-None-clause-within
 returns-in-None-clause-within g c = λ mode of asks. absurd (c.in-None.ensures.none mode asks)

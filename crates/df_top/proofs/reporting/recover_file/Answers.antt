@@ -35,14 +35,8 @@ returns-clause-causes g c = λ source.
     open_causes (g.D.Disk.faults c.args.disk.now) (g.D.Disk.faults c.open.new.disk) source (g.W.Sink.faults c.args.sink.now) (g.W.Sink.faults c.refuse_file.new.sink) (g.W.Sink.written c.args.sink.now) (g.W.Sink.written c.refuse_file.new.sink)
     c.refuse_file.result State c.in-Err.error c.in-Err.ensures.cause c.refuse_file.ensures.prints c.refuse_file.ensures.sink
 
-pub returns-in-Ok-clause-memory : goal.returns-in-Ok-clause-memory
-returns-in-Ok-clause-memory g c = (never_printed (summary_text (summary_of c.in-Ok.replica)) Done (g.W.Sink.written c.args.sink.now) (g.W.Sink.written c.summarise.new.sink) c.summarise.result calm_done c.summarise.ensures.prints).0
+pub returns-in-Ok-clause-ends : goal.returns-in-Ok-clause-ends
+returns-in-Ok-clause-ends g c = never_printed (summary_text (summary_of c.in-Ok.replica)) Done (g.W.Sink.written c.args.sink.now) (g.W.Sink.written c.summarise.new.sink) c.summarise.result calm_done c.summarise.ensures.prints
 
-pub returns-in-Ok-clause-words : goal.returns-in-Ok-clause-words
-returns-in-Ok-clause-words g c = (never_printed (summary_text (summary_of c.in-Ok.replica)) Done (g.W.Sink.written c.args.sink.now) (g.W.Sink.written c.summarise.new.sink) c.summarise.result calm_done c.summarise.ensures.prints).1
-
-pub returns-clause-memory : goal.returns-clause-memory
-returns-clause-memory g c = (refused_never c.in-Err.error (g.W.Sink.written c.args.sink.now) (g.W.Sink.written c.refuse_file.new.sink) c.refuse_file.result c.refuse_file.ensures.prints).0
-
-pub returns-clause-words : goal.returns-clause-words
-returns-clause-words g c = (refused_never c.in-Err.error (g.W.Sink.written c.args.sink.now) (g.W.Sink.written c.refuse_file.new.sink) c.refuse_file.result c.refuse_file.ensures.prints).1
+pub returns-clause-ends : goal.returns-clause-ends
+returns-clause-ends g c = refused_never c.in-Err.error (g.W.Sink.written c.args.sink.now) (g.W.Sink.written c.refuse_file.new.sink) c.refuse_file.result c.refuse_file.ensures.prints

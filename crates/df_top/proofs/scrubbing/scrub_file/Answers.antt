@@ -25,12 +25,6 @@ returns-in-Ok-clause-scrubs g c = λ left t told whole.
           (scrubs layout t old opened status c.in-Ok.replica whole told refl c.in-Ok.ensures.live c.in-Ok.ensures.kept (c.in-Ok.ensures.opened t told) c.tour.ensures.tours))),
     )
 
-pub returns-clause-scrubs : goal.returns-clause-scrubs
-returns-clause-scrubs g c = λ left t told whole.
-    let old : Outside = record { told = g.D.Disk.told c.args.disk.now; left = left; written = g.W.Sink.written c.args.sink.now } in
-    let new : Outside = record { told = g.D.Disk.told c.open.new.disk; left = left; written = g.W.Sink.written c.refuse_file.new.sink } in
-    (tt, not_opened Scrub c.args.rooms.layout t old new c.refuse_file.result c.in-Err.error whole told c.in-Err.ensures.answer refl c.in-Err.ensures.refused (c.in-Err.ensures.stopped t told) c.refuse_file.ensures.prints)
-
 pub returns-in-Ok-clause-causes : goal.returns-in-Ok-clause-causes
 returns-in-Ok-clause-causes g c = λ source. record {
   disk = subst (λ (n : ℕ). Blames DiskFault n (g.D.Disk.faults c.tour.new.disk) c.tour.result) c.in-Ok.ensures.cause c.tour.ensures.disk;
@@ -43,14 +37,14 @@ returns-clause-causes g c = λ source.
     open_causes (g.D.Disk.faults c.args.disk.now) (g.D.Disk.faults c.open.new.disk) source (g.W.Sink.faults c.args.sink.now) (g.W.Sink.faults c.refuse_file.new.sink) (g.W.Sink.written c.args.sink.now) (g.W.Sink.written c.refuse_file.new.sink)
     c.refuse_file.result State c.in-Err.error c.in-Err.ensures.cause c.refuse_file.ensures.prints c.refuse_file.ensures.sink
 
-pub returns-in-Ok-clause-memory : goal.returns-in-Ok-clause-memory
-returns-in-Ok-clause-memory g c = never_so c.tour.result Memory c.tour.ensures.ends (λ no. no)
+pub returns-in-Ok-clause-ends : goal.returns-in-Ok-clause-ends
+returns-in-Ok-clause-ends g c = (never_so c.tour.result Memory c.tour.ensures.ends (λ no. no), never_so c.tour.result Words c.tour.ensures.ends (λ no. no))
 
-pub returns-in-Ok-clause-words : goal.returns-in-Ok-clause-words
-returns-in-Ok-clause-words g c = never_so c.tour.result Words c.tour.ensures.ends (λ no. no)
+pub returns-clause-ends : goal.returns-clause-ends
+returns-clause-ends g c = refused_never c.in-Err.error (g.W.Sink.written c.args.sink.now) (g.W.Sink.written c.refuse_file.new.sink) c.refuse_file.result c.refuse_file.ensures.prints
 
-pub returns-clause-memory : goal.returns-clause-memory
-returns-clause-memory g c = (refused_never c.in-Err.error (g.W.Sink.written c.args.sink.now) (g.W.Sink.written c.refuse_file.new.sink) c.refuse_file.result c.refuse_file.ensures.prints).0
-
-pub returns-clause-words : goal.returns-clause-words
-returns-clause-words g c = (refused_never c.in-Err.error (g.W.Sink.written c.args.sink.now) (g.W.Sink.written c.refuse_file.new.sink) c.refuse_file.result c.refuse_file.ensures.prints).1
+pub returns-clause-scrubs : goal.returns-clause-scrubs
+returns-clause-scrubs g c = λ left t told whole.
+    let old : Outside = record { told = g.D.Disk.told c.args.disk.now; left = left; written = g.W.Sink.written c.args.sink.now } in
+    let new : Outside = record { told = g.D.Disk.told c.open.new.disk; left = left; written = g.W.Sink.written c.refuse_file.new.sink } in
+    (tt, not_opened Scrub c.args.rooms.layout t old new c.refuse_file.result c.in-Err.error whole told c.in-Err.ensures.answer refl c.in-Err.ensures.refused (c.in-Err.ensures.stopped t told) c.refuse_file.ensures.prints)

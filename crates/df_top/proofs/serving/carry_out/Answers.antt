@@ -17,8 +17,8 @@ returns-in-Run g c =
       inspects = λ is. absurd (let no : Run ≡ Inspect = sym c.in-Run.is ∙ is in cc);
       unread = λ no. absurd (no (subst ReadsScript (sym c.in-Run.is) (idle, refl)));
       causes = c.serve_file.ensures.causes;
-      memory = c.serve_file.ensures.memory;
-      usage = c.serve_file.ensures.words;
+      memory = c.serve_file.ensures.ends.0;
+      usage = c.serve_file.ensures.ends.1;
     }
 
 pub returns-in-Recover : goal.returns-in-Recover
@@ -31,8 +31,8 @@ returns-in-Recover g c =
       inspects = λ is. absurd (let no : Recover ≡ Inspect = sym c.in-Recover.is ∙ is in cc);
       unread = λ no. refl;
       causes = c.recover_file.ensures.causes (g.S.Source.faults c.args.source.now);
-      memory = c.recover_file.ensures.memory;
-      usage = c.recover_file.ensures.words;
+      memory = c.recover_file.ensures.ends.0;
+      usage = c.recover_file.ensures.ends.1;
     }
 
 pub returns-in-Inspect : goal.returns-in-Inspect
@@ -45,8 +45,8 @@ returns-in-Inspect g c =
       inspects = λ is. c.inspect_file.ensures.syncs;
       unread = λ no. refl;
       causes = c.inspect_file.ensures.causes (g.S.Source.faults c.args.source.now);
-      memory = c.inspect_file.ensures.memory;
-      usage = c.inspect_file.ensures.words;
+      memory = c.inspect_file.ensures.ends.0;
+      usage = c.inspect_file.ensures.ends.1;
     }
 
 pub returns-in-Scrub : goal.returns-in-Scrub
@@ -59,8 +59,8 @@ returns-in-Scrub g c =
       inspects = λ is. absurd (let no : Scrub ≡ Inspect = sym c.in-Scrub.is ∙ is in cc);
       unread = λ no. refl;
       causes = c.scrub_file.ensures.causes (g.S.Source.faults c.args.source.now);
-      memory = c.scrub_file.ensures.memory;
-      usage = c.scrub_file.ensures.words;
+      memory = c.scrub_file.ensures.ends.0;
+      usage = c.scrub_file.ensures.ends.1;
     }
 
 pub workload_file-requires : goal.workload_file-requires
@@ -78,8 +78,8 @@ returns-in-Workload g c =
       inspects = λ is. absurd (let no : Workload c.in-Workload.seed c.in-Workload.count ≡ Inspect = sym c.in-Workload.is ∙ is in cc);
       unread = λ no. refl;
       causes = c.workload_file.ensures.causes (g.S.Source.faults c.args.source.now);
-      memory = c.workload_file.ensures.memory;
-      usage = c.workload_file.ensures.words;
+      memory = c.workload_file.ensures.ends.0;
+      usage = c.workload_file.ensures.ends.1;
     }
 
 pub returns-in-Paced : goal.returns-in-Paced
@@ -91,6 +91,6 @@ returns-in-Paced g c =
       inspects = λ is. absurd (let no : Paced c.in-Paced.pace ≡ Inspect = sym c.in-Paced.is ∙ is in cc);
       unread = λ no. absurd (no (subst ReadsScript (sym c.in-Paced.is) (c.in-Paced.pace, refl)));
       causes = c.serve_file-in-Paced.ensures.causes;
-      memory = c.serve_file-in-Paced.ensures.memory;
-      usage = c.serve_file-in-Paced.ensures.words;
+      memory = c.serve_file-in-Paced.ensures.ends.0;
+      usage = c.serve_file-in-Paced.ensures.ends.1;
     }

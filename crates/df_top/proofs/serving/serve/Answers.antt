@@ -7,6 +7,7 @@ use Rattle.df_top.specs.declared.mode.Mode.{Mode}
 use Rattle.df_top.specs.declared.mode.Mode.TheVariants.{Inspect}
 use Rattle.df_top.proofs.Hurts.{serves_over_hurt}
 use Rattle.df_top.proofs.Modes.{one_mode}
+use Rattle.df_top.proofs.Reopens.{serves_over_history}
 use Rattle.df_top.proofs.Within.{does_within}
 use Rattle.df_top.proofs.Words.{of_file_asked, runnable}
 use Rattle.df_top.proofs.serving.serve.Goals as goal
@@ -28,6 +29,9 @@ returns-clause-inspects g c = λ asks. c.carry_out.ensures.inspects (one_mode (m
 
 pub returns-clause-hurt : goal.returns-clause-hurt
 returns-clause-hurt g c = λ mode asks. serves_over_hurt mode _ _ _ _ (returns-clause-serves g c mode asks)
+
+pub returns-clause-lived : goal.returns-clause-lived
+returns-clause-lived g c = λ mode asks. serves_over_history mode _ _ _ _ (returns-clause-serves g c mode asks)
 
 pub returns-clause-within : goal.returns-clause-within
 returns-clause-within g c = λ t told whole. does_within c.args.rooms.layout t _ _ _ c.in-Some.mode (c.carry_out.ensures.serves t told whole)

@@ -26,3 +26,9 @@ pub returns-in-Ok-reserve-clause-causes : goal.returns-in-Ok-reserve-clause-caus
 returns-in-Ok-reserve-clause-causes g c = λ source.
     subst (λ (n : ℕ). HasCauses (record { disk = n; source = source; sink = g.W.Sink.faults c.args.sink.now }) (record { disk = g.D.Disk.faults c.upgrade_there.new.disk; source = source; sink = g.W.Sink.faults c.upgrade_there.new.sink }) c.upgrade_there.result)
     c.in-Ok-probe_version.ensures.cause (c.upgrade_there.ensures.causes source)
+
+pub returns-in-Ok-reserve-clause-memory : goal.returns-in-Ok-reserve-clause-memory
+returns-in-Ok-reserve-clause-memory g c = λ left without. absurd (c.upgrade_there.ensures.ends.0 without)
+
+pub returns-in-Ok-reserve-clause-usage : goal.returns-in-Ok-reserve-clause-usage
+returns-in-Ok-reserve-clause-usage g c = c.upgrade_there.ensures.ends.1

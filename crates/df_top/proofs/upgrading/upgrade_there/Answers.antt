@@ -26,14 +26,8 @@ returns-clause-causes g c = λ source.
     open_causes (g.D.Disk.faults c.args.disk.now) (g.D.Disk.faults c.upgrade_file.new.disk) source (g.W.Sink.faults c.args.sink.now) (g.W.Sink.faults c.refuse_file.new.sink) (g.W.Sink.written c.args.sink.now) (g.W.Sink.written c.refuse_file.new.sink)
     c.refuse_file.result ℕ c.in-Err.error c.in-Err.ensures.cause c.refuse_file.ensures.prints c.refuse_file.ensures.sink
 
-pub returns-in-Ok-clause-memory : goal.returns-in-Ok-clause-memory
-returns-in-Ok-clause-memory g c = (never_printed (upgraded_text c.in-Ok.upgraded.sequence) Done (g.W.Sink.written c.args.sink.now) (g.W.Sink.written c.tell_upgraded.new.sink) c.tell_upgraded.result calm_done c.tell_upgraded.ensures.line).0
+pub returns-in-Ok-clause-ends : goal.returns-in-Ok-clause-ends
+returns-in-Ok-clause-ends g c = never_printed (upgraded_text c.in-Ok.upgraded.sequence) Done (g.W.Sink.written c.args.sink.now) (g.W.Sink.written c.tell_upgraded.new.sink) c.tell_upgraded.result calm_done c.tell_upgraded.ensures.line
 
-pub returns-in-Ok-clause-words : goal.returns-in-Ok-clause-words
-returns-in-Ok-clause-words g c = (never_printed (upgraded_text c.in-Ok.upgraded.sequence) Done (g.W.Sink.written c.args.sink.now) (g.W.Sink.written c.tell_upgraded.new.sink) c.tell_upgraded.result calm_done c.tell_upgraded.ensures.line).1
-
-pub returns-clause-memory : goal.returns-clause-memory
-returns-clause-memory g c = (refused_never c.in-Err.error (g.W.Sink.written c.args.sink.now) (g.W.Sink.written c.refuse_file.new.sink) c.refuse_file.result c.refuse_file.ensures.prints).0
-
-pub returns-clause-words : goal.returns-clause-words
-returns-clause-words g c = (refused_never c.in-Err.error (g.W.Sink.written c.args.sink.now) (g.W.Sink.written c.refuse_file.new.sink) c.refuse_file.result c.refuse_file.ensures.prints).1
+pub returns-clause-ends : goal.returns-clause-ends
+returns-clause-ends g c = refused_never c.in-Err.error (g.W.Sink.written c.args.sink.now) (g.W.Sink.written c.refuse_file.new.sink) c.refuse_file.result c.refuse_file.ensures.prints

@@ -16,10 +16,10 @@ hear-requires g c =
 pub returns-in-Ok : goal.returns-in-Ok
 returns-in-Ok g c =
     let run = c.args.generator.now in
-    let s = c.args.replica.now in
-    let t = c.make_call.new.replica in
     let old = g.D.Disk.told c.args.disk.now in
     let new = g.D.Disk.told c.make_call.new.disk in
+    let s = c.args.replica.now in
+    let t = c.make_call.new.replica in
     let o = c.in-Ok.outcome in
     let next = ends_by_step run c.requires.ending c.requires.running in
     let made = c.in-Ok.ensures.makes in

@@ -17,10 +17,10 @@ hear-requires g c = may_go_on c.args.generator.now.point c.in-Ok.outcome c.args.
 pub returns-in-Ok : goal.returns-in-Ok
 returns-in-Ok g c =
     let run = c.args.generator.now in
-    let s = c.args.replica.now in
-    let t = c.make_next.new.replica in
     let old = g.D.Disk.told c.args.disk.now in
+    let s = c.args.replica.now in
     let new = g.D.Disk.told c.make_next.new.disk in
+    let t = c.make_next.new.replica in
     let next = asks_some run.point run c.requires.going in
     let made = c.in-Ok.ensures.makes next.0 next.1 in
     record {

@@ -6,7 +6,7 @@ use Rattle.df_sessions.specs.declared.session.Session.{Session}
 use Rattle.df_model.specs.Blocks.{Blocks, blocks_captured, free_in}
 use Rattle.df_units.specs.Meaning.{layout_of}
 use Rattle.df_grid.specs.Grid.{GridState}
-use Rattle.df_opening.specs.Below.{IsRunning, IsState, State, state_in}
+use Rattle.df_opening.specs.Below.{FitsGrid, IsRunning, IsState, State, state_in}
 use Rattle.df_replica.specs.Beginning.{MayBegin, begun, captured}
 use Rattle.df_replica.proofs.BeginState.{is_running, with_course}
 use Rattle.df_replica.proofs.replica.Replica.capture.Goals as goal
@@ -33,9 +33,6 @@ invariant_of-self c =
       state = subst (λ (n : ℕ). IsState (record s { blocks = c.capture.new.self.blocks; running = Some (record (captured s root) { root = c.root_of.result.items; sessions = c.sessions_in.result.items; sequence = c.fields.result.now.sequence + 1; size = plan.size; blocks = plan.blocks }); boot = n }))
           (ap (λ (g : GridState). g.boot) (sym c.capture.ensures))
           (with_course s c.capture.new.self.blocks (Some (record (captured s root) { root = c.root_of.result.items; sessions = c.sessions_in.result.items; sequence = c.fields.result.now.sequence + 1; size = plan.size; blocks = plan.blocks })) old course (λ same. refl));
-      rooms_fit = c.self.invariant.rooms_fit;
-      grid_fits = ap (λ (g : GridState). g.layout) c.capture.ensures ∙ c.self.invariant.grid_fits;
-      grid_named = ap (λ (g : GridState). g.cluster) c.capture.ensures ∙ c.self.invariant.grid_named;
-      trailer_fits = c.self.invariant.trailer_fits;
-      scrub_fits = c.self.invariant.scrub_fits;
+      rooms = c.self.invariant.rooms;
+      grid = subst (λ (g : GridState). FitsGrid s.file g.layout g.cluster) (sym c.capture.ensures) c.self.invariant.grid;
     }

@@ -1,9 +1,9 @@
 -- The state in which the checkpoint is the durable one makes sense.
-use Rattle.std.proofs.Common.{◌≡◌, ◌∙◌, Option, None, Some, sym, ap, subst}
+use Rattle.std.proofs.Common.{◌≡◌, Option, None, Some, sym, subst}
 use Rattle.df_format.specs.SuperRules.{IsUsable}
 use Rattle.df_format.specs.declared.superblock.SuperFields.{SuperFields}
 use Rattle.df_grid.specs.Grid.{GridState}
-use Rattle.df_opening.specs.Below.{IsState, RunningCheckpoint, RunningState, State, running_of, running_state, state_in}
+use Rattle.df_opening.specs.Below.{FitsGrid, IsState, RunningCheckpoint, RunningState, State, running_of, running_state, state_in}
 use Rattle.df_replica.specs.Stepping.{OfRunning, finished, next_fields}
 use Rattle.df_replica.proofs.FinishState.{finished_sense}
 use Rattle.df_replica.proofs.StepState.{taken_level, taken_runs}
@@ -27,9 +27,6 @@ invariant_of-self c =
           subst (λ (o : Option RunningCheckpoint). IsState (record s { fields = c.args.content; root = r.root; blocks = c.finish.new.self.blocks; boot = c.finish.new.self.boot; running = running_of o })) (sym c.take.ensures.after)
           (subst (λ (x : GridState). IsState (record s { fields = c.args.content; root = r.root; blocks = x.blocks; boot = x.boot; running = None })) (sym c.finish.ensures)
           (subst (λ (f : SuperFields). IsState (record (finished s r) { fields = f })) (sym content) sense));
-      rooms_fit = old.rooms_fit;
-      grid_fits = ap (λ (x : GridState). x.layout) c.finish.ensures ∙ old.grid_fits;
-      grid_named = ap (λ (x : GridState). x.cluster) c.finish.ensures ∙ old.grid_named;
-      trailer_fits = old.trailer_fits;
-      scrub_fits = old.scrub_fits;
+      rooms = old.rooms;
+      grid = subst (λ (x : GridState). FitsGrid i.file x.layout x.cluster) (sym c.finish.ensures) old.grid;
     }

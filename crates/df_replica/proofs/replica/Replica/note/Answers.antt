@@ -22,34 +22,30 @@ invariant_of-self c =
     let more : length c.push.new.self.items ≡ length c.self.inside.parts.waiting.items + 1 = ap length c.push.ensures.items ∙ length_push c.self.inside.parts.waiting.items c.args.made.now.checksum in
     record {
       state = record {
-        cluster = old.cluster;
-        parent = c.requires.sum;
-        version = old.version;
-        second = old.second;
+        in_file = old.in_file;
         booted = old.booted;
-        sequence = old.sequence;
-        root = old.root;
-        order = omega (arith, op, old.order);
-        room = omega (arith, op, may.room);
-        head_to = omega (arith, op, may.op);
-        waiting = omega (arith, op, old.waiting, more);
-        few = omega (arith, may.few, more);
-        places = c.apply.ensures.places ∙ old.places;
-        first = λ zero_head. absurd (omega (arith, op, zero_head));
-        level = λ same. absurd (omega (arith, op, same, old.order));
+        ends = record {
+          parent = c.requires.sum;
+          order = omega (arith, op, old.order);
+          room = omega (arith, op, may.room);
+          head_to = omega (arith, op, may.op);
+          first = λ zero_head. absurd (omega (arith, op, zero_head));
+          level = λ same. absurd (omega (arith, op, same, old.order));
+        };
+        awaits = record {
+          waiting = omega (arith, op, old.waiting, more);
+          few = omega (arith, may.few, more);
+          places = c.apply.ensures.places ∙ old.places;
+          requests = subst AreNumbered (sym c.apply.ensures.sessions) (numbered_on c.args.made.now.client c.args.made.now.request c.args.made.now.op c.self.inside.parts.sessions.sessions old.requests may.request.1);
+          asked = subst AreAsked (sym sessions) (asked_noted h (sessions_of c.self.inside.parts.sessions.sessions) old.asked may.request.0);
+          tracks =
+              subst (λ (ss : List Units.Session). Tracks c.self.inside.parts.replies c.args.made.now.op ss) (sym sessions)
+              (subst (λ (top : ℕ). Tracks c.self.inside.parts.replies top (noted h (sessions_of c.self.inside.parts.sessions.sessions))) (sym op)
+              (tracks_noted c.self.inside.parts.file.layout.clients c.self.inside.parts.replies c.self.inside.parts.replies c.self.inside.parts.head h (sessions_of c.self.inside.parts.sessions.sessions) old.tracks (may.asks h refl refl refl) op (omega arith) (omega arith)));
+        };
         captured = level_beyond c.self.inside.parts.file c.self.inside.parts.content c.self.inside.parts.head c.args.made.now.op c.args.made.now.checksum c.self.inside.parts.grid.blocks (running_of c.self.inside.parts.running) (omega (arith, op)) old.course;
-        requests = subst AreNumbered (sym c.apply.ensures.sessions) (numbered_on c.args.made.now.client c.args.made.now.request c.args.made.now.op c.self.inside.parts.sessions.sessions old.requests may.request.1);
-        asked = subst AreAsked (sym sessions) (asked_noted h (sessions_of c.self.inside.parts.sessions.sessions) old.asked may.request.0);
-        tracks =
-            subst (λ (ss : List Units.Session). Tracks c.self.inside.parts.replies c.args.made.now.op ss) (sym sessions)
-            (subst (λ (top : ℕ). Tracks c.self.inside.parts.replies top (noted h (sessions_of c.self.inside.parts.sessions.sessions))) (sym op)
-            (tracks_noted c.self.inside.parts.file.layout.clients c.self.inside.parts.replies c.self.inside.parts.replies c.self.inside.parts.head h (sessions_of c.self.inside.parts.sessions.sessions) old.tracks (may.asks h refl refl refl) op (omega arith) (omega arith)));
-        ring = old.ring;
         course = course_on c.self.inside.parts.file c.self.inside.parts.content c.self.inside.parts.head c.args.made.now.op c.self.inside.parts.grid.blocks (running_of c.self.inside.parts.running) (omega (arith, op)) old.course;
       };
-      rooms_fit = c.self.invariant.rooms_fit;
-      grid_fits = c.self.invariant.grid_fits;
-      grid_named = c.self.invariant.grid_named;
-      trailer_fits = c.self.invariant.trailer_fits;
-      scrub_fits = c.self.invariant.scrub_fits;
+      rooms = c.self.invariant.rooms;
+      grid = c.self.invariant.grid;
     }

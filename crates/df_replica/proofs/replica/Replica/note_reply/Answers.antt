@@ -14,33 +14,22 @@ invariant_of-self c =
     let same : sessions_of c.store.new.self.sessions ≡ sessions_of c.self.inside.parts.sessions.sessions = c.store.ensures.unnoted in
     record {
       state = record {
-        cluster = old.cluster;
-        parent = old.parent;
-        version = old.version;
-        second = old.second;
+        in_file = old.in_file;
         booted = old.booted;
-        sequence = old.sequence;
-        root = old.root;
-        order = old.order;
-        room = old.room;
-        head_to = old.head_to;
-        waiting = omega (arith, old.waiting, fewer);
-        few = omega (arith, old.few, fewer);
-        places = c.store.ensures.places ∙ old.places;
-        first = old.first;
-        level = old.level;
+        ends = old.ends;
+        awaits = record {
+          waiting = omega (arith, old.waiting, fewer);
+          few = omega (arith, old.few, fewer);
+          places = c.store.ensures.places ∙ old.places;
+          requests = numbered_by c.self.inside.parts.sessions.sessions c.store.new.self.sessions same old.requests;
+          asked = subst AreAsked (sym same) old.asked;
+          tracks =
+              subst (Tracks (c.self.inside.parts.replies + 1) c.self.inside.parts.head) (sym same)
+              (record { below = old.tracks.below; apart = old.tracks.apart; pending = λ o above within. old.tracks.pending o (omega (arith, above)) within });
+        };
         captured = old.captured;
-        requests = numbered_by c.self.inside.parts.sessions.sessions c.store.new.self.sessions same old.requests;
-        asked = subst AreAsked (sym same) old.asked;
-        tracks =
-            subst (Tracks (c.self.inside.parts.replies + 1) c.self.inside.parts.head) (sym same)
-            (record { below = old.tracks.below; apart = old.tracks.apart; pending = λ o above within. old.tracks.pending o (omega (arith, above)) within });
-        ring = old.ring;
         course = old.course;
       };
-      rooms_fit = c.self.invariant.rooms_fit;
-      grid_fits = c.self.invariant.grid_fits;
-      grid_named = c.self.invariant.grid_named;
-      trailer_fits = c.self.invariant.trailer_fits;
-      scrub_fits = c.self.invariant.scrub_fits;
+      rooms = c.self.invariant.rooms;
+      grid = c.self.invariant.grid;
     }

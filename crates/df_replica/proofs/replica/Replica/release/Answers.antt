@@ -1,44 +1,27 @@
 -- Each release is the machine's, and the state behind it makes sense.
-use Rattle.std.proofs.Common.{◌≡◌, false, true, Some, sym, ap, subst, ◌∙◌}
+use Rattle.std.proofs.Common.{◌≡◌, ℕ, false, true, Some, sym, ap, subst, ◌∙◌}
 use Rattle.std.specs.Prelude.{Err}
-use Rattle.df_grid.specs.Grid.{GridState}
-use Rattle.df_model.specs.Blocks.{Blocks, sum_at, without_entry}
+use Rattle.df_grid.specs.Grid.{GridState, with_blocks}
+use Rattle.df_model.specs.Blocks.{Blocks, block_released, sum_at, without_entry}
 use Rattle.df_model.specs.Commands.{Release, ToRelease}
 use Rattle.df_model.specs.Work.{is_known}
-use Rattle.df_opening.specs.Below.{State, AreWhole, state_in}
+use Rattle.df_opening.specs.Below.{AreWhole, Parts, State, state_in}
 use Rattle.df_replica.specs.Answering.{Serves}
 use Rattle.df_replica.specs.Blocks.{released}
 use Rattle.df_replica.proofs.BlockStates.{live_state, not_live_stays}
 use Rattle.df_replica.proofs.ReleaseAnswers.{none_is, refused_is, refused_release, released_serves}
 use Rattle.df_replica.proofs.replica.Replica.release.Goals as goal
 
+-- another grid of the file, with other live blocks
+let_go : (p : Parts) (grid : GridState) (a : ℕ) → AreWhole p → grid ≡ with_blocks p.grid (block_released p.grid.blocks a) → AreWhole (record p { grid = grid })
+let_go p grid a old is = subst (λ (x : GridState). AreWhole (record p { grid = x })) (sym is)
+    (record { state = live_state (state_in p) (without_entry a p.grid.blocks.live) old.state; rooms = old.rooms; grid = record { grid_fits = old.grid_fits; grid_named = old.grid_named } })
+
 pub invariant_of-self : goal.invariant_of-self
-invariant_of-self c =
-    let s = c.self.inside.parts in
-    let old = c.self.invariant in
-    subst (λ (x : GridState). AreWhole (record s { grid = x })) (sym c.release.ensures.released)
-    (record {
-      state = live_state (state_in s) (without_entry c.args.address s.grid.blocks.live) old.state;
-      rooms_fit = old.rooms_fit;
-      grid_fits = old.grid_fits;
-      grid_named = old.grid_named;
-      trailer_fits = old.trailer_fits;
-      scrub_fits = old.scrub_fits;
-    })
+invariant_of-self c = let_go c.self.inside.parts c.release.new.self c.args.address c.self.invariant c.release.ensures.released
 
 pub invariant_of-self-2 : goal.invariant_of-self-2
-invariant_of-self-2 c =
-    let s = c.self.inside.parts in
-    let old = c.self.invariant in
-    subst (λ (x : GridState). AreWhole (record s { grid = x })) (sym c.release.ensures.released)
-    (record {
-      state = live_state (state_in s) (without_entry c.args.address s.grid.blocks.live) old.state;
-      rooms_fit = old.rooms_fit;
-      grid_fits = old.grid_fits;
-      grid_named = old.grid_named;
-      trailer_fits = old.trailer_fits;
-      scrub_fits = old.scrub_fits;
-    })
+invariant_of-self-2 c = let_go c.self.inside.parts c.release.new.self c.args.address c.self.invariant c.release.ensures.released
 
 pub returns-then-not-release-clause-exact : goal.returns-then-not-release-clause-exact
 returns-then-not-release-clause-exact c =

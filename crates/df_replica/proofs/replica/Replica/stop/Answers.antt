@@ -8,9 +8,6 @@ invariant_of-self c =
     let old = c.self.invariant in
     record {
       state = stopped_sense (state_in c.self.inside.parts) c.end_calls.new.live c.end_calls.ensures old.state;
-      rooms_fit = old.rooms_fit;
-      grid_fits = old.grid_fits;
-      grid_named = old.grid_named;
-      trailer_fits = old.trailer_fits;
-      scrub_fits = old.scrub_fits;
+      rooms = old.rooms;
+      grid = old.grid;
     }

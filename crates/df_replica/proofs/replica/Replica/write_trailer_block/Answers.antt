@@ -1,5 +1,6 @@
 -- The block that is written is the trailer's next one, and the state behind it makes sense.
-use Rattle.std.proofs.Common.{◌≡◌, ℕ, ◌+◌, ◌∙◌, Some, refl, sym, ap, subst}
+use Rattle.std.proofs.Common.{◌≡◌, ℕ, ◌+◌, ◌∙◌, List, Some, refl, sym, ap, subst}
+use Rattle.df_base.specs.Log.{Event}
 use Rattle.df_disk.specs.Adds.{AddsPart, after_all}
 use Rattle.df_theory.specs.Device.{AreSteps}
 use Rattle.df_checkpoint.specs.Writing.{unit_in}
@@ -9,8 +10,8 @@ use Rattle.df_grid.specs.Writes.{block_steps, made_events}
 use Rattle.df_units.specs.Format.{format_of}
 use Rattle.df_units.specs.Meaning.{number_of}
 use Rattle.df_model.specs.Blocks.{Blocks}
-use Rattle.df_opening.specs.Below.{running_state, IsRunning, IsState, State, state_in}
-use Rattle.df_replica.specs.Stepping.{MayAdvance, advanced, block_events, trailer_unit}
+use Rattle.df_opening.specs.Below.{FitsGrid, IsRunning, IsState, Parts, RunningCheckpoint, State, running_state, state_in}
+use Rattle.df_replica.specs.Stepping.{MayAdvance, OfRunning, advanced, block_events, trailer_unit}
 use Rattle.df_replica.proofs.BeginState.{with_course}
 use Rattle.df_replica.proofs.StepState.{grid_is, of_running, running_on, taken_level, taken_runs}
 use Rattle.df_replica.proofs.replica.Replica.write_trailer_block.Goals as goal
@@ -30,44 +31,41 @@ invariant_of-self g c =
     record {
       state = subst (λ (n : ℕ). IsState (record s { blocks = grid.blocks; running = Some (record (running_state r) { written = r.written + 1 }); boot = n })) (ap (λ (x : GridState). x.boot) (sym written))
           (with_course s grid.blocks (Some (record (running_state r) { written = r.written + 1 })) c.self.invariant.state course (taken_level i.head i.head_checksum i.running r (sym c.in-Some.ensures.value) c.self.invariant.state.captured));
-      rooms_fit = c.self.invariant.rooms_fit;
-      grid_fits = ap (λ (x : GridState). x.layout) written ∙ c.self.invariant.grid_fits;
-      grid_named = ap (λ (x : GridState). x.cluster) written ∙ c.self.invariant.grid_named;
-      trailer_fits = c.self.invariant.trailer_fits;
-      scrub_fits = c.self.invariant.scrub_fits;
+      rooms = c.self.invariant.rooms;
+      grid = subst (λ (x : GridState). FitsGrid i.file x.layout x.cluster) (sym written) c.self.invariant.grid;
     }
+
+-- what is told of the events of the block that is made is told of those of the trailer's next one
+events_as : (P : List Event → Type 0) (i : Parts) (v : State) (r : RunningCheckpoint) → i.running ≡ Some r → state_in i ≡ v → i.grid.layout ≡ i.file.layout → i.grid.cluster ≡ i.file.cluster
+    → P (made_events i.grid.layout (unit_in i.grid r.capture r.written)) → OfRunning v.running (λ q. P (block_events v q))
+events_as P i v r at view fits named is =
+    of_running (λ x q. P (block_events x q)) (state_in i) v i.running r at refl view (subst (λ (x : GridState). P (made_events x.layout (unit_in x r.capture r.written))) (grid_is i.file i.grid fits named) is)
+
+-- and so are its steps
+steps_as : (i : Parts) (v : State) (r : RunningCheckpoint) → i.running ≡ Some r → state_in i ≡ v → i.grid.layout ≡ i.file.layout → i.grid.cluster ≡ i.file.cluster
+    → AreSteps (format_of i.grid.layout i.grid.cluster) (made_events i.grid.layout (unit_in i.grid r.capture r.written)) (block_steps (unit_in i.grid r.capture r.written))
+    → OfRunning v.running (λ q. AreSteps (format_of v.file.layout v.file.cluster) (block_events v q) (block_steps (trailer_unit v q)))
+steps_as i v r at view fits named are =
+    of_running (λ x q. AreSteps (format_of x.file.layout x.file.cluster) (block_events x q) (block_steps (trailer_unit x q))) (state_in i) v i.running r at refl view
+    (subst (λ (x : GridState). AreSteps (format_of x.layout x.cluster) (made_events x.layout (unit_in x r.capture r.written)) (block_steps (unit_in x r.capture r.written))) (grid_is i.file i.grid fits named) are)
 
 pub returns-in-Ok-clause-events : goal.returns-in-Ok-clause-events
 returns-in-Ok-clause-events g c =
-    let i = c.self.inside.parts in
-    let r = c.in-Some.running in
-    let old = g.D.Disk.told c.args.disk.now in
-    let new = g.D.Disk.told c.write_piece-done.new.disk in
-    of_running (λ x q. new ≡ after_all (block_events x q) old) (state_in i) c.args.self.now i.running r (sym c.in-Some.ensures.value) refl c.self.view_is
-    (subst (λ (x : GridState). new ≡ after_all (made_events x.layout (unit_in x r.capture r.written)) old) (grid_is i.file i.grid c.self.invariant.grid_fits c.self.invariant.grid_named) c.in-Ok.ensures.events)
+    events_as (λ (es : List Event). g.D.Disk.told c.write_piece-done.new.disk ≡ after_all es (g.D.Disk.told c.args.disk.now)) c.self.inside.parts c.args.self.now c.in-Some.running (sym c.in-Some.ensures.value) c.self.view_is
+    c.self.invariant.grid_fits c.self.invariant.grid_named c.in-Ok.ensures.events
 
 pub returns-in-Err-clause-events : goal.returns-in-Err-clause-events
 returns-in-Err-clause-events g c =
-    let i = c.self.inside.parts in
-    let r = c.in-Some.running in
-    let old = g.D.Disk.told c.args.disk.now in
-    let new = g.D.Disk.told c.write_piece-done.new.disk in
-    of_running (λ x q. AddsPart (block_events x q) old new) (state_in i) c.args.self.now i.running r (sym c.in-Some.ensures.value) refl c.self.view_is
-    (subst (λ (x : GridState). AddsPart (made_events x.layout (unit_in x r.capture r.written)) old new) (grid_is i.file i.grid c.self.invariant.grid_fits c.self.invariant.grid_named) c.in-Err.ensures.events)
+    events_as (λ (es : List Event). AddsPart es (g.D.Disk.told c.args.disk.now) (g.D.Disk.told c.write_piece-done.new.disk)) c.self.inside.parts c.args.self.now c.in-Some.running (sym c.in-Some.ensures.value) c.self.view_is
+    c.self.invariant.grid_fits c.self.invariant.grid_named c.in-Err.ensures.events
 
 pub returns-in-Ok-clause-steps : goal.returns-in-Ok-clause-steps
 returns-in-Ok-clause-steps g c =
-    let i = c.self.inside.parts in
-    let r = c.in-Some.running in
-    of_running (λ x q. AreSteps (format_of x.file.layout x.file.cluster) (block_events x q) (block_steps (trailer_unit x q))) (state_in i) c.args.self.now i.running r (sym c.in-Some.ensures.value) refl c.self.view_is
-    (subst (λ (x : GridState). AreSteps (format_of x.layout x.cluster) (made_events x.layout (unit_in x r.capture r.written)) (block_steps (unit_in x r.capture r.written))) (grid_is i.file i.grid c.self.invariant.grid_fits c.self.invariant.grid_named) c.write_piece-done.ensures.steps)
+    steps_as c.self.inside.parts c.args.self.now c.in-Some.running (sym c.in-Some.ensures.value) c.self.view_is c.self.invariant.grid_fits c.self.invariant.grid_named c.write_piece-done.ensures.steps
 
 pub returns-in-Err-clause-steps : goal.returns-in-Err-clause-steps
 returns-in-Err-clause-steps g c =
-    let i = c.self.inside.parts in
-    let r = c.in-Some.running in
-    of_running (λ x q. AreSteps (format_of x.file.layout x.file.cluster) (block_events x q) (block_steps (trailer_unit x q))) (state_in i) c.args.self.now i.running r (sym c.in-Some.ensures.value) refl c.self.view_is
-    (subst (λ (x : GridState). AreSteps (format_of x.layout x.cluster) (made_events x.layout (unit_in x r.capture r.written)) (block_steps (unit_in x r.capture r.written))) (grid_is i.file i.grid c.self.invariant.grid_fits c.self.invariant.grid_named) c.write_piece-done.ensures.steps)
+    steps_as c.self.inside.parts c.args.self.now c.in-Some.running (sym c.in-Some.ensures.value) c.self.view_is c.self.invariant.grid_fits c.self.invariant.grid_named c.write_piece-done.ensures.steps
 
 pub returns-in-Ok-clause-written : goal.returns-in-Ok-clause-written
 returns-in-Ok-clause-written g c =

@@ -1,0 +1,15 @@
+-- Two checksums of sixteen bytes are one exactly where their numbers are.
+use Rattle.std.proofs.Common.{rules, ap, sym, ◌∙◌}
+use Rattle.std.proofs.lemmas.Slice.Eq.{bytes_eq-Decides}
+use Rattle.df_format.specs.Spelling.{IsCheck}
+use Rattle.df_units.specs.Meaning.{number_of}
+use Rattle.df_units.proofs.Laws.{one_number}
+use Rattle.df_group.proofs.fits.is_same.Goals as goal
+
+pub returns : goal.returns
+returns c =
+    let parent : IsCheck c.args.parent = search rules in
+    let checksum : IsCheck c.args.checksum = search rules in (
+      λ yes. ap number_of ((bytes_eq-Decides c.args.parent c.args.checksum).0 (sym c.eq.ensures ∙ yes)),
+      λ same. c.eq.ensures ∙ (bytes_eq-Decides c.args.parent c.args.checksum).1 (one_number c.args.parent c.args.checksum parent checksum same),
+    )

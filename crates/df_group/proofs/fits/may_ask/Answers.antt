@@ -1,0 +1,26 @@
+-- The client's session decides, or its first request and a place.
+use Rattle.std.proofs.Common.{◌<◌, ◌≤◌, length, sym, ◌∙◌, arith}
+use Rattle.std.proofs.lemmas.Bool.{eqb-true, ltb-true, lt-ltb}
+use Rattle.df_group.proofs.Asks.{asks_known, asks_new, no_gap}
+use Rattle.df_group.proofs.fits.may_ask.Goals as goal
+
+pub returns-in-Some-get : goal.returns-in-Some-get
+returns-in-Some-get c =
+    let fits : length c.args.sessions.now.sessions ≤ c.args.clients = omega (arith, c.len-count.ensures.table.within, c.requires.places) in
+    let own = asks_known c.args.clients c.args.header.now c.args.sessions.now.sessions c.in-Some.place c.in-Some-get.session fits (sym c.place_of.ensures ∙ c.in-Some.is) (sym c.get.ensures ∙ c.in-Some-get.is) in
+    (λ yes. own.1 (c.follows.ensures.0 yes), λ asks. c.follows.ensures.1 (own.0 asks))
+
+pub returns-in-None-get : goal.returns-in-None-get
+returns-in-None-get c = absurd (no_gap c.args.header.now.client c.args.sessions.now.sessions c.in-Some.place (sym c.place_of.ensures ∙ c.in-Some.is) (sym c.get.ensures ∙ c.in-None-get.is))
+
+pub returns-then-header-eq1 : goal.returns-then-header-eq1
+returns-then-header-eq1 c =
+    let own = asks_new c.args.clients c.args.header.now c.args.sessions.now.sessions (sym c.place_of.ensures ∙ c.in-None.is) in (
+      λ yes. own.1 (c.if-header-eq1.true, (let less : c.len-count.result < c.from.result = ltb-true c.len-count.result c.from.result yes in omega (arith, less, c.len-count.ensures.value, c.from.ensures))),
+      λ asks. lt-ltb c.len-count.result c.from.result (omega (arith, (own.0 asks).1, c.len-count.ensures.value, c.from.ensures)),
+    )
+
+pub returns-else-header-eq1 : goal.returns-else-header-eq1
+returns-else-header-eq1 c =
+    let own = asks_new c.args.clients c.args.header.now c.args.sessions.now.sessions (sym c.place_of.ensures ∙ c.in-None.is) in
+    (λ yes. absurd (c.if-header-eq1.false (eqb-true c.args.header.now.request 1 yes)), λ asks. absurd (c.if-header-eq1.false (own.0 asks).0))

@@ -1,0 +1,5 @@
+pub mod Below
+pub mod Cut
+pub mod Fitting
+pub mod Reached
+pub mod Words

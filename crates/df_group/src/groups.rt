@@ -1,0 +1,130 @@
+// Where a walk along prepares stands, and the group that it is in: one is begun where the group before it is over, and counts as a whole.
+ghost use Rattle.std.specs.Prelude.{◌≡◌, ◌↔◌, ◌≤◌, ◌+◌, IsTrue};
+ghost use Rattle.df_group.specs.Below.{FitsGroup, header_of, number_or};
+ghost use Rattle.df_group.specs.Fitting.{GroupFitsAt, position_of, tail_to};
+
+use df_base::Check;
+use df_format::Header;
+
+/// The last prepare of a tail, as far as the next one needs to know it; of an empty tail, the checkpoint's.
+#[derive(Clone, Copy, Debug, PartialEq, Eq)]
+pub struct Tail {
+    pub op: u64,
+    pub checksum: Check,
+    /// Its mark, 0 of an empty tail.
+    pub mark: u64,
+}
+
+/// Where a walk stands: the last prepare that it came to, as far as the next one needs to know it, and the first and the last op
+/// of that one's group. Behind a checkpoint without prepares a group is over at the checkpoint's op.
+#[derive(Clone, Copy, Debug, PartialEq, Eq)]
+pub struct Position {
+    pub last: Tail,
+    pub group: u64,
+    pub group_last: u64,
+}
+
+/// The end of a tail without prepares, behind a checkpoint of this op, whose prepare has this checksum.
+pub fn empty_tail(op: u64, checksum: &Check) -> Tail
+    ensures { result ≡ record { op = op; checksum = checksum.now; mark = 0 } }
+{
+    let checksum = *checksum;
+    Tail {
+        op,
+        checksum,
+        mark: 0,
+    }
+}
+
+// The end of a tail whose last prepare has this header.
+fn tail_to(header: &Header) -> Tail
+    ensures { result ≡ tail_to header.now }
+{
+    let checksum = header.checksum;
+    Tail {
+        op: header.op,
+        checksum,
+        mark: header.mark,
+    }
+}
+
+// A number, or another one where it is 0.
+fn number_or(number: u64, other: u64) -> u64
+    ensures { result ≡ number_or number other }
+{
+    if number == 0 { other } else { number }
+}
+
+/// The first op of a prepare's group: its own where it was appended by itself, with no group.
+pub(crate) fn group_first(header: &Header) -> u64
+    ensures { result ≡ (header_of header.now).group }
+{
+    number_or(header.group, header.op)
+}
+
+/// The last op of a prepare's group.
+pub(crate) fn group_last(header: &Header) -> u64
+    ensures { result ≡ (header_of header.now).group_last }
+{
+    number_or(header.group_last, header.op)
+}
+
+/// Behind the end of a tail that is whole.
+pub fn position_behind(last: &Tail) -> Position
+    ensures { result ≡ record { last = last.now; group = 0; group_last = last.now.op } }
+{
+    Position {
+        last: *last,
+        group: 0,
+        group_last: last.op,
+    }
+}
+
+/// Where a walk stands that has come to the prepare with this header.
+pub fn position_of(header: &Header) -> Position
+    ensures { result ≡ position_of header.now }
+{
+    Position {
+        last: tail_to(header),
+        group: group_first(header),
+        group_last: group_last(header),
+    }
+}
+
+/// Whether no prepare of the group is to come.
+pub(crate) fn is_over(at: &Position) -> bool
+    ensures { IsTrue result ↔ (at.now.group_last ≤ at.now.last.op) }
+{
+    at.group_last <= at.last.op
+}
+
+// Whether the prepare with this header, which has the next op, begins a group where one is over, or goes on with it. Its group
+// ends there or later.
+fn follows(at: &Position, header: &Header) -> bool
+    requires op { header.now.op ≡ at.now.last.op + 1 }
+    requires ends { header.now.op ≤ (header_of header.now).group_last }
+    ensures { IsTrue result ↔ FitsGroup at.now.group at.now.group_last (at.now.last.op + 1) (header_of header.now) }
+{
+    if at.group_last < header.op {
+        group_first(header) == header.op
+    } else {
+        group_first(header) == at.group && group_last(header) == at.group_last
+    }
+}
+
+// Whether a prepare's group is over at this head, if the prepare has that op.
+fn ends_at(head: u64, header: &Header) -> bool
+    ensures { IsTrue result ↔ (header.now.op ≡ head → (header_of header.now).group_last ≤ head) }
+{
+    header.op != head || group_last(header) <= head
+}
+
+/// Whether the group of the prepare with this header, which has the next op, fits there: it follows what is over or goes on with
+/// what isn't, and no group goes on past this head. The group ends at that op or later.
+pub(crate) fn fits_group(head: u64, at: &Position, header: &Header) -> bool
+    requires op { header.now.op ≡ at.now.last.op + 1 }
+    requires ends { header.now.op ≤ (header_of header.now).group_last }
+    ensures { IsTrue result ↔ GroupFitsAt head at.now header.now }
+{
+    follows(at, header) && ends_at(head, header)
+}

@@ -1,0 +1,15 @@
+//! Groups of prepares, over plain headers and without a disk: which prepare fits behind others, how far a list of them reaches and where
+//! its last whole group ends, and what a header or a prepare above that end says of it.
+#![tactic(auto)]
+
+mod cut;
+mod fits;
+mod groups;
+mod reach;
+mod words;
+
+pub use cut::{any_binds, any_tells, binding_op};
+pub use fits::goes_on;
+pub use groups::{Position, Tail, empty_tail, position_behind, position_of};
+pub use reach::{Reach, keep_whole, reach_of};
+pub use words::{groups_follow_one_another, head_is_told, lost_is_told, survivors_are_told};

@@ -1,0 +1,227 @@
+-- The commands of a line, and of an opening: what was asked for of them, and which puts and drops are among them.
+use Rattle.std.proofs.Common.{◌≡◌, ◌⊎◌, inl, inr, ℕ, zero, suc, Bool, true, false, if◌then◌else◌, List, [], ◌∷◌, ◌++◌, map, Option, Some, None, Ok, Err, refl, sym, subst}
+use Rattle.std.specs.Prelude.{All, replicate}
+use Rattle.std.proofs.lemmas.List.Elements.{All-head, All-tail}
+use Rattle.df_disk.specs.Told.{Told}
+use Rattle.df_layout.specs.declared.layout.Layout.{Layout}
+use Rattle.df_model.specs.Commands.{Advance, Answer, Append, Begin, Command, ReadBlock, ReadPrepare, ReadReply, Recent, Release, Reply, Scrub, ToAdvance, ToAppend, ToBegin, ToReadBlock, ToReadPrepare, ToReadReply, ToRecent, ToRelease, ToReply, ToScrub, ToWriteBlock, WriteBlock}
+use Rattle.df_model.specs.Memory.{Memory}
+use Rattle.df_rows.specs.declared.command.Command.{Command as Change}
+use Rattle.df_rows.specs.declared.command.Command.TheVariants as commands
+use Rattle.df_rows.specs.declared.refusal.Refusal.{Refusal}
+use Rattle.df_rows.specs.Answers.{refusal_of}
+use Rattle.df_rows.specs.Commands.{IsCommand, Map, body_of}
+use Rattle.df_rows.specs.Grammar.{Count, Drop, Get, Put, Said}
+use Rattle.df_rows.specs.Lines.{accepted, asks, line_in, unless_refused}
+use Rattle.df_rows.specs.Tables.{CanApply, Table}
+use Rattle.df_session.specs.Below.{State as Replica}
+use Rattle.df_session.specs.Links.{AreCalls, EndsCalls, command_in, list_of}
+use Rattle.df_session.specs.Session.{Act}
+use Rattle.df_table.specs.declared.ending.Ending.{Ending}
+use Rattle.df_table.specs.Keeping.{AreChanges, Changes, IsPending}
+use Rattle.df_table.specs.Policy.{block_reads, checkpoint, line_commands, opening, prepare_reads, releases, replies, request, room_for, writes}
+use Rattle.df_table.specs.Turns.{AreAccepted, AreFit, EndIn, IsAccepted}
+use Rattle.df_table.proofs.Executed.{put_may}
+use Rattle.df_table.proofs.Walked.{ArePlain, Asks, IsNext}
+
+-- ---- what was made of commands is what they ask for
+
+-- as many answers as acts
+abbrev AreMany : List Act → List Answer → Type 0
+AreMany [] [] = Unit {0}
+AreMany [] (x ∷ answers) = ⊥
+AreMany (a ∷ acts) [] = ⊥
+AreMany (a ∷ acts) (x ∷ answers) = AreMany acts answers
+
+many : (s t : Replica) (old new : Option Told) (acts : List Act) (answers : List Answer) → AreCalls s old acts answers t new → AreMany acts answers
+many s t old new [] [] calls = tt
+many s t old new [] (x ∷ answers) calls = absurd calls
+many s t old new (a ∷ acts) [] calls = absurd calls
+many s t old new (a ∷ acts) (x ∷ answers) calls = many calls.0 t calls.1 new acts answers calls.3
+
+ends_many : (s t : Replica) (old new : Option Told) (acts : List Act) (answers : List Answer) (failed : Option Act) → EndsCalls s t old new acts answers failed → AreMany acts answers
+ends_many s t old new acts answers None calls = many s t old new acts answers calls
+ends_many s t old new acts answers (Some a) calls = many s calls.0 old calls.1 acts answers calls.2
+
+no_acts : (acts : List Act) → AreMany acts [] → acts ≡ []
+no_acts [] are = refl
+no_acts (a ∷ acts) are = absurd are
+
+asks_part : (cs : List Command) (acts : List Act) (answers : List Answer) (failed : Option Act) (rest : List Command) → map command_in (acts ++ list_of failed) ++ rest ≡ cs → AreAccepted answers failed → AreMany acts answers → Asks (Unit {0}) failed cs acts answers
+asks_part [] [] [] None rest is accepted are = refl
+asks_part (c ∷ cs) [] [] None rest is accepted are = (tt, tt)
+asks_part [] [] [] (Some a) rest is accepted are = absurd (cc (is))
+asks_part (c ∷ cs) [] [] (Some a) rest is accepted are = (tt, (let same : a.command ≡ c = cc in same))
+asks_part cs [] (x ∷ answers) failed rest is accepted are = absurd are
+asks_part cs (a ∷ acts) [] failed rest is accepted are = absurd are
+asks_part [] (a ∷ acts) (x ∷ answers) failed rest is accepted are = absurd (cc (is))
+asks_part (c ∷ cs) (a ∷ acts) (x ∷ answers) failed rest is accepted are = (
+  (let same : a.command ≡ c = cc in same),
+  elim accepted.0 [
+    | inl here ↦ inl here
+    | inr last ↦ inr (tt, no_acts acts (subst (AreMany acts) last.0 are), last.0, last.1)
+  ],
+  asks_part cs acts answers failed rest (let same : map command_in (acts ++ list_of failed) ++ rest ≡ cs = cc in same) accepted.1 are,
+)
+
+pub asks_ends : (cs : List Command) (s t : Replica) (old new : Option Told) (ending : Ending) → (e : EndIn cs s t old new ending) → Asks (Unit {0}) e.failed cs e.acts e.answers
+asks_ends cs s t old new ending e = asks_part cs e.acts e.answers e.failed e.rest e.are e.accepted (ends_many s t old new e.acts e.answers e.failed e.calls)
+
+asks_all : (cs : List Command) (acts : List Act) (answers : List Answer) → map command_in acts ≡ cs → All IsAccepted answers → AreMany acts answers → Asks ⊥ None cs acts answers
+asks_all [] [] [] is accepted are = refl
+asks_all (c ∷ cs) [] [] is accepted are = absurd (cc (is))
+asks_all cs [] (x ∷ answers) is accepted are = absurd are
+asks_all cs (a ∷ acts) [] is accepted are = absurd are
+asks_all [] (a ∷ acts) (x ∷ answers) is accepted are = absurd (cc (is))
+asks_all (c ∷ cs) (a ∷ acts) (x ∷ answers) is accepted are = (
+  (let same : a.command ≡ c = cc in same),
+  inl (All-head IsAccepted x answers accepted),
+  asks_all cs acts answers (let same : map command_in acts ≡ cs = cc in same) (All-tail IsAccepted x answers accepted) are,
+)
+
+pub asks_made : (cs : List Command) (s t : Replica) (old new : Option Told) (acts : List Act) (answers : List Answer) → AreCalls s old acts answers t new → map command_in acts ≡ cs → All IsAccepted answers → Asks ⊥ None cs acts answers
+asks_made cs s t old new acts answers calls is accepted = asks_all cs acts answers is accepted (many s t old new acts answers calls)
+
+-- ---- puts and drops
+
+-- the body of an append is a command's
+abbrev pub HasChange : Command → Type 0
+HasChange (Append client request body) = (c : Change) × IsCommand c × (body ≡ body_of c)
+HasChange command = Unit {0}
+
+abbrev pub HaveChanges : List Command → Type 0
+HaveChanges [] = Unit {0}
+HaveChanges (c ∷ cs) = HasChange c × HaveChanges cs
+
+abbrev pub ActsHave : List Act → Type 0
+ActsHave [] = Unit {0}
+ActsHave (a ∷ acts) = HasChange a.command × ActsHave acts
+
+abbrev pub FailHas : Option Act → Type 0
+FailHas None = Unit {0}
+FailHas (Some a) = HasChange a.command
+
+next_has : (c : Command) (f : Option Act) → HasChange c → IsNext c f → FailHas f
+next_has c None has is = tt
+next_has c (Some a) has is = subst HasChange (sym is) has
+
+pub asked_have : (part : Type 0) (failed : Option Act) (cs : List Command) (acts : List Act) (answers : List Answer) → Asks part failed cs acts answers → HaveChanges cs → ActsHave acts × FailHas failed
+asked_have part failed [] [] [] asks have = (tt, subst FailHas (sym asks) tt)
+asked_have part failed (c ∷ cs) [] [] asks have = (tt, next_has c failed have.0 asks.1)
+asked_have part failed [] [] (x ∷ answers) asks have = absurd asks
+asked_have part failed (c ∷ cs) [] (x ∷ answers) asks have = absurd asks
+asked_have part failed [] (a ∷ acts) answers asks have = absurd asks
+asked_have part failed (c ∷ cs) (a ∷ acts) [] asks have = absurd asks
+asked_have part failed (c ∷ cs) (a ∷ acts) (x ∷ answers) asks have =
+    let rest = asked_have part failed cs acts answers asks.2 have.1 in
+    ((subst HasChange (sym asks.0) have.0, rest.0), rest.1)
+
+pub acts_have : (acts more : List Act) → ActsHave acts → ActsHave more → ActsHave (acts ++ more)
+acts_have [] more have rest = rest
+acts_have (a ∷ acts) more have rest = (have.0, acts_have acts more have.1 rest)
+
+appended_change : (client request : ℕ) (body : List ℕ) (x : Answer) → HasChange (Append client request body) → (some : List Change) × Changes (Append client request body) x some
+appended_change client request body (ToAppend (Ok done)) has = (has.0 ∷ [], (has.0, has.1, has.2, refl))
+appended_change client request body (ToAppend (Err e)) has = ([], refl)
+appended_change client request body (ToReply r) has = ([], refl)
+appended_change client request body (ToWriteBlock r) has = ([], refl)
+appended_change client request body (ToRelease r) has = ([], refl)
+appended_change client request body (ToBegin r) has = ([], refl)
+appended_change client request body (ToAdvance r) has = ([], refl)
+appended_change client request body (ToReadPrepare r) has = ([], refl)
+appended_change client request body (ToReadReply r) has = ([], refl)
+appended_change client request body (ToReadBlock r) has = ([], refl)
+appended_change client request body (ToScrub r) has = ([], refl)
+appended_change client request body (ToRecent r) has = ([], refl)
+
+one_change : (c : Command) (x : Answer) → HasChange c → (some : List Change) × Changes c x some
+one_change (Append client request body) x has = appended_change client request body x has
+one_change (Reply op body) x has = ([], refl)
+one_change (WriteBlock kind body) x has = ([], refl)
+one_change (Release address) x has = ([], refl)
+one_change (Begin root) x has = ([], refl)
+one_change Advance x has = ([], refl)
+one_change (ReadPrepare op) x has = ([], refl)
+one_change (ReadReply client) x has = ([], refl)
+one_change (ReadBlock address) x has = ([], refl)
+one_change Scrub x has = ([], refl)
+one_change Recent x has = ([], refl)
+
+pub changes_there : (acts : List Act) (answers : List Answer) → ActsHave acts → (changes : List Change) × AreChanges acts answers changes
+changes_there [] [] have = ([], refl)
+changes_there [] (x ∷ answers) have = ([], refl)
+changes_there (a ∷ acts) [] have = ([], refl)
+changes_there (a ∷ acts) (x ∷ answers) have =
+    let one = one_change a.command x have.0 in
+    let rest = changes_there acts answers have.1 in
+    (one.0 ++ rest.0, (one.0, rest.0, one.1, rest.1, refl))
+
+pub pending_there : (failed : Option Act) → FailHas failed → (pending : List Change) × IsPending failed pending
+pending_there None has = ([], refl)
+pending_there (Some a) has = one_change a.command (ToAppend (Ok (0, 0))) has
+
+-- ---- those of a session
+
+have_both : (cs ds : List Command) → HaveChanges cs → HaveChanges ds → HaveChanges (cs ++ ds)
+have_both [] ds one two = two
+have_both (c ∷ cs) ds one two = (one.0, have_both cs ds one.1 two)
+
+have_map : {A : Type 0} (f : A → Command) → ((x : A) → HasChange (f x)) → (xs : List A) → HaveChanges (map f xs)
+have_map f each [] = tt
+have_map f each (x ∷ xs) = (each x, have_map f each xs)
+
+plain_both : (cs ds : List Command) → ArePlain cs → ArePlain ds → ArePlain (cs ++ ds)
+plain_both [] ds one two = two
+plain_both (c ∷ cs) ds one two = (one.0, plain_both cs ds one.1 two)
+
+plain_map : {A : Type 0} (f : A → Command) → ((x : A) → ArePlain (f x ∷ [])) → (xs : List A) → ArePlain (map f xs)
+plain_map f each [] = tt
+plain_map f each (x ∷ xs) = ((each x).0, plain_map f each xs)
+
+pub opening_plain : (m : Memory) → ArePlain (opening m)
+opening_plain m =
+    plain_both (block_reads m) (prepare_reads m ++ replies m) (plain_map (λ x. ReadBlock x.0) (λ x. (tt, tt)) _)
+    (plain_both (prepare_reads m) (replies m) (plain_map ReadPrepare (λ op. (tt, tt)) _) (plain_map (λ op. Reply op []) (λ op. (tt, tt)) _))
+
+pub opening_has : (m : Memory) → HaveChanges (opening m)
+opening_has m =
+    have_both (block_reads m) (prepare_reads m ++ replies m) (have_map (λ x. ReadBlock x.0) (λ x. tt) _)
+    (have_both (prepare_reads m) (replies m) (have_map ReadPrepare (λ op. tt) _) (have_map (λ op. Reply op []) (λ op. tt) _))
+
+have_steps : (n : ℕ) → HaveChanges (replicate n Advance)
+have_steps zero = tt
+have_steps (suc n) = (tt, have_steps n)
+
+room_has : (layout : Layout) (m : Memory) (rows : Map) (steps : ℕ) (b : Bool) → HaveChanges (if b then checkpoint layout m rows steps else [])
+room_has layout m rows steps false = tt
+room_has layout m rows steps true =
+    have_both (releases m) (writes layout rows ++ (Begin [] ∷ replicate steps Advance)) (have_map (λ x. Release x.0) (λ x. tt) _)
+    (have_both (writes layout rows) (Begin [] ∷ replicate steps Advance) (have_map (WriteBlock 1) (λ x. tt) _) (tt, have_steps steps))
+
+pub line_has : (layout : Layout) (m : Memory) (rows : Map) (steps : ℕ) (cs : List Change) → AreFit cs → HaveChanges (line_commands layout m rows steps cs)
+line_has layout m rows steps [] fit = tt
+line_has layout m rows steps (c ∷ more) fit = have_both (room_for layout m rows steps) (request m c) (room_has layout m rows steps _) ((c, fit.0, refl), (tt, tt))
+
+-- ---- what a line asks for
+
+-- a line asks for one command at most, for which there is room
+abbrev pub AsksOne : Table → List Change → Type 0
+AsksOne t cs = (cs ≡ []) ⊎ ((c : Change) × (cs ≡ c ∷ []) × CanApply t c)
+
+none_or : (o : Option Refusal) → unless_refused o [] ≡ []
+none_or None = refl
+none_or (Some refusal) = refl
+
+pub one_asked : (t : Table) (said : Said) → AsksOne t (accepted t said)
+one_asked t (Put key value) = go (refusal_of t (line_in (Put key value))) refl
+  where
+    go : (o : Option Refusal) → refusal_of t (line_in (Put key value)) ≡ o → AsksOne t (unless_refused o (asks (Put key value)))
+    go None fine = inr (commands.Put (key, value), refl, (put_may t key _ fine).1)
+    go (Some refusal) is = inl refl
+one_asked t (Drop key) = go (refusal_of t (line_in (Drop key)))
+  where
+    go : (o : Option Refusal) → AsksOne t (unless_refused o (asks (Drop key)))
+    go None = inr (commands.Drop key, refl, tt)
+    go (Some refusal) = inl refl
+one_asked t (Get key) = inl (none_or (refusal_of t (line_in (Get key))))
+one_asked t Count = inl refl

@@ -1,0 +1,114 @@
+-- A session that was just opened, over a script that nothing was read of: what its lines come to is what the script is served by.
+use Rattle.std.proofs.Common.{◌≡◌, inl, inr, ℕ, ◌+◌, ◌≤◌, List, [], ◌∷◌, ◌++◌, length, Option, Some, None, Result, Ok, Err, refl, sym, ◌∙◌, ap, subst, arith}
+use Rattle.std.specs.FinMap as map
+use Rattle.std.specs.FinMap.{len-empty}
+use Rattle.df_disk.specs.Told.{Told}
+use Rattle.df_layout.specs.declared.layout.Layout.{Layout}
+use Rattle.df_lines.specs.Room.{IsFresh, line_bound}
+use Rattle.df_lines.specs.Text.{Reading, unread}
+use Rattle.df_model.specs.Memory.{Memory}
+use Rattle.df_model.specs.Supply.{Shown}
+use Rattle.df_theory.specs.Units.{Message}
+use Rattle.df_rows.specs.declared.command.Command.{Command}
+use Rattle.df_rows.specs.declared.command.Command.TheVariants.{Drop, Put}
+use Rattle.df_rows.specs.Blocks.{TakesAll}
+use Rattle.df_rows.specs.Limits.{most_rows}
+use Rattle.df_rows.specs.Lines.{map_text}
+use Rattle.df_rows.specs.Rows.{Entry}
+use Rattle.df_rows.specs.Script.{Begins}
+use Rattle.df_rows.specs.Tables.{AreNew, CanApply, Table, with_command, with_commands, with_row, with_rows}
+use Rattle.df_session.specs.Below.{State as Replica}
+use Rattle.df_table.specs.declared.ending.Ending.{Ending}
+use Rattle.df_table.specs.declared.ending.Ending.TheVariants.{Disk}
+use Rattle.df_table.specs.declared.session.Session.{Session}
+use Rattle.df_table.specs.declared.status.Status.{Status}
+use Rattle.df_table.specs.Opening.{AreFollowed, BlockHurt, Finds, FindsOf, Found, OtherBlock, OtherClient, OtherPrepare, PrepareHurt}
+use Rattle.df_table.specs.Outside.{Outside}
+use Rattle.df_table.specs.Ready.{IsReady, IsSteady}
+use Rattle.df_table.specs.Serving.{Ended, state}
+use Rattle.df_table.specs.Session.{EndsWith, ServesLines, closing, said_in, script_budget}
+use Rattle.df_table.specs.Table.{FollowAll, empty_table}
+use Rattle.df_table.specs.Turns.{Turn, all_said}
+use Rattle.df_table.proofs.Behind.{HasFew, drop_few, put_few}
+
+unread_none : (left : Option (List ℕ)) → unread [] left ≡ left
+unread_none None = refl
+unread_none (Some xs) = refl
+
+-- one line a turn
+as_many : (turns : List Turn) → length turns ≡ length (all_said turns)
+as_many [] = refl
+as_many (x ∷ turns) = omega (arith, as_many turns)
+
+module _ (layout : Layout) (mid : Option Told) (before after : Outside) (s now : Session) (status : Status) (fresh : IsFresh (line_bound layout) s.lines) (none : s.count ≡ 0)
+    (e : Ended layout (state (record { told = mid; left = before.left; written = before.written }) s) (state after now) status) where
+  counted : s.count + length e.turns ≡ length (all_said e.turns)
+  counted = omega (arith, none, as_many e.turns)
+
+  budget_is : s.lines.reading.budget ≡ script_budget
+  budget_is = ap (λ (r : Reading). r.budget) fresh.reading
+
+  text_is : (text : List ℕ) → before.left ≡ Some text → unread s.lines.reading.held before.left ≡ Some text
+  text_is text is = ap (λ (r : Reading). unread r.held before.left) fresh.reading ∙ unread_none before.left ∙ is
+
+  pub lines_served : ServesLines layout s.table s.replica mid before after status
+  lines_served = record {
+    turns = e.turns;
+    are = e.are;
+    halts = e.halts;
+    text = λ text is.
+        let so = e.text text (text_is text is) in
+        (so.0, so.1, subst (λ (n : ℕ). Begins (line_bound layout) n text (all_said e.turns ++ said_in e.halt) so.0 so.1) budget_is so.2, so.3);
+    replica = e.replica;
+    mid = e.mid;
+    table = e.table;
+    halt = e.halt;
+    written = subst (λ (n : ℕ). EndsWith (map_text s.table s.replica.head (all_said e.turns) ++ closing n e.halt e.cut) e.halt e.cut before.written after.written status) counted e.written;
+    cut = e.cut;
+    last = now.replica;
+  }
+
+-- ---- the table that was found
+
+new_few : (max : ℕ) (t : Table) (es : List Entry) → AreNew es t → HasFew max t → HasFew max (with_rows es t)
+new_few max t [] new few = few
+new_few max t (e ∷ es) new few = new_few max (with_row e t) es new.1 (record { max_is = few.max_is; few = subst (λ (n : ℕ). map.len (map.insert t.rows e.0 e.1) ≤ n) few.max_is (put_few t e.0 e.1 (inr new.0.room) (omega (arith, few.few, few.max_is))) })
+
+pub takes_few : (max : ℕ) (t u : Table) (bodies : List (List ℕ)) → TakesAll t bodies u → HasFew max t → HasFew max u
+takes_few max t u [] takes few = subst (λ (x : Table). HasFew max x) (sym takes) few
+takes_few max t u (body ∷ bodies) takes few = takes_few max (with_rows takes.0 t) u bodies takes.2 (new_few max t takes.0 takes.1.new few)
+
+command_few : (max : ℕ) (t : Table) (c : Command) → CanApply t c → HasFew max t → HasFew max (with_command c t)
+command_few max t (Put e) room few = record { max_is = few.max_is; few = subst (λ (n : ℕ). map.len (map.insert t.rows e.0 e.1) ≤ n) few.max_is (put_few t e.0 e.1 room (omega (arith, few.few, few.max_is))) }
+command_few max t (Drop key) room few = record { max_is = few.max_is; few = subst (λ (n : ℕ). map.len (map.remove t.rows key) ≤ n) few.max_is (drop_few t key (omega (arith, few.few, few.max_is))) }
+
+pub follow_few : (max : ℕ) (t : Table) (ps : List Message) (cs : List Command) → FollowAll t ps cs → HasFew max t → HasFew max (with_commands cs t)
+follow_few max t [] [] follow few = few
+follow_few max t [] (c ∷ cs) follow few = absurd follow
+follow_few max t (p ∷ ps) [] follow few = absurd follow
+follow_few max t (p ∷ ps) (c ∷ cs) follow few = follow_few max (with_command c t) ps cs follow.1 (command_few max t c follow.0.room few)
+
+pub empty_few : (layout : Layout) → HasFew (most_rows layout) (empty_table layout)
+empty_few layout = record { max_is = refl; few = omega (arith, len-empty) }
+
+followed_few : (layout : Layout) (shown : Shown) (m : Memory) (op : ℕ) (t : Table) → AreFollowed layout shown m op t → HasFew (most_rows layout) t
+followed_few layout shown m op t are =
+    subst (λ (x : Table). HasFew (most_rows layout) x) (sym are.is) (follow_few (most_rows layout) are.base are.prepares are.commands are.follow (takes_few (most_rows layout) (empty_table layout) are.base are.blocks.bodies are.blocks.taken (empty_few layout)))
+
+unok : (x y : Table) (r : Result Table Ending) → r ≡ Ok x → r ≡ Ok y → x ≡ y
+unok x y r one two = cc
+
+no_disk : (x : Table) (r : Result Table Ending) → r ≡ Ok x → r ≡ Err Disk → ⊥
+no_disk x r one two = cc
+
+finds_few : (layout : Layout) (shown : Shown) (m : Memory) (t : Table) (r : Result Table Ending) → r ≡ Ok t → Finds layout shown m r → HasFew (most_rows layout) t
+finds_few layout shown m t r is (Found u are) = let same : u ≡ t = unok u t (Ok u) refl is in subst (λ (x : Table). HasFew (most_rows layout) x) same (followed_few layout shown m m.head u are)
+finds_few layout shown m t r is (OtherClient place other none) = absurd (cc (is))
+finds_few layout shown m t r is (BlockHurt x rest u class taken hurt) = absurd (cc (is))
+finds_few layout shown m t r is (OtherBlock x rest u b taken read norows) = absurd (cc (is))
+finds_few layout shown m t r is (PrepareHurt op u class are less hurt) = absurd (cc (is))
+finds_few layout shown m t r is (OtherPrepare op u p are less read none) = absurd (cc (is))
+
+pub found_steady : (layout : Layout) (shown : Shown) (m : Memory) (t : Table) (s : Replica) → FindsOf layout shown m (Ok t) → IsReady layout s → IsSteady layout s t
+found_steady layout shown m t s (inl failed) ready = absurd (no_disk t (Ok t) refl failed)
+found_steady layout shown m t s (inr finds) ready = let few = finds_few layout shown m t (Ok t) refl finds in record { ready = ready; max = few.max_is; few = few.few }

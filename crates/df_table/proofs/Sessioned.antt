@@ -1,0 +1,172 @@
+-- What is kept of a table by the calls of a session, by each log by which the file might be opened: so it is of a session, whatever ended it.
+use Rattle.std.proofs.Common.{◌≡◌, inl, inr, ℕ, true, List, ◌++◌, take, drop, Option, Some, None, Result, Ok, Err, refl, sym, ◌∙◌, subst}
+use Rattle.df_base.specs.Image.{IsImage}
+use Rattle.df_base.specs.Log.{Log, Sync}
+use Rattle.df_base.specs.Moments.{EachMoment, Extends}
+use Rattle.df_disk.specs.Told.{Told, did}
+use Rattle.df_layout.specs.declared.layout.Layout.{Layout}
+use Rattle.df_theory.specs.View.{View}
+use Rattle.df_units.specs.Bytes.{unit_at}
+use Rattle.df_model.specs.Commands.{Answer}
+use Rattle.df_model.specs.Memory.{Memory}
+use Rattle.df_model.specs.Work.{Work}
+use Rattle.df_rows.specs.declared.command.Command.{Command as Change}
+use Rattle.df_rows.specs.Tables.{Table, with_commands}
+use Rattle.df_session.specs.Acknowledging.{HadAnswers}
+use Rattle.df_session.specs.Begun.{begun_work}
+use Rattle.df_session.specs.Below.{DataFile, State as Replica, memory, told_after}
+use Rattle.df_session.specs.Following.{MayOpen}
+use Rattle.df_session.specs.Links.{CallsMade, EndsCalls, events_made, events_of, events_to}
+use Rattle.df_session.specs.Opened.{MendsAll}
+use Rattle.df_session.specs.Reading.{shown_of}
+use Rattle.df_session.specs.Serving.{Firm, Keeps}
+use Rattle.df_session.specs.Session.{Act}
+use Rattle.df_session.proofs.Laws.{begun_here}
+use Rattle.df_result.proofs.Laws.{joined}
+use Rattle.df_table.specs.declared.ending.Ending.{Ending}
+use Rattle.df_table.specs.declared.ending.Ending.TheVariants.{Disk}
+use Rattle.df_table.specs.declared.status.Status.{Status}
+use Rattle.df_table.specs.Keeping.{AreChanges, IsMidway, IsPending, KeepsTable}
+use Rattle.df_table.specs.Opening.{Finds, FindsOf}
+use Rattle.df_table.specs.Outside.{Outside}
+use Rattle.df_table.specs.Policy.{opening}
+use Rattle.df_table.specs.Session.{AreCallsOf, NotOpened, Served, Serves, halted_acts, halted_answers, halted_failed}
+use Rattle.df_table.specs.Table.{IsTable}
+use Rattle.df_table.specs.Turns.{all_acts, all_answers}
+use Rattle.df_table.proofs.Asking.{ActsHave, FailHas, acts_have, asked_have, asks_ends, asks_made, changes_there, opening_has, pending_there}
+use Rattle.df_table.proofs.FoundTable.{found_is_table}
+use Rattle.df_table.proofs.Lasting.{At, at_end, each_moment, from_answer, grew}
+use Rattle.df_table.proofs.Later.{told_append}
+use Rattle.df_table.proofs.Started.{at_begin, found_there, mending_moments}
+use Rattle.df_table.proofs.Tabled.{acts_stand, lines_have, lines_kept, opening_then, opening_to_end}
+use Rattle.df_table.proofs.Tables.{table_is_one}
+use Rattle.df_table.proofs.Walked.{KeptAll}
+
+-- ---- all calls, the last of which perhaps failed
+
+module _ (file : DataFile) (from to : Replica) (old new : Option Told) (acts : List Act) (answers : List Answer) (w : Work) (n : Told) (t : Table) (at : At file from w n t) (changes pending : List Change) (are : AreChanges acts answers changes) where
+  abbrev AllKept : Option Act → Type 0
+  AllKept failed = (u : Replica) (mid : Option Told) → KeptAll file failed u mid from old w n t acts answers
+
+  abbrev last : (failed : Option Act) → EndsCalls from to old new acts answers failed → Told
+  last failed calls = told_after (events_to from to old new acts answers failed calls) n
+
+  moments_all : (failed : Option Act) (calls : EndsCalls from to old new acts answers failed) → AllKept failed → IsPending failed pending → EachMoment n.log (last failed calls).log (IsMidway file t (changes ++ pending))
+  moments_all None calls kept is = each_moment file None to to new new pending is tt acts answers from old calls w n t changes at (kept to new calls) are
+  moments_all (Some a) calls kept is =
+      subst (λ (o : Told). EachMoment n.log o.log (IsMidway file t (changes ++ pending))) (sym (told_append (events_of from old acts answers calls.0 calls.1 calls.2) calls.3.call.events n))
+      (each_moment file (Some a) calls.0 to calls.1 new pending is calls.3 acts answers from old calls.2 w n t changes at (kept calls.0 calls.1 calls.2) are)
+
+  end_all : (failed : Option Act) (calls : EndsCalls from to old new acts answers failed) → AllKept failed → IsPending failed pending → IsMidway file (with_commands changes t) pending (last failed calls).log
+  end_all None calls kept is = at_end file None to to new new pending is tt acts answers from old calls w n t changes at (kept to new calls) are
+  end_all (Some a) calls kept is =
+      subst (λ (o : Told). IsMidway file (with_commands changes t) pending o.log) (sym (told_append (events_of from old acts answers calls.0 calls.1 calls.2) calls.3.call.events n))
+      (at_end file (Some a) calls.0 to calls.1 new pending is calls.3 acts answers from old calls.2 w n t changes at (kept calls.0 calls.1 calls.2) are)
+
+  answered_all : (failed : Option Act) (calls : EndsCalls from to old new acts answers failed) → AllKept failed → IsPending failed pending → (k : ℕ) (log : Log) (some more : List Change) → AreChanges (take k acts) (take k answers) some → AreChanges (drop k acts) (drop k answers) more
+      → HadAnswers k (Some n) log from to old new acts answers failed calls → Extends (last failed calls).log log → IsMidway file (with_commands some t) (more ++ pending) log
+  answered_all None calls kept is k log some more before after had until = from_answer file None to to new new pending is tt k acts answers from old calls w n t some more log at (kept to new calls) before after had until
+  answered_all (Some a) calls kept is k log some more before after had until =
+      from_answer file (Some a) calls.0 to calls.1 new pending is calls.3 k acts answers from old calls.2 w n t some more log at (kept calls.0 calls.1 calls.2) before after had
+      (subst (λ (o : Told). Extends o.log log) (told_append (events_of from old acts answers calls.0 calls.1 calls.2) calls.3.call.events n) until)
+
+-- ---- behind an open
+
+module _ (t : Told) (s : Replica) (mended : Option Told) (over : MendsAll t s mended) (whole : IsImage t.shown) (live : s.live ≡ true) where
+  abbrev begins : Told → Told
+  begins base = told_after over.mending.events (did Sync base)
+
+  -- these acts, by whatever calls, leave the table or change it by their commands
+  abbrev EachKept : List Act → List Answer → Option Act → Type 0
+  EachKept acts answers failed =
+      (u : Replica) (mid : Option Told) (view : View) (base : Told) (table : Table) → base.shown ≡ t.shown → MayOpen s.file view base → IsTable s.file (unit_at s.file.layout s.file.cluster t.shown) view table
+      → KeptAll s.file failed u mid s mended (begun_work s.file t.shown view) (begins base) table acts answers
+
+  module _ (made : CallsMade) (acts : List Act) (answers : List Answer) (failed : Option Act) (from_is : made.from ≡ s) (old_is : made.old ≡ mended) (acts_is : made.acts ≡ acts) (answers_is : made.answers ≡ answers) (failed_is : made.failed ≡ failed) (have : ActsHave acts × FailHas failed)
+      (each : EachKept acts answers failed) where
+    abbrev there : (changes : List Change) × AreChanges acts answers changes
+    there = changes_there acts answers have.0
+
+    abbrev pends : (pending : List Change) × IsPending failed pending
+    pends = pending_there failed have.1
+
+    are : AreChanges made.acts made.answers there.0
+    are = subst (λ (l : List Act). AreChanges l made.answers there.0) (sym acts_is) (subst (λ (l : List Answer). AreChanges acts l there.0) (sym answers_is) there.1)
+
+    is_pending : IsPending made.failed pends.0
+    is_pending = subst (λ (f : Option Act). IsPending f pends.0) (sym failed_is) pends.1
+
+    made_kept : (u : Replica) (mid : Option Told) (w : Work) (n : Told) (table : Table) → KeptAll s.file failed u mid s mended w n table acts answers → KeptAll s.file made.failed u mid made.from made.old w n table made.acts made.answers
+    made_kept u mid w n table kept =
+        subst (λ (f : Option Act). KeptAll s.file f u mid made.from made.old w n table made.acts made.answers) (sym failed_is)
+        (subst (λ (r : Replica). KeptAll s.file failed u mid r made.old w n table made.acts made.answers) (sym from_is)
+        (subst (λ (o : Option Told). KeptAll s.file failed u mid s o w n table made.acts made.answers) (sym old_is)
+        (subst (λ (l : List Act). KeptAll s.file failed u mid s mended w n table l made.answers) (sym acts_is) (subst (λ (l : List Answer). KeptAll s.file failed u mid s mended w n table acts l) (sym answers_is) kept))))
+
+    pub keeps_table : KeepsTable t s over.mending.events made
+    keeps_table = record {
+      changes = there.0;
+      pending = pends.0;
+      are = are;
+      is_pending = is_pending;
+      keeps = λ view base table same may is.
+          let w = begun_work s.file t.shown view in
+          let n = begins base in
+          let at : At s.file made.from w n table = subst (λ (r : Replica). At s.file r w n table) (sym from_is) (at_begin t s mended over whole live view base table same may is) in
+          let kept : (u : Replica) (mid : Option Told) → KeptAll s.file made.failed u mid made.from made.old w n table made.acts made.answers = λ u mid. made_kept u mid w n table (each u mid view base table same may is) in
+          let after = told_after (events_made made) n in (
+            after,
+            record {
+              is = refl;
+              moments =
+                  joined (did Sync base).log n.log after.log (IsMidway s.file table (there.0 ++ pends.0)) (grew (events_made made) n) (mending_moments t s mended over whole live view base table same may is (there.0 ++ pends.0))
+                  (moments_all s.file made.from made.to made.old made.new made.acts made.answers w n table at there.0 pends.0 are made.failed made.calls kept is_pending);
+              answered = λ k log some more before behind had until.
+                  answered_all s.file made.from made.to made.old made.new made.acts made.answers w n table at there.0 pends.0 are made.failed made.calls kept is_pending k log some more before behind had until;
+              end_safe = end_all s.file made.from made.to made.old made.new made.acts made.answers w n table at there.0 pends.0 are made.failed made.calls kept is_pending;
+            },
+          );
+    }
+
+-- ---- a session
+
+-- of all calls of a session the table is kept
+abbrev pub SessionsKeepTable : Type 0
+SessionsKeepTable =
+    (layout : Layout) (t : Told) (s : Replica) (mended : Option Told) (over : MendsAll t s mended) (old new : Outside) (status : Status) (opened : Result Table Ending) (serves : Serves layout s mended old new status opened) (made : CallsMade)
+    → IsImage t.shown → s.live ≡ true → s.file.layout ≡ layout → FindsOf layout (shown_of s.file t.shown) (memory s) opened → AreCallsOf layout s mended old new status opened serves made → KeepsTable t s over.mending.events made
+
+no_disk : (x : Table) → Ok x ≡ Err Disk → ⊥
+no_disk x is = cc
+
+pub sessions_keep : SessionsKeepTable
+sessions_keep layout t s mended over old new status opened (NotOpened ending last ends unread writes) made whole live own finds are =
+    let asks = asks_ends (opening (memory s)) s last mended new.told ending ends in
+    keeps_table t s mended over whole live made ends.acts ends.answers ends.failed are.0 are.1 are.3 are.4 are.5 (asked_have (Unit {0}) ends.failed (opening (memory s)) ends.acts ends.answers asks (opening_has (memory s)))
+    (λ u mid view base table same may is.
+    opening_to_end s.file ends.failed u mid s mended (begun_work s.file t.shown view) (told_after over.mending.events (did Sync base)) table (at_begin t s mended over whole live view base table same may is) ends.acts ends.answers (memory s) asks)
+sessions_keep layout t s mended over old new status opened (Served found r mid opens lines) made whole live own finds are =
+    let acts = halted_acts layout lines.replica lines.mid lines.table lines.halt lines.last new.told lines.halts in
+    let answers = halted_answers layout lines.replica lines.mid lines.table lines.halt lines.last new.told lines.halts in
+    let failed = halted_failed layout lines.replica lines.mid lines.table lines.halt lines.last new.told lines.halts in
+    let asks = asks_made (opening (memory s)) s r mended mid opens.acts opens.answers opens.calls opens.are opens.accepted in
+    let rest = lines_have layout lines.turns r lines.replica lines.last mid lines.mid new.told found lines.table lines.halt lines.are lines.halts in
+    keeps_table t s mended over whole live made (opens.acts ++ (all_acts lines.turns ++ acts)) (opens.answers ++ (all_answers lines.turns ++ answers)) failed are.0 are.1 are.3 are.4 are.5
+    (acts_have opens.acts (all_acts lines.turns ++ acts) (asked_have ⊥ None (opening (memory s)) opens.acts opens.answers asks (opening_has (memory s))).0 rest.0, rest.1)
+    (λ u new_told view base table same may is.
+    let w = begun_work s.file t.shown view in
+    let n = told_after over.mending.events (did Sync base) in
+    let at = at_begin t s mended over whole live view base table same may is in
+    let there = found_there t s mended over whole live view base table same may is in
+    let stands : Keeps Firm s w None = begun_here t s mended over view whole there in
+    let one : table ≡ found = elim finds [
+      | inl disk ↦ absurd (no_disk found disk)
+      | inr finds_it ↦
+          table_is_one s.file (unit_at s.file.layout s.file.cluster t.shown) view table found is
+          (found_is_table s.file t view found whole there
+          (subst (λ (m : Memory). Finds s.file.layout (shown_of s.file t.shown) m (Ok found)) stands.1 (subst (λ (l : Layout). Finds l (shown_of s.file t.shown) (memory s) (Ok found)) (sym own) finds_it)))
+    ] in
+    let behind = acts_stand s.file opens.acts opens.answers s r mended mid opens.calls w refl stands in
+    opening_then s.file failed u new_told s mended w n table at opens.acts opens.answers (all_acts lines.turns ++ acts) (all_answers lines.turns ++ answers) (memory s) asks
+    (λ s' old' w' n' t' here so work.
+    lines_kept s.file u new_told layout own lines.turns r lines.replica lines.last mid lines.mid new.told found lines.table lines.halt lines.are lines.halts behind.0 s' old' w' n' t' here (so ∙ one) (subst (λ (v : Work). Keeps Firm r v None) (sym work) behind.1)))

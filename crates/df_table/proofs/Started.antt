@@ -1,0 +1,118 @@
+-- At the barrier of an open the table of the file is that of its view, and so it is by each log that shows what was shown then, at each moment of the mending, and behind it.
+use Rattle.std.proofs.Common.{◌≡◌, ◌⊎◌, inl, inr, ℕ, zero, suc, ◌+◌, ◌<◌, ◌≤◌, ◌||◌, true, List, [], ◌∷◌, Option, Some, None, refl, sym, ◌∙◌, ap, subst, arith}
+use Rattle.std.specs.List.{range_with_len}
+use Rattle.std.proofs.lemmas.Bool.{cases_eq}
+use Rattle.df_base.specs.Image.{Image, IsImage}
+use Rattle.df_base.specs.Log as logs
+use Rattle.df_base.specs.Log.{Sync}
+use Rattle.df_base.specs.Moments.{EachMoment}
+use Rattle.df_disk.specs.Told.{Told, did}
+use Rattle.df_theory.specs.Chance.{NoChance}
+use Rattle.df_theory.specs.Device.{units_log}
+use Rattle.df_theory.specs.Found.{IsFound}
+use Rattle.df_theory.specs.Holds.{Stands}
+use Rattle.df_theory.specs.UnitLog.{UnitLog}
+use Rattle.df_theory.specs.Units.{Block, BlockPlace, BlockUnit, Units}
+use Rattle.df_theory.specs.View.{View}
+use Rattle.df_units.specs.Bytes.{unit_at}
+use Rattle.df_model.specs.Blocks.{entries, entry}
+use Rattle.df_model.specs.Work.{Work, is_captured, is_known, is_of, kept}
+use Rattle.df_rows.specs.declared.command.Command.{Command as Change}
+use Rattle.df_rows.specs.Tables.{Table}
+use Rattle.df_session.specs.Begun.{begun_work}
+use Rattle.df_session.specs.Below.{DataFile, State as Replica, shape, told_after}
+use Rattle.df_session.specs.Following.{MayOpen}
+use Rattle.df_session.specs.Opened.{MendsAll, begun_state}
+use Rattle.df_session.specs.Serving.{Whole, format}
+use Rattle.df_session.proofs.Laws.{calls_keep}
+use Rattle.df_table.specs.Keeping.{IsMidway}
+use Rattle.df_table.specs.Table.{IsTable, ShowsBodies, references_of}
+use Rattle.df_table.specs.Written.{IsTableIn, WroteBodies}
+use Rattle.df_table.proofs.Lasting.{At, grew, mid_of, none_taken, table_later}
+use Rattle.df_table.proofs.Leads.{table_bare}
+use Rattle.df_table.proofs.Written.{in_pools}
+
+-- ---- what is shown was written
+
+module _ (log : UnitLog) (image : Units) (chance : NoChance log image) where
+  bodies_written : (references : List (ℕ × ℕ)) (bodies : List (List ℕ)) → ShowsBodies image references bodies → WroteBodies log references bodies
+  bodies_written [] [] shown = tt
+  bodies_written [] (body ∷ bodies) shown = absurd shown
+  bodies_written (x ∷ references) [] shown = absurd shown
+  bodies_written (x ∷ references) (body ∷ bodies) shown =
+      let b = shown.0 in
+      (record { block = b.block; written = in_pools log.start log.events (BlockPlace x.0) (BlockUnit b.block) (chance.pooled (BlockPlace x.0) (BlockUnit b.block) b.there); sum = b.sum; own = b.own; body_is = b.body_is }, bodies_written references bodies shown.1)
+
+  pub table_written : (file : DataFile) (v : View) (t : Table) → IsTable file image v t → IsTableIn file log v t
+  table_written file v t is = record { bodies = is.bodies; written = bodies_written (references_of file v) is.bodies is.shown; few = is.few; base = is.base; rows = is.rows; commands = is.commands; tail = is.tail; is = is.is }
+
+-- ---- each block is shown that is referenced
+
+module _ (image : Units) (f : ℕ → Option ℕ) where
+  abbrev Shown : (a c : ℕ) → Type 0
+  Shown a c = (b : Block) × (image (BlockPlace a) ≡ Some (BlockUnit b)) × (b.checksum ≡ c) × (0 < b.kind)
+
+  unsome : (c d : ℕ) (o : Option ℕ) → o ≡ Some c → o ≡ Some d → c ≡ d
+  unsome c d o one two = cc
+
+  shown_case : (s a c : ℕ) (rest : List (ℕ × ℕ)) → f a ≡ Some c → (o : Option ℕ) → f s ≡ o → (bodies : List (List ℕ)) → ShowsBodies image (entry s o rest) bodies → ((s ≡ a → ⊥) → (more : List (List ℕ)) → ShowsBodies image rest more → Shown a c) → (s ≡ a) ⊎ (s ≡ a → ⊥) → Shown a c
+  shown_case s a c rest is None none bodies shown later (inl here) = absurd (let apart : None ≡ Some c = sym none ∙ ap f here ∙ is in cc)
+  shown_case s a c rest is None none bodies shown later (inr apart) = later apart bodies shown
+  shown_case s a c rest is (Some d) some [] shown later place = absurd shown
+  shown_case s a c rest is (Some d) some (body ∷ bodies) shown later (inl here) =
+      let sum : d ≡ c = unsome d c (f a) (sym (ap f here) ∙ some) is in
+      (shown.0.block, subst (λ (x : ℕ). image (BlockPlace x) ≡ Some (BlockUnit shown.0.block)) here shown.0.there, shown.0.sum ∙ sum, shown.0.own)
+  shown_case s a c rest is (Some d) some (body ∷ bodies) shown later (inr apart) = later apart bodies shown.1
+
+  all_shown : (s n : ℕ) (bodies : List (List ℕ)) → ShowsBodies image (entries f (range_with_len s n)) bodies → (a c : ℕ) → s ≤ a → a < s + n → f a ≡ Some c → Shown a c
+  all_shown s zero bodies shown a c from to is = absurd (omega (arith, from, to))
+  all_shown s (suc n) bodies shown a c from to is =
+      shown_case s a c (entries f (range_with_len (s + 1) n)) is (f s) refl bodies shown (λ apart more there. all_shown (s + 1) n more there a c (omega (arith, from, apart)) (omega (arith, to)) is) (cases_eq s a)
+
+-- ---- an open
+
+module _ (t : Told) (s : Replica) (mended : Option Told) (over : MendsAll t s mended) (whole : IsImage t.shown) (live : s.live ≡ true) (view : View) (base : Told) (table : Table) (same : base.shown ≡ t.shown) (may : MayOpen s.file view base)
+    (is : IsTable s.file (unit_at s.file.layout s.file.cluster t.shown) view table) where
+  abbrev pub behind : Told
+  behind = told_after over.mending.events (did Sync base)
+
+  shows : logs.now base.log ≡ t.shown
+  shows = (λ i sector. sym (may.honest.shows sector) i) ∙ same
+
+  pub found_there : IsFound (shape s.file) (unit_at s.file.layout s.file.cluster t.shown) view
+  found_there = subst (λ (image : Image). IsFound (shape s.file) (unit_at s.file.layout s.file.cluster image) view) shows may.found
+
+  abbrev pub work : Work
+  work = begun_work s.file t.shown view
+
+  stands : Stands (unit_at s.file.layout s.file.cluster t.shown) view
+  stands a c referenced =
+      let sense = ((calls_keep t s mended over s mended [] [] None (refl, refl) whole live).stands view found_there).0 in
+      let inside = sense.grid a (ap (λ (o : Option ℕ). is_known o || (is_captured a work.running || (is_known (work.view.checkpoint.parts.references a) || is_of a work.view.checkpoint.chain))) referenced) in
+      all_shown (unit_at s.file.layout s.file.cluster t.shown) view.checkpoint.parts.references 1 s.file.layout.blocks is.bodies is.shown a c inside.0 (omega (arith, inside.1)) referenced
+
+  at_base : IsTableIn s.file (units_log (format s.file) base.log) view table
+  at_base =
+      table_written (units_log (format s.file) base.log) ((format s.file).unit_at (logs.now base.log)) may.no_chance s.file view table
+      (subst (λ (image : Image). IsTable s.file (unit_at s.file.layout s.file.cluster image) view table) (sym shows) is)
+
+  at_barrier : IsTableIn s.file (units_log (format s.file) (did Sync base).log) view table
+  at_barrier = table_later s.file base.log (did Sync base).log view table (Sync ∷ [], refl, refl) at_base
+
+  -- behind the open the table is there
+  pub at_begin : At s.file s work behind table
+  at_begin = record {
+    same = refl;
+    live = live;
+    kept_is = (calls_keep t s mended over s mended [] [] None (refl, refl) whole live).kept Whole view base same may stands;
+    table = table_later s.file (did Sync base).log behind.log (kept work) table (grew over.mending.events (did Sync base)) (table_bare s.file (units_log (format s.file) (did Sync base).log) view (kept work) table refl refl at_barrier);
+  }
+
+  -- and so it is at each moment of its mending, whatever is done behind it
+  pub mending_moments : (changes : List Change) → EachMoment (did Sync base).log behind.log (IsMidway s.file table changes)
+  mending_moments changes log moment =
+      let opens = over.over Whole view base same may stands in
+      let later : View = kept (begun_state s.file base view s.fields) in
+      let here = table_later s.file (did Sync base).log log view table moment.since at_barrier in
+      mid_of s.file log view later table changes 0 here
+      (subst (λ (x : Table). IsTableIn s.file (units_log (format s.file) log) later x) (sym (none_taken table changes)) (table_bare s.file (units_log (format s.file) log) view later table opens.bare.parts opens.bare.tail here)) (opens.moments log moment)

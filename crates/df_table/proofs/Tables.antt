@@ -1,0 +1,71 @@
+-- An image and a view have one table, and a file that was just made has the empty one.
+use Rattle.std.proofs.Common.{◌≡◌, ℕ, List, [], ◌∷◌, Some, None, refl, sym, ◌∙◌, ap, subst, arith}
+use Rattle.df_model.specs.Blocks.{addresses, entries}
+use Rattle.df_rows.specs.declared.command.Command.{Command}
+use Rattle.df_rows.specs.Blocks.{TakesAll}
+use Rattle.df_rows.specs.Tables.{Table, with_command, with_commands}
+use Rattle.df_rows.proofs.Laws.{one_command, one_table}
+use Rattle.df_session.specs.Below.{shape}
+use Rattle.df_theory.specs.Units.{Block, BlockUnit, Message, Units}
+use Rattle.df_table.specs.Laws.{FirstIsEmpty, TableIsOne}
+use Rattle.df_table.specs.Table.{FollowAll, ShowsBodies, ShowsBody, empty_table, references_of}
+
+-- ---- blocks
+
+one_block : (a b : Block) → Some (BlockUnit a) ≡ Some (BlockUnit b) → a.body ≡ b.body
+one_block a b is = let same : Some (BlockUnit a) ≡ Some (BlockUnit b) = is in let blocks : a ≡ b = cc in ap (λ (x : Block). x.body) blocks
+
+one_shown : (image : Units) (x : ℕ × ℕ) (a b : List ℕ) → ShowsBody image x a → ShowsBody image x b → a ≡ b
+one_shown image x a b one two = sym one.body_is ∙ one_block one.block two.block (sym one.there ∙ two.there) ∙ two.body_is
+
+same_bodies : (a b : List ℕ) (one other : List (List ℕ)) → a ≡ b → one ≡ other → a ∷ one ≡ b ∷ other
+same_bodies a b one other same more = cc
+
+one_bodies : (image : Units) (references : List (ℕ × ℕ)) (one other : List (List ℕ)) → ShowsBodies image references one → ShowsBodies image references other → one ≡ other
+one_bodies image [] [] [] first second = refl
+one_bodies image [] [] (b ∷ other) first second = absurd second
+one_bodies image [] (a ∷ one) other first second = absurd first
+one_bodies image (x ∷ more) [] other first second = absurd first
+one_bodies image (x ∷ more) (a ∷ one) [] first second = absurd second
+one_bodies image (x ∷ more) (a ∷ one) (b ∷ other) first second = same_bodies a b one other (one_shown image x a b first.0 second.0) (one_bodies image more one other first.1 second.1)
+
+-- ---- commands
+
+same_commands : (c d : Command) (one other : List Command) → c ≡ d → one ≡ other → c ∷ one ≡ d ∷ other
+same_commands c d one other same more = cc
+
+one_list : (t : Table) (ps : List Message) (one other : List Command) → FollowAll t ps one → FollowAll t ps other → one ≡ other
+one_list t [] [] [] first second = refl
+one_list t [] [] (d ∷ other) first second = absurd second
+one_list t [] (c ∷ one) other first second = absurd first
+one_list t (p ∷ ps) [] other first second = absurd first
+one_list t (p ∷ ps) (c ∷ one) [] first second = absurd second
+one_list t (p ∷ ps) (c ∷ one) (d ∷ other) first second =
+    let same : c ≡ d = one_command c d first.0.fits second.0.fits (sym first.0.body_is ∙ second.0.body_is) in
+    same_commands c d one other same (one_list (with_command c t) ps one other first.1 (subst (λ (e : Command). FollowAll (with_command e t) ps other) (sym same) second.1))
+
+-- ---- the table
+
+pub table_is_one : TableIsOne
+table_is_one file image v t u one two =
+    let bodies = one_bodies image (references_of file v) one.bodies two.bodies one.shown two.shown in
+    let base = one_table (empty_table file.layout) one.base two.base one.bodies one.rows (subst (λ (l : List (List ℕ)). TakesAll (empty_table file.layout) l two.base) (sym bodies) two.rows) in
+    let commands = one_list one.base v.tail one.commands two.commands one.tail (subst (λ (b : Table). FollowAll b v.tail two.commands) (sym base) two.tail) in
+    one.is ∙ ap (λ (l : List Command). with_commands l one.base) commands ∙ ap (λ (b : Table). with_commands two.commands b) base ∙ sym two.is
+
+-- nothing is referenced
+none_referenced : (xs : List ℕ) → entries (λ a. None) xs ≡ []
+none_referenced [] = refl
+none_referenced (a ∷ xs) = none_referenced xs
+
+pub first_is_empty : FirstIsEmpty
+first_is_empty file image = record {
+  bodies = [];
+  shown = subst (λ (l : List (ℕ × ℕ)). ShowsBodies image l []) (sym (none_referenced (addresses (shape file).layout))) tt;
+  few = omega arith;
+  base = empty_table file.layout;
+  rows = refl;
+  commands = [];
+  tail = tt;
+  is = refl;
+}

@@ -1,0 +1,25 @@
+-- The call was made and accepted, or it has no answer.
+use Rattle.std.proofs.Common.{subst, sym, [], ◌∷◌, Err}
+use Rattle.df_base.specs.Causes.{Blamed}
+use Rattle.df_model.specs.Commands.{Release}
+use Rattle.df_table.specs.declared.ending.Ending.{Ending}
+use Rattle.df_table.specs.Calls.{Comes}
+use Rattle.df_table.specs.Statuses.{is_disk}
+use Rattle.df_table.proofs.Called.{blamed_so, release_comes}
+use Rattle.df_table.proofs.Joined.{one_failed}
+use Rattle.df_table.proofs.calls.release.Goals as goal
+
+pub returns-in-Ok : goal.returns-in-Ok
+returns-in-Ok g c =
+    let comes = release_comes c.args.replica.now c.make.new.replica (g.D.Disk.told c.args.disk.now) (g.D.Disk.told c.make.new.disk) c.args.address c.in-Ok.field-0 c.requires.known c.in-Ok.ensures.makes in
+    record { makes = comes.0; state = comes.1; live = c.in-Ok.ensures.live; disk = c.in-Ok.ensures.disk }
+
+pub returns-in-Err : goal.returns-in-Err
+returns-in-Err g c =
+    let ends = one_failed (Release c.args.address) c.args.replica.now c.make.new.replica (g.D.Disk.told c.args.disk.now) (g.D.Disk.told c.make.new.disk) c.in-Err.fault c.in-Err.ensures.makes in
+    record {
+      makes = subst (λ (e : Ending). Comes {T = Unit {0}} (Release c.args.address ∷ []) c.args.replica.now c.make.new.replica (g.D.Disk.told c.args.disk.now) (g.D.Disk.told c.make.new.disk) (Err e)) (sym c.ended_by.ensures) ends;
+      state = tt;
+      live = tt;
+      disk = subst (λ (e : Ending). Blamed (is_disk e) (g.D.Disk.faults c.args.disk.now) (g.D.Disk.faults c.make.new.disk)) (sym c.ended_by.ensures) (blamed_so c.in-Err.fault (g.D.Disk.faults c.args.disk.now) (g.D.Disk.faults c.make.new.disk) c.in-Err.ensures.disk);
+    }

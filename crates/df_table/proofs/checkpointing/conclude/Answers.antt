@@ -1,0 +1,24 @@
+-- The checkpoint is begun, and then finished.
+use Rattle.std.proofs.Common.{[], subst, sym, ap}
+use Rattle.std.specs.Prelude.{OnOk}
+use Rattle.df_session.specs.Beginning.{captured}
+use Rattle.df_session.specs.Below.{State as Replica}
+use Rattle.df_table.specs.Calls.{IsRunning}
+use Rattle.df_table.specs.Ready.{IsFinished}
+use Rattle.df_table.proofs.Finished.{concluded}
+use Rattle.df_table.proofs.checkpointing.conclude.Goals as goal
+
+pub finish-requires : goal.finish-requires
+finish-requires g c = record { live = c.in-Ok.ensures.live; runs = subst (λ (r : Replica). IsRunning r) (sym c.in-Ok.ensures.state) tt }
+
+pub returns-in-Ok-clause-makes : goal.returns-in-Ok-clause-makes
+returns-in-Ok-clause-makes g c = λ may.
+    concluded c.args.replica.now c.begin.new.replica c.finish.new.replica (g.D.Disk.told c.args.disk.now) (g.D.Disk.told c.begin.new.disk) (g.D.Disk.told c.finish.new.disk) c.finish.result (c.in-Ok.ensures.makes may) c.finish.ensures.makes
+
+pub returns-in-Ok-clause-finished : goal.returns-in-Ok-clause-finished
+returns-in-Ok-clause-finished g c =
+    let r = captured c.args.replica.now [] in
+    subst (λ (u : Replica). OnOk c.finish.result (IsFinished r u c.finish.new.replica)) c.in-Ok.ensures.state (c.finish.ensures.finished r (ap (λ (u : Replica). u.running) c.in-Ok.ensures.state))
+
+pub returns-in-Err-clause-makes : goal.returns-in-Err-clause-makes
+returns-in-Err-clause-makes g c = λ may. (0, c.in-Err.ensures.makes may)

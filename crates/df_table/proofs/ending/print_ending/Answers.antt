@@ -1,0 +1,25 @@
+-- A failing disk has no line.
+use Rattle.std.proofs.Common.{List, ℕ, [], sym, subst, Option, Some, None, Ok}
+use Rattle.std.proofs.lemmas.List.{append-nil}
+use Rattle.df_base.specs.declared.Failed.{Failed}
+use Rattle.df_base.specs.Streams.{Appends}
+use Rattle.df_inspect.specs.Prints.{Prints}
+use Rattle.df_table.specs.declared.ending.Ending.{Ending}
+use Rattle.df_table.specs.Statuses.{ending_text}
+use Rattle.df_table.proofs.ending.print_ending.Goals as goal
+
+nothing : (o : Option (List ℕ)) → Appends o o []
+nothing None = tt
+nothing (Some xs) = sym (append-nil xs)
+
+pub returns-in-Disk-clause-prints : goal.returns-in-Disk-clause-prints
+returns-in-Disk-clause-prints g c =
+    let written = g.W.Sink.written c.args.sink.now in
+    subst (λ (e : Ending). Prints {E = Failed} (ending_text e) written written (Ok tt)) (sym c.in-Disk.is) (record { whole = nothing written; part = tt })
+
+pub returns-in-SequenceSpent-clause-prints : goal.returns-in-SequenceSpent-clause-prints
+returns-in-SequenceSpent-clause-prints g c =
+    let old = g.W.Sink.written c.args.sink.now in
+    let new = g.W.Sink.written c.write_line-in-SequenceSpent.new.sink in
+    subst (λ (e : Ending). Prints {E = Failed} (ending_text e) old new c.write_line-in-SequenceSpent.result) (sym c.in-SequenceSpent.is)
+    (subst (λ (text : List ℕ). Prints text old new c.write_line-in-SequenceSpent.result) c.text_line-in-SequenceSpent.ensures c.write_line-in-SequenceSpent.ensures.prints)

@@ -1,0 +1,80 @@
+-- The sessions, the blocks, and what stands behind the checkpoint.
+use Rattle.std.proofs.Common.{◌∙◌, ◌++◌, inr, ℕ, [], Err, ap, subst, sym}
+use Rattle.std.specs.Prelude.{OnOk}
+use Rattle.std.proofs.lemmas.List.{length-map}
+use Rattle.df_layout.specs.declared.places.Zone.TheVariants.{ClientReplies}
+use Rattle.df_sessions.specs.Requests.{session_of}
+use Rattle.df_rows.specs.Tables.{Table}
+use Rattle.df_session.specs.Below.{State as Replica, memory}
+use Rattle.df_session.specs.Reading.{shown_of}
+use Rattle.df_table.specs.declared.ending.Ending.{Ending}
+use Rattle.df_table.specs.Calls.{Comes}
+use Rattle.df_table.specs.Opening.{AreTaken, FindsOf, NoneIsOther, OtherClient, place_at}
+use Rattle.df_table.specs.Policy.{block_reads, opening, prepare_reads, replies}
+use Rattle.df_table.specs.Ready.{HasCaughtUp, IsBegun}
+use Rattle.df_table.proofs.Begun.{ready_found}
+use Rattle.df_table.proofs.Joined.{comes_more, end_front, end_none}
+use Rattle.df_table.proofs.opening.open_table.Goals as goal
+
+-- ---- another client's session
+
+pub returns-in-Some-clause-opens : goal.returns-in-Some-clause-opens
+returns-in-Some-clause-opens g c = λ w begun.
+    let s = c.args.replica.now in
+    let told = g.D.Disk.told c.args.disk.now in
+    subst (λ (e : Ending). Comes {T = Table} (opening (memory s)) s s told told (Err e)) (sym c.not_table.ensures) (end_none (opening (memory s)) s told (place_at ClientReplies c.in-Some.place))
+
+pub returns-in-Some-clause-finds : goal.returns-in-Some-clause-finds
+returns-in-Some-clause-finds g c = λ w begun t is.
+    let s = c.args.replica.now in
+    subst (λ (e : Ending). FindsOf c.args.layout.now (shown_of s.file t.shown) (memory s) (Err e)) (sym c.not_table.ensures) (inr (OtherClient c.in-Some.place c.in-Some.ensures.found.0 c.in-Some.ensures.found.1))
+
+-- ---- none is
+
+pub take_blocks-requires : goal.take_blocks-requires
+take_blocks-requires g c = record { live = c.requires.live }
+
+pub follow-requires : goal.follow-requires
+follow-requires g c = record { live = ap (λ (r : Replica). r.live) c.in-Ok.ensures.kept ∙ c.requires.live }
+
+pub returns-in-Ok-clause-opens : goal.returns-in-Ok-clause-opens
+returns-in-Ok-clause-opens g c = λ w begun.
+    let s = c.args.replica.now in
+    comes_more (block_reads (memory s)) (prepare_reads (memory s) ++ replies (memory s)) s c.take_blocks.new.replica c.follow.new.replica (g.D.Disk.told c.args.disk.now) (g.D.Disk.told c.take_blocks.new.disk) (g.D.Disk.told c.follow.new.disk)
+    (c.in-Ok.ensures.makes w begun) c.follow.result
+    (subst (λ (r : Replica). Comes (prepare_reads (memory r) ++ replies (memory r)) c.take_blocks.new.replica c.follow.new.replica (g.D.Disk.told c.take_blocks.new.disk) (g.D.Disk.told c.follow.new.disk) c.follow.result) c.in-Ok.ensures.kept c.follow.ensures.makes)
+
+pub returns-in-Ok-clause-finds : goal.returns-in-Ok-clause-finds
+returns-in-Ok-clause-finds g c = λ w begun t is.
+    let s = c.args.replica.now in
+    let u = c.take_blocks.new.replica in
+    let kept = c.in-Ok.ensures.kept in
+    let own = subst (λ (n : ℕ). NoneIsOther (memory s) n) (sym (length-map s.table.sessions session_of)) c.in-None.ensures.none in
+    let taken = c.in-Ok.ensures.takes w begun own c.requires.empty t is in
+    let finds = c.follow.ensures.finds w (subst (λ (r : Replica). IsBegun c.args.layout.now w r) (sym kept) begun) t (c.in-Ok.ensures.same ∙ is)
+    (subst (λ (r : Replica). AreTaken c.args.layout.now (shown_of r.file t.shown) (memory r) [] c.in-Ok.table) (sym kept) taken) in
+    subst (λ (r : Replica). FindsOf c.args.layout.now (shown_of r.file t.shown) (memory r) c.follow.result) kept finds
+
+pub returns-in-Ok-clause-ready : goal.returns-in-Ok-clause-ready
+returns-in-Ok-clause-ready g c = λ w begun t is.
+    let s = c.args.replica.now in
+    let kept = c.in-Ok.ensures.kept in
+    let own = subst (λ (n : ℕ). NoneIsOther (memory s) n) (sym (length-map s.table.sessions session_of)) c.in-None.ensures.none in
+    let taken = c.in-Ok.ensures.takes w begun own c.requires.empty t is in
+    let opens =
+    comes_more (block_reads (memory s)) (prepare_reads (memory s) ++ replies (memory s)) s c.take_blocks.new.replica c.follow.new.replica (g.D.Disk.told c.args.disk.now) (g.D.Disk.told c.take_blocks.new.disk) (g.D.Disk.told c.follow.new.disk)
+    (c.in-Ok.ensures.makes w begun) c.follow.result
+    (subst (λ (r : Replica). Comes (prepare_reads (memory r) ++ replies (memory r)) c.take_blocks.new.replica c.follow.new.replica (g.D.Disk.told c.take_blocks.new.disk) (g.D.Disk.told c.follow.new.disk) c.follow.result) kept c.follow.ensures.makes) in
+    ready_found c.args.layout.now w s begun (shown_of s.file t.shown) c.in-Ok.table taken c.follow.new.replica (g.D.Disk.told c.args.disk.now) (g.D.Disk.told c.follow.new.disk) c.follow.result opens
+    (subst (λ (r : Replica). OnOk c.follow.result (HasCaughtUp r c.follow.new.replica)) kept c.follow.ensures.caught) c.follow.ensures.live
+
+pub returns-in-Err-clause-opens : goal.returns-in-Err-clause-opens
+returns-in-Err-clause-opens g c = λ w begun.
+    let s = c.args.replica.now in
+    end_front (block_reads (memory s)) (prepare_reads (memory s) ++ replies (memory s)) s c.take_blocks.new.replica (g.D.Disk.told c.args.disk.now) (g.D.Disk.told c.take_blocks.new.disk) c.in-Err.ending (c.in-Err.ensures.makes w begun)
+
+pub returns-in-Err-clause-finds : goal.returns-in-Err-clause-finds
+returns-in-Err-clause-finds g c = λ w begun t is.
+    let s = c.args.replica.now in
+    let own = subst (λ (n : ℕ). NoneIsOther (memory s) n) (sym (length-map s.table.sessions session_of)) c.in-None.ensures.none in
+    c.in-Err.ensures.takes w begun own c.requires.empty t is

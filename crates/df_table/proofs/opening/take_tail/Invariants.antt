@@ -1,0 +1,24 @@
+-- The prepares up to an op were applied.
+use Rattle.std.proofs.Common.{◌≡◌, ◌+◌, ◌-◌, map, Ok}
+use Rattle.std.specs.Prelude.{Some}
+use Rattle.std.specs.List.{range_with_len}
+use Rattle.df_disk.specs.Told.{Told}
+use Rattle.df_model.specs.Commands.{ReadPrepare}
+use Rattle.df_model.specs.Work.{Work}
+use Rattle.df_session.specs.Below.{memory}
+use Rattle.df_session.specs.Reading.{shown_of}
+use Rattle.df_table.specs.Opening.{AreFollowed, TakesBlocks}
+use Rattle.df_table.specs.Policy.{prepare_reads}
+use Rattle.df_table.specs.Ready.{IsBegun}
+use Rattle.df_table.proofs.Making.{IsMaking}
+use Rattle.df_table.proofs.opening.take_tail.Given as goal
+
+abbrev pub invariant-loop-before : goal.invariant-loop-before
+invariant-loop-before g l = record {
+  kept : l.replica ≡ l.fn.replica;
+  told : g.D.Disk.told l.disk ≡ g.D.Disk.told l.fn.disk;
+  disk_faults : g.D.Disk.faults l.disk ≡ g.D.Disk.faults l.fn.disk;
+  making : IsMaking (prepare_reads (memory l.fn.replica)) (map ReadPrepare (range_with_len (l.before + 1) (l.fn.replica.head - l.before))) l.fn.replica l.replica (g.D.Disk.told l.fn.disk) (g.D.Disk.told l.disk);
+  following : (w : Work) → IsBegun l.fn.layout w l.fn.replica → (t : Told) → g.D.Disk.told l.fn.disk ≡ Some t → TakesBlocks l.fn.layout (shown_of l.fn.replica.file t.shown) (memory l.fn.replica) (Ok l.fn.table)
+      → AreFollowed l.fn.layout (shown_of l.fn.replica.file t.shown) (memory l.fn.replica) l.before l.table;
+}

@@ -1,0 +1,80 @@
+-- The table is found, and its script served; or why it isn't is told.
+use Rattle.std.proofs.Common.{◌≡◌, ◌∙◌, ℕ, false, true, ap, arith, refl, subst, sym, Ok, Err}
+use Rattle.df_lines.specs.Text.{Reading}
+use Rattle.df_session.specs.Below.{memory}
+use Rattle.df_session.specs.Reading.{shown_of}
+use Rattle.df_table.specs.declared.session.Session.{Session}
+use Rattle.df_table.specs.declared.status.Status.{Status}
+use Rattle.df_table.specs.declared.status.Status.TheVariants as status
+use Rattle.df_table.specs.declared.turns.Turn.TheVariants.{Ends}
+use Rattle.df_table.specs.Outside.{Blames, Outside}
+use Rattle.df_table.specs.Serving.{EndsLine}
+use Rattle.df_table.specs.Session.{NotOpened, Served}
+use Rattle.df_table.proofs.Blamed.{other_fault, told_disk, told_line}
+use Rattle.df_table.proofs.ServedLines.{found_steady, lines_served}
+use Rattle.df_table.proofs.serving.serve_opened.Goals as goal
+
+pub open_table-requires : goal.open_table-requires
+open_table-requires g c = record { live = c.requires.live; empty = c.requires.table }
+
+-- ---- it is found
+
+pub serve_lines-requires : goal.serve_lines-requires
+serve_lines-requires g c = record {
+  serving = record {
+    live = c.in-Ok.ensures.live;
+    block = c.requires.block;
+    bound = ap (λ (r : Reading). r.bound) c.requires.lines.reading;
+    count = omega (arith, ap (λ (r : Reading). r.budget) c.requires.lines.reading);
+    at_end = λ yes. absurd (let no : false ≡ true = sym c.requires.lines.ended ∙ yes in cc);
+  };
+}
+
+pub returns-in-Ok-clause-serves : goal.returns-in-Ok-clause-serves
+returns-in-Ok-clause-serves g c = λ w begun t is.
+    let layout = c.args.opening.layout in
+    let mid = g.D.Disk.told c.open_table.new.disk in
+    let before : Outside = record { told = g.D.Disk.told c.args.disk.now; left = g.S.Source.left c.args.source.now; written = g.W.Sink.written c.args.sink.now } in
+    let after : Outside = record { told = g.D.Disk.told c.serve_lines.new.disk; left = g.S.Source.left c.serve_lines.new.source; written = g.W.Sink.written c.serve_lines.new.sink } in
+    let session : Session = record { layout = layout; replica = c.open_table.new.replica; table = c.in-Ok.table; lines = c.args.opening.lines; block = c.args.opening.block; count = 0 } in
+    let finds = c.in-Ok.ensures.finds w begun t is in
+    let steady = found_steady layout (shown_of c.args.replica.file t.shown) (memory c.args.replica) c.in-Ok.table c.open_table.new.replica finds (c.in-Ok.ensures.ready w begun t is) in
+    record {
+      opened = Ok c.in-Ok.table;
+      finds = finds;
+      serves = Served c.in-Ok.table c.open_table.new.replica mid (c.in-Ok.ensures.opens w begun)
+          (lines_served layout mid before after session c.serve_lines.new.session c.serve_lines.result c.requires.lines refl (c.serve_lines.ensures.session steady));
+    }
+
+pub returns-in-Ok-clause-causes : goal.returns-in-Ok-clause-causes
+returns-in-Ok-clause-causes g c = record {
+  disk = subst (λ (n : ℕ). Blames status.DiskFault n (g.D.Disk.faults c.serve_lines.new.disk) c.serve_lines.result) c.in-Ok.ensures.disk c.serve_lines.ensures.disk;
+  source = c.serve_lines.ensures.source;
+  sink = c.serve_lines.ensures.sink;
+}
+
+-- ---- it isn't
+
+pub returns-in-Err-clause-serves : goal.returns-in-Err-clause-serves
+returns-in-Err-clause-serves g c = λ w begun t is. record {
+  opened = Err c.in-Err.ending;
+  finds = c.in-Err.ensures.finds w begun t is;
+  serves = NotOpened c.in-Err.ending c.open_table.new.replica (c.in-Err.ensures.opens w begun) refl c.tell_ending.ensures.writes;
+}
+
+pub returns-in-Err-clause-causes : goal.returns-in-Err-clause-causes
+returns-in-Err-clause-causes g c =
+    let written = g.W.Sink.written c.args.sink.now in
+    let took = g.W.Sink.written c.tell_ending.new.sink in
+    let line = told_line c.in-Err.ending written took c.tell_ending.result c.tell_ending.ensures.writes in
+    record {
+      disk = told_disk (g.D.Disk.faults c.args.disk.now) (g.D.Disk.faults c.open_table.new.disk) written took c.tell_ending.result c.in-Err.ending c.tell_ending.ensures.disk c.tell_ending.ensures.writes c.in-Err.ensures.disk;
+      source = other_fault status.ReadFault c.tell_ending.result (g.S.Source.faults c.args.source.now) (g.S.Source.faults c.args.source.now) (λ is. subst (λ (s : Status). EndsLine (Ends s)) is line) refl;
+      sink = c.tell_ending.ensures.sink;
+    }
+
+pub returns-in-Err-clause-memory : goal.returns-in-Err-clause-memory
+returns-in-Err-clause-memory g c = λ is. subst (λ (s : Status). EndsLine (Ends s)) is (told_line c.in-Err.ending (g.W.Sink.written c.args.sink.now) (g.W.Sink.written c.tell_ending.new.sink) c.tell_ending.result c.tell_ending.ensures.writes)
+
+pub returns-in-Err-clause-words : goal.returns-in-Err-clause-words
+returns-in-Err-clause-words g c = λ is. subst (λ (s : Status). EndsLine (Ends s)) is (told_line c.in-Err.ending (g.W.Sink.written c.args.sink.now) (g.W.Sink.written c.tell_ending.new.sink) c.tell_ending.result c.tell_ending.ensures.writes)

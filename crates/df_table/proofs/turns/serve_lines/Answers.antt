@@ -1,0 +1,62 @@
+-- Each turn goes on with one line more, or ends the session.
+use Rattle.std.proofs.Common.{◌∙◌, refl, sym, subst}
+use Rattle.df_layout.specs.declared.layout.Layout.{Layout}
+use Rattle.df_table.specs.Ready.{IsSteady}
+use Rattle.df_table.specs.declared.status.Status.{Status}
+use Rattle.df_table.specs.declared.turns.Turn.TheVariants.{Ends}
+use Rattle.df_table.specs.Serving.{EndsIn, EndsTurn, GoesOn, IsServing, State, state}
+use Rattle.df_table.proofs.Turned.{ended_all, goes_none, goes_on_more}
+use Rattle.df_table.proofs.turns.serve_lines.Goals as goal
+
+pub loop-status-init : goal.loop-status-init
+loop-status-init g c = record {
+  goes = λ steady. goes_none c.args.session.now.layout (state (record { told = g.D.Disk.told c.args.disk.now; left = g.S.Source.left c.args.source.now; written = g.W.Sink.written c.args.sink.now }) c.args.session.now);
+  steady = λ steady. steady;
+  layout = refl;
+  serving = c.requires.serving;
+  disk_faults = refl;
+  source_faults = refl;
+  sink_faults = refl;
+}
+
+pub take_turn-requires : goal.take_turn-requires
+take_turn-requires g c = record { serving = subst (λ (k : Layout). IsServing k c.loop-status.session (g.S.Source.left c.loop-status.source)) (sym c.loop-status.invariant.layout) c.loop-status.invariant.serving }
+
+pub loop-status-preserved : goal.loop-status-preserved
+loop-status-preserved g c =
+    let now = c.loop-status in
+    let layout = c.args.session.now.layout in
+    let at = now.invariant.layout in
+    let old : State = state (record { told = g.D.Disk.told c.args.disk.now; left = g.S.Source.left c.args.source.now; written = g.W.Sink.written c.args.sink.now }) c.args.session.now in
+    let mid : State = state (record { told = g.D.Disk.told now.disk; left = g.S.Source.left now.source; written = g.W.Sink.written now.sink }) now.session in
+    let new : State = state (record { told = g.D.Disk.told c.take_turn.new.disk; left = g.S.Source.left c.take_turn.new.source; written = g.W.Sink.written c.take_turn.new.sink }) c.take_turn.new.session in
+    record {
+      goes = λ steady.
+          let here = subst (λ (k : Layout). IsSteady k now.session.replica now.session.table) (sym at) (now.invariant.steady steady) in
+          goes_on_more layout old mid new (now.invariant.goes steady) (subst (λ (k : Layout). GoesOn k mid new) at (c.in-GoesOn.ensures.turns here));
+      steady = λ steady.
+          let here = subst (λ (k : Layout). IsSteady k now.session.replica now.session.table) (sym at) (now.invariant.steady steady) in
+          subst (λ (k : Layout). IsSteady k c.take_turn.new.session.replica c.take_turn.new.session.table) at (c.in-GoesOn.ensures.steady here);
+      layout = c.in-GoesOn.ensures.layout ∙ at;
+      serving = subst (λ (k : Layout). IsServing k c.take_turn.new.session (g.S.Source.left c.take_turn.new.source)) at c.in-GoesOn.ensures.serving;
+      disk_faults = c.in-GoesOn.ensures.disk ∙ now.invariant.disk_faults;
+      source_faults = c.in-GoesOn.ensures.source ∙ now.invariant.source_faults;
+      sink_faults = c.in-GoesOn.ensures.sink ∙ now.invariant.sink_faults;
+    }
+
+pub returns-in-Ends-clause-session : goal.returns-in-Ends-clause-session
+returns-in-Ends-clause-session g c = λ steady.
+    let now = c.loop-status in
+    let layout = c.args.session.now.layout in
+    let at = now.invariant.layout in
+    let old : State = state (record { told = g.D.Disk.told c.args.disk.now; left = g.S.Source.left c.args.source.now; written = g.W.Sink.written c.args.sink.now }) c.args.session.now in
+    let mid : State = state (record { told = g.D.Disk.told now.disk; left = g.S.Source.left now.source; written = g.W.Sink.written now.sink }) now.session in
+    let new : State = state (record { told = g.D.Disk.told c.take_turn.new.disk; left = g.S.Source.left c.take_turn.new.source; written = g.W.Sink.written c.take_turn.new.sink }) c.take_turn.new.session in
+    let here = subst (λ (k : Layout). IsSteady k now.session.replica now.session.table) (sym at) (now.invariant.steady steady) in
+    ended_all layout old mid new c.in-Ends.status (now.invariant.goes steady) (subst (λ (k : Layout). EndsIn k mid new c.in-Ends.status) at (c.in-Ends.ensures.turns here))
+
+pub returns-in-Ends-clause-memory : goal.returns-in-Ends-clause-memory
+returns-in-Ends-clause-memory g c = λ is. subst (λ (s : Status). EndsTurn (Ends s)) is c.in-Ends.ensures.never
+
+pub returns-in-Ends-clause-words : goal.returns-in-Ends-clause-words
+returns-in-Ends-clause-words g c = λ is. subst (λ (s : Status). EndsTurn (Ends s)) is c.in-Ends.ensures.never

@@ -1,0 +1,119 @@
+-- Each arm is one way in which a line ends or goes on.
+use Rattle.std.proofs.Common.{◌≡◌, ◌<◌, ◌+◌, ℕ, ap, arith, refl, sym, subst}
+use Rattle.df_lines.specs.Room.{Room}
+use Rattle.df_rows.specs.Reads.{GivesNext, Spends}
+use Rattle.df_rows.specs.declared.next.Next.TheVariants as nexts
+use Rattle.df_table.specs.Outside.{Outside}
+use Rattle.df_table.specs.declared.status.Status.TheVariants as status
+use Rattle.df_table.proofs.Behind.{executed_serving, taken_line}
+use Rattle.df_table.proofs.Blamed.{line_turn, on_going, other_fault, script_other, script_turn, unread_source}
+use Rattle.df_inspect.specs.Opening.{script_text}
+use Rattle.df_table.proofs.TurnEnds.{by_turn, ends_done, ends_read, ends_refused}
+use Rattle.df_table.proofs.turns.take_turn.Goals as goal
+
+pub returns-in-Ok-Line-clause-turns : goal.returns-in-Ok-Line-clause-turns
+returns-in-Ok-Line-clause-turns g c = λ steady.
+    let layout = c.args.session.now.layout in
+    let before : Outside = record { told = g.D.Disk.told c.args.disk.now; left = g.S.Source.left c.args.source.now; written = g.W.Sink.written c.args.sink.now } in
+    let after : Outside = record { told = g.D.Disk.told c.execute-turn.new.disk; left = g.S.Source.left c.next.new.source; written = g.W.Sink.written c.execute-turn.new.sink } in
+    by_turn layout before after c.args.session.now (record c.execute-turn.new.session { count = c.execute-turn.new.session.count + 1 }) c.next.new.self c.in-Ok-Line.line c.requires.serving.bound c.requires.serving.at_end
+    (λ text tells. subst (GivesNext c.args.session.now.lines c.next.new.self text (g.S.Source.left c.next.new.source)) c.in-Ok-Line.field-0-is (c.in-Ok-Line.ensures.gives text tells))
+    c.execute-turn.ensures.executes.leaves.lines (ap (λ (n : ℕ). n + 1) c.execute-turn.ensures.executes.leaves.count) c.execute-turn.result (c.execute-turn.ensures.executes.answers steady)
+
+pub returns-in-Ok-Refused-clause-turns : goal.returns-in-Ok-Refused-clause-turns
+returns-in-Ok-Refused-clause-turns g c = λ steady.
+    let layout = c.args.session.now.layout in
+    let before : Outside = record { told = g.D.Disk.told c.args.disk.now; left = g.S.Source.left c.args.source.now; written = g.W.Sink.written c.args.sink.now } in
+    let after : Outside = record { told = g.D.Disk.told c.args.disk.now; left = g.S.Source.left c.next.new.source; written = g.W.Sink.written c.refuse.new.sink } in
+    ends_refused layout before after c.args.session.now (record c.args.session.now { lines = c.next.new.self }) refl refl c.next.new.self c.requires.serving.bound c.next.ensures.bound c.requires.serving.at_end
+    (λ text tells. subst (GivesNext c.args.session.now.lines c.next.new.self text (g.S.Source.left c.next.new.source)) c.in-Ok-Refused.field-0-is (c.in-Ok-Refused.ensures.gives text tells))
+    c.refuse.result c.refuse.ensures.line
+
+pub returns-in-Ok-End-clause-turns : goal.returns-in-Ok-End-clause-turns
+returns-in-Ok-End-clause-turns g c = λ steady.
+    let layout = c.args.session.now.layout in
+    let before : Outside = record { told = g.D.Disk.told c.args.disk.now; left = g.S.Source.left c.args.source.now; written = g.W.Sink.written c.args.sink.now } in
+    let after : Outside = record { told = g.D.Disk.told c.args.disk.now; left = g.S.Source.left c.next.new.source; written = g.W.Sink.written c.args.sink.now } in
+    ends_done layout before after c.args.session.now (record c.args.session.now { lines = c.next.new.self }) refl refl refl
+    (λ rest is.
+    let ends = subst (GivesNext c.args.session.now.lines c.next.new.self rest (g.S.Source.left c.next.new.source)) c.in-Ok-End.field-0-is (c.in-Ok-End.ensures.gives rest (record { is = is; ended = c.requires.serving.at_end })) in
+    (ends.none, ends.ended))
+
+pub returns-in-Err-clause-turns : goal.returns-in-Err-clause-turns
+returns-in-Err-clause-turns g c = λ steady.
+    let layout = c.args.session.now.layout in
+    let before : Outside = record { told = g.D.Disk.told c.args.disk.now; left = g.S.Source.left c.args.source.now; written = g.W.Sink.written c.args.sink.now } in
+    let after : Outside = record { told = g.D.Disk.told c.args.disk.now; left = g.S.Source.left c.next.new.source; written = g.W.Sink.written c.args.sink.now } in
+    ends_read layout before after c.args.session.now (record c.args.session.now { lines = c.next.new.self }) refl refl refl
+
+-- ---- a line was executed
+
+pub execute-turn-requires : goal.execute-turn-requires
+execute-turn-requires g c =
+    let spends : Spends c.args.session.now.lines c.next.new.self (nexts.Line c.in-Ok-Line.line) = subst (Spends c.args.session.now.lines c.next.new.self) c.in-Ok-Line.field-0-is c.in-Ok-Line.ensures.spends in
+    record {
+      serving = (g.S.Source.left c.next.new.source, taken_line c.args.session.now.layout c.args.session.now (g.S.Source.left c.args.source.now) (g.S.Source.left c.next.new.source) c.requires.serving c.next.new.self c.next.ensures.bound c.next.ensures.at_end spends.0);
+      size = spends.1;
+    }
+
+pub returns-in-Ok-Line-clause-steady : goal.returns-in-Ok-Line-clause-steady
+returns-in-Ok-Line-clause-steady g c = c.execute-turn.ensures.executes.steady
+
+pub returns-in-Ok-Line-clause-serving : goal.returns-in-Ok-Line-clause-serving
+returns-in-Ok-Line-clause-serving g c =
+    let spends : Spends c.args.session.now.lines c.next.new.self (nexts.Line c.in-Ok-Line.line) = subst (Spends c.args.session.now.lines c.next.new.self) c.in-Ok-Line.field-0-is c.in-Ok-Line.ensures.spends in
+    executed_serving c.args.session.now.layout c.args.session.now (g.S.Source.left c.args.source.now) (g.S.Source.left c.next.new.source) c.requires.serving c.next.new.self c.next.ensures.bound c.next.ensures.at_end spends.0
+    c.execute-turn.new.session c.execute-turn.ensures.executes.leaves c.execute-turn.result c.execute-turn.ensures.executes.live
+
+pub returns-in-Ok-Line-clause-layout : goal.returns-in-Ok-Line-clause-layout
+returns-in-Ok-Line-clause-layout g c = on_going c.execute-turn.result (c.execute-turn.new.session.layout ≡ c.args.session.now.layout) c.execute-turn.ensures.executes.leaves.layout
+
+pub returns-in-Ok-Line-clause-budget : goal.returns-in-Ok-Line-clause-budget
+returns-in-Ok-Line-clause-budget g c =
+    let spends : Spends c.args.session.now.lines c.next.new.self (nexts.Line c.in-Ok-Line.line) = subst (Spends c.args.session.now.lines c.next.new.self) c.in-Ok-Line.field-0-is c.in-Ok-Line.ensures.spends in
+    on_going c.execute-turn.result (c.execute-turn.new.session.lines.reading.budget < c.args.session.now.lines.reading.budget) (subst (λ (r : Room). r.reading.budget < c.args.session.now.lines.reading.budget) (sym c.execute-turn.ensures.executes.leaves.lines) spends.0)
+
+pub returns-in-Ok-Line-clause-source : goal.returns-in-Ok-Line-clause-source
+returns-in-Ok-Line-clause-source g c =
+    unread_source c.execute-turn.result (g.S.Source.faults c.args.source.now) (g.S.Source.faults c.next.new.source) c.execute-turn.ensures.executes.ends c.in-Ok-Line.ensures.cause.same
+
+-- ---- none was
+
+pub refuse-requires : goal.refuse-requires
+refuse-requires g c = omega (arith, c.requires.serving.count)
+
+pub returns-in-Ok-Refused-clause-disk : goal.returns-in-Ok-Refused-clause-disk
+returns-in-Ok-Refused-clause-disk g c =
+    other_fault status.DiskFault c.refuse.result (g.D.Disk.faults c.args.disk.now) (g.D.Disk.faults c.args.disk.now)
+    (script_other status.DiskFault (script_text (c.args.session.now.count + 1)) (g.W.Sink.written c.args.sink.now) (g.W.Sink.written c.refuse.new.sink) c.refuse.result (λ is. cc) (λ is. cc) c.refuse.ensures.line) refl
+
+pub returns-in-Ok-Refused-clause-source : goal.returns-in-Ok-Refused-clause-source
+returns-in-Ok-Refused-clause-source g c =
+    other_fault status.ReadFault c.refuse.result (g.S.Source.faults c.args.source.now) (g.S.Source.faults c.next.new.source)
+    (script_other status.ReadFault (script_text (c.args.session.now.count + 1)) (g.W.Sink.written c.args.sink.now) (g.W.Sink.written c.refuse.new.sink) c.refuse.result (λ is. cc) (λ is. cc) c.refuse.ensures.line) c.in-Ok-Refused.ensures.cause.same
+
+pub returns-in-Ok-End-clause-disk : goal.returns-in-Ok-End-clause-disk
+returns-in-Ok-End-clause-disk g c = other_fault status.DiskFault status.Done (g.D.Disk.faults c.args.disk.now) (g.D.Disk.faults c.args.disk.now) (λ is. cc) refl
+
+pub returns-in-Ok-End-clause-source : goal.returns-in-Ok-End-clause-source
+returns-in-Ok-End-clause-source g c = other_fault status.ReadFault status.Done (g.S.Source.faults c.args.source.now) (g.S.Source.faults c.next.new.source) (λ is. cc) c.in-Ok-End.ensures.cause.same
+
+pub returns-in-Ok-End-clause-sink : goal.returns-in-Ok-End-clause-sink
+returns-in-Ok-End-clause-sink g c = other_fault status.WriteFault status.Done (g.W.Sink.faults c.args.sink.now) (g.W.Sink.faults c.args.sink.now) (λ is. cc) refl
+
+pub returns-in-Err-clause-disk : goal.returns-in-Err-clause-disk
+returns-in-Err-clause-disk g c = other_fault status.DiskFault status.ReadFault (g.D.Disk.faults c.args.disk.now) (g.D.Disk.faults c.args.disk.now) (λ is. cc) refl
+
+pub returns-in-Err-clause-source : goal.returns-in-Err-clause-source
+returns-in-Err-clause-source g c = record { rose = λ is. c.in-Err.ensures.cause.failed; same = λ no. absurd (no refl) }
+
+pub returns-in-Err-clause-sink : goal.returns-in-Err-clause-sink
+returns-in-Err-clause-sink g c = other_fault status.WriteFault status.ReadFault (g.W.Sink.faults c.args.sink.now) (g.W.Sink.faults c.args.sink.now) (λ is. cc) refl
+
+-- ---- neither for want of memory nor for other words
+
+pub returns-in-Ok-Line-clause-never : goal.returns-in-Ok-Line-clause-never
+returns-in-Ok-Line-clause-never g c = line_turn c.execute-turn.result c.execute-turn.ensures.executes.ends
+
+pub returns-in-Ok-Refused-clause-never : goal.returns-in-Ok-Refused-clause-never
+returns-in-Ok-Refused-clause-never g c = script_turn (script_text (c.args.session.now.count + 1)) (g.W.Sink.written c.args.sink.now) (g.W.Sink.written c.refuse.new.sink) c.refuse.result c.refuse.ensures.line

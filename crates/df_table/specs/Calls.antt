@@ -1,0 +1,107 @@
+-- What each call of a session comes to, where nothing refuses it but want of ops or of sequences.
+use Rattle.std.specs.Prelude.{◌≡◌, ◌≢◌, ◌⊎◌, ◌+◌, ℕ, Bool, true, false, List, [], ◌∷◌, ◌++◌, replicate, Option, Some, None, Result, Ok, Err, IfOk, OnOk}
+use Rattle.df_disk.specs.Told.{Told}
+use Rattle.df_layout.specs.declared.layout.Layout.{Layout}
+use Rattle.df_model.specs.Commands.{Advance, Begin, Command}
+use Rattle.df_model.specs.Refusals.{append_refusals, first_refusal}
+use Rattle.df_model.specs.declared.answers.Progress.TheVariants as progress
+use Rattle.df_model.specs.declared.commands.Answer.{Answer}
+use Rattle.df_model.specs.declared.commands.Answer.TheVariants as answers
+use Rattle.df_model.specs.declared.errors.AppendError.TheVariants as append
+use Rattle.df_model.specs.declared.errors.BeginError.TheVariants as begin
+use Rattle.df_rows.specs.declared.command.Command.{Command as Change}
+use Rattle.df_rows.specs.Commands.{Map}
+use Rattle.df_session.specs.Beginning.{begin_refusal}
+use Rattle.df_session.specs.Below.{State as Replica, memory}
+use Rattle.df_session.specs.Stepping.{OfRunning, advanced, finished}
+use Rattle.df_table.specs.declared.ending.Ending.{Ending}
+use Rattle.df_table.specs.declared.ending.Ending.TheVariants.{OpsSpent}
+use Rattle.df_table.specs.Policy.{checkpoint, line_commands, opening, room_for, the_client, writes}
+use Rattle.df_table.specs.Ready.{IsReady}
+use Rattle.df_table.specs.Turns.{EndIn, MakeAll}
+
+-- all of these commands were made and accepted; or the first of them were made, and this ended them
+abbrev pub Comes : {T : Type 0} → List Command → (s t : Replica) → (old new : Option Told) → Result T Ending → Type 0
+Comes commands s t old new (Ok x) = MakeAll commands s t old new
+Comes commands s t old new (Err ending) = EndIn commands s t old new ending
+
+-- ---- what may be refused
+
+-- no reason refuses an append, but that no op is left
+abbrev pub MayAppend : Replica → (request : ℕ) → List ℕ → Type 0
+MayAppend s request body =
+    let refusal = first_refusal (append_refusals (memory s) the_client request body) in
+    (refusal ≡ None) ⊎ (refusal ≡ Some append.OpsSpent)
+
+-- no reason refuses a begin without a root, but that no sequence is left
+abbrev pub MayBegin : Replica → Type 0
+MayBegin s = let refusal = begin_refusal s [] in (refusal ≡ None) ⊎ (refusal ≡ Some begin.SequenceSpent)
+
+-- a checkpoint runs
+abbrev pub IsRunning : Replica → Type 0
+IsRunning s = OfRunning s.running (λ r. Unit {0})
+
+-- ---- answers
+
+abbrev pub IsStepped : Answer → Type 0
+IsStepped (answers.Advance (Ok progress)) = Unit {0}
+IsStepped answer = ⊥
+
+-- what is taken of an answer: the op; whether a reply was stored, a block written or a checkpoint begun; and whether it is done
+abbrev pub op_of : Answer → Result ℕ Ending
+op_of (answers.Append (Ok receipt)) = Ok receipt.op
+op_of answer = Err OpsSpent
+
+abbrev pub accepted_or : Answer → Ending → Result (Unit {0}) Ending
+accepted_or (answers.Reply (Ok check)) otherwise = Ok tt
+accepted_or (answers.WriteBlock (Ok reference)) otherwise = Ok tt
+accepted_or (answers.Begin (Ok blocks)) otherwise = Ok tt
+accepted_or answer otherwise = Err otherwise
+
+abbrev pub done_of : Answer → Bool
+done_of (answers.Advance (Ok (progress.Done sequence))) = true
+done_of answer = false
+
+-- ---- states
+
+-- behind a step, by whether the checkpoint is done
+abbrev pub Stepped : Bool → (s t : Replica) → Type 0
+Stepped false s t = OfRunning s.running (λ r. (s.blocks.left ≢ []) × (t ≡ advanced s r))
+Stepped true s t = OfRunning s.running (λ r. (s.blocks.left ≡ []) × (t ≡ finished s r))
+
+-- ---- a checkpoint of the table, and a line
+
+-- so many steps
+abbrev pub Advances : {T : Type 0} → (s t : Replica) → (old new : Option Told) → Result T Ending → Type 0
+Advances s t old new result = (n : ℕ) × Comes (replicate n Advance) s t old new result
+
+-- a checkpoint without a root is begun, with so many steps behind it
+abbrev pub Concludes : {T : Type 0} → (s t : Replica) → (old new : Option Told) → Result T Ending → Type 0
+Concludes s t old new result = (steps : ℕ) × Comes (Begin [] ∷ replicate steps Advance) s t old new result
+
+-- the blocks of the table are written before
+abbrev pub Fills : {T : Type 0} → Layout → Map → (s t : Replica) → (old new : Option Told) → Result T Ending → Type 0
+Fills layout rows s t old new result = (steps : ℕ) × Comes (writes layout rows ++ (Begin [] ∷ replicate steps Advance)) s t old new result
+
+-- its commands, with so many steps
+abbrev pub Checkpoints : {T : Type 0} → Layout → Map → (s t : Replica) → (old new : Option Told) → Result T Ending → Type 0
+Checkpoints layout rows s t old new result = (steps : ℕ) × Comes (checkpoint layout (memory s) rows steps) s t old new result
+
+-- those, where the ring is full, and else none
+abbrev pub MakesRoom : {T : Type 0} → Layout → Map → (s t : Replica) → (old new : Option Told) → Result T Ending → Type 0
+MakesRoom layout rows s t old new result = (steps : ℕ) × Comes (room_for layout (memory s) rows steps) s t old new result
+
+-- those of a put or a drop that isn't refused
+abbrev pub Changes : {T : Type 0} → Layout → Map → Change → (s t : Replica) → (old new : Option Told) → Result T Ending → Type 0
+Changes layout rows c s t old new result = (steps : ℕ) × Comes (line_commands layout (memory s) rows steps (c ∷ [])) s t old new result
+
+-- and it was done: its op is the next one, and the replica is as ready as before
+pub record IsChanged (layout : Layout) (rows : Map) (c : Change) (s t : Replica) (old new : Option Told) (result : Result ℕ Ending) : Type 0 where
+  pub makes : Changes layout rows c s t old new result
+  pub op : IfOk result (λ op. op ≡ s.head + 1)
+  pub head : OnOk result (t.head ≡ s.head + 1)
+  pub ready : OnOk result (IsReady layout t)
+
+-- those of the opening
+abbrev pub Opens : {T : Type 0} → (s t : Replica) → (old new : Option Told) → Result T Ending → Type 0
+Opens s t old new result = Comes (opening (memory s)) s t old new result

@@ -1,0 +1,63 @@
+-- What is kept of the table of a file behind the barrier of an open: the puts and drops that were answered are there from their answers on, wherever a stop falls.
+use Rattle.std.specs.Prelude.{◌≡◌, ℕ, List, [], ◌∷◌, ◌++◌, take, drop, Option, Some, None, Ok}
+use Rattle.df_base.specs.Image.{Image}
+use Rattle.df_base.specs.Log.{Event, IsLeft, Log, Sync}
+use Rattle.df_base.specs.Moments.{EachMoment}
+use Rattle.df_disk.specs.Told.{Told, did}
+use Rattle.df_theory.specs.Device.{IsSafeDisk, NoChanceOf}
+use Rattle.df_theory.specs.View.{View}
+use Rattle.df_units.specs.Bytes.{unit_at}
+use Rattle.df_model.specs.Commands.{Answer, Append, Command, ToAppend}
+use Rattle.df_rows.specs.declared.command.Command.{Command as Change}
+use Rattle.df_rows.specs.Commands.{IsCommand, body_of}
+use Rattle.df_rows.specs.Tables.{Table, with_commands}
+use Rattle.df_session.specs.Acknowledging.{IsUntil, WereAnswered}
+use Rattle.df_session.specs.Below.{DataFile, State as Replica, shape}
+use Rattle.df_session.specs.Following.{MayOpen}
+use Rattle.df_session.specs.Keeping.{over}
+use Rattle.df_session.specs.Links.{CallsMade, events_made}
+use Rattle.df_session.specs.Serving.{format}
+use Rattle.df_session.specs.Session.{Act}
+use Rattle.df_table.specs.Table.{HasTable, IsTable}
+
+-- ---- puts and drops among calls
+
+-- the put or drop of an append that is accepted; no other call has one
+abbrev pub Changes : Command → Answer → List Change → Type 0
+Changes (Append client request body) (ToAppend (Ok done)) changes = (c : Change) × IsCommand c × (body ≡ body_of c) × (changes ≡ c ∷ [])
+Changes command answer changes = changes ≡ []
+
+-- those of calls with these answers, in order
+abbrev pub AreChanges : List Act → List Answer → List Change → Type 0
+AreChanges (a ∷ acts) (x ∷ answers) changes = (some : List Change) × (more : List Change) × Changes a.command x some × AreChanges acts answers more × (changes ≡ some ++ more)
+AreChanges acts answers changes = changes ≡ []
+
+-- that of a call that was not answered, were it accepted
+abbrev pub IsPending : Option Act → List Change → Type 0
+IsPending None changes = changes ≡ []
+IsPending (Some a) changes = Changes a.command (ToAppend (Ok (0, 0))) changes
+
+-- ---- moments
+
+-- the log is safe, and whatever a stop leaves, under no chance, has the table behind some of these puts and drops, from the first on
+pub record IsMidway (file : DataFile) (t : Table) (changes : List Change) (log : Log) : Type 0 where
+  pub safe : IsSafeDisk (format file) (shape file) log
+  pub left : (image : Image) → IsLeft log image → NoChanceOf (format file) log image → (n : ℕ) × HasTable file (with_commands (take n changes) t) image
+
+-- From the barrier on, where the file had this table: at each moment every image left has it behind some of the puts and drops, at each moment behind an answer with all that
+-- were answered by then, and at the end with all that were answered, but perhaps for the one in which the disk failed.
+pub record KeepsFrom (file : DataFile) (t : Table) (base : Told) (mending : List Event) (c : CallsMade) (changes pending : List Change) (after : Told) : Type 0 where
+  pub is : over mending (events_made c) base ≡ Some after
+  pub moments : EachMoment (did Sync base).log after.log (IsMidway file t (changes ++ pending))
+  pub answered : (k : ℕ) (log : Log) (some more : List Change) → AreChanges (take k c.acts) (take k c.answers) some → AreChanges (drop k c.acts) (drop k c.answers) more
+      → WereAnswered k (over mending [] base) log c → IsUntil (Some after) log → IsMidway file (with_commands some t) (more ++ pending) log
+  pub end_safe : IsMidway file (with_commands changes t) pending after.log
+
+-- By each log that shows what was shown, and by which the file may be opened, the told one or one that is begun anew there.
+pub record KeepsTable (t : Told) (s : Replica) (mending : List Event) (c : CallsMade) : Type 0 where
+  pub changes : List Change
+  pub pending : List Change
+  pub are : AreChanges c.acts c.answers changes
+  pub is_pending : IsPending c.failed pending
+  pub keeps : (view : View) (base : Told) (table : Table) → base.shown ≡ t.shown → MayOpen s.file view base → IsTable s.file (unit_at s.file.layout s.file.cluster t.shown) view table
+      → (after : Told) × KeepsFrom s.file table base mending c changes pending after

@@ -1,0 +1,14 @@
+pub mod Statuses
+pub mod Outside
+pub mod Table
+pub mod Policy
+pub mod Ready
+pub mod Opening
+pub mod Turns
+pub mod Calls
+pub mod Session
+pub mod Serving
+pub mod Written
+pub mod Keeping
+pub mod Run
+pub mod Laws

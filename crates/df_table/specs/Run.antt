@@ -1,0 +1,103 @@
+-- What the program promises of a table's file.
+use Rattle.std.specs.Prelude.{◌≡◌, ◌≢◌, ◌⊎◌, ℕ, List, [], ◌∷◌, codes, Some, Result, Err}
+use Rattle.df_base.specs.Image.{IsImage}
+use Rattle.df_base.specs.Log.{Sync}
+use Rattle.df_disk.specs.Told.{Told, did}
+use Rattle.df_inspect.specs.Opening.{open_refusal}
+use Rattle.df_layout.specs.declared.layout.Layout.{Layout}
+use Rattle.df_model.specs.declared.errors.OpenError.{OpenError}
+use Rattle.df_model.specs.declared.errors.OpenError.TheVariants as opens
+use Rattle.df_rows.specs.Tables.{Table}
+use Rattle.df_session.specs.Below.{IsLayoutShown, Refuses, Surveys, memory}
+use Rattle.df_session.specs.Found.{FoundFile}
+use Rattle.df_session.specs.Laws.{CallsKeep}
+use Rattle.df_session.specs.Links.{CallsMade}
+use Rattle.df_session.specs.Opened.{StopsOpening}
+use Rattle.df_session.specs.Reading.{shown_of}
+use Rattle.df_table.specs.declared.ending.Ending.{Ending}
+use Rattle.df_table.specs.declared.status.Status.{Status}
+use Rattle.df_table.specs.declared.status.Status.TheVariants as ends
+use Rattle.df_table.specs.Keeping.{KeepsTable}
+use Rattle.df_table.specs.Opening.{FindsOf}
+use Rattle.df_table.specs.Outside.{Outside, Writes}
+use Rattle.df_table.specs.Session.{AreCallsOf, Serves}
+
+-- ---- words
+
+abbrev pub usage : List ℕ
+usage = codes "usage: objecttable FILE table\n"
+
+-- the words are exactly this one
+abbrev pub IsTableWord : List (List ℕ) → Type 0
+IsTableWord words = words ≡ codes "table" ∷ []
+
+-- ---- a file that isn't served
+
+-- nothing is printed, and nothing is read of the source
+pub record IsSilent (old new : Outside) : Type 0 where
+  pub written : new.written ≡ old.written
+  pub unread : new.left ≡ old.left
+
+-- the line of a refusal is printed, and nothing is read of the source
+pub record Refuse (error : OpenError) (old new : Outside) (status : Status) : Type 0 where
+  pub prints : Writes (open_refusal error) ends.Refused old.written new.written status
+  pub unread : new.left ≡ old.left
+
+-- the superblock that the disk shows can't be used; nothing is written to the disk
+pub record RefusesSuperblock (t : Told) (old new : Outside) (status : Status) : Type 0 where
+  pub error : OpenError
+  pub is : Refuses t.shown error
+  pub refuse : Refuse error old new status
+  pub same : new.told ≡ old.told
+
+-- the file is refused behind the barrier, and nothing is written to it
+pub record RefusesFile (layout : Layout) (t : Told) (old new : Outside) (status : Status) : Type 0 where
+  pub error : OpenError
+  pub is : Surveys layout t.shown (Err error)
+  pub other : error ≢ opens.DiskFault
+  pub refuse : Refuse error old new status
+  pub barrier : new.told ≡ Some (did Sync t)
+
+-- the disk failed before the file was found
+pub record FailsToFind (layout : Layout) (t : Told) (old new : Outside) (status : Status) : Type 0 where
+  pub fault : status ≡ ends.DiskFault
+  pub silent : IsSilent old new
+  pub disk : StopsOpening layout t new.told
+
+-- memory was wanting, or the disk failed in the first reads: nothing was done
+pub record DidNothing (old new : Outside) (status : Status) : Type 0 where
+  pub silent : IsSilent old new
+  pub same : new.told ≡ old.told
+  pub why : (status ≡ ends.Memory) ⊎ (status ≡ ends.DiskFault)
+
+-- ---- a file that is
+
+-- The file was found and mended. What the opening finds of a table, or why there is none, is that of what the disk shows; the lines are served; what of all calls is kept is what
+-- calls on an open file keep, and so the table is.
+pub record ServesTable (layout : Layout) (t : Told) (found : FoundFile layout t) (old new : Outside) (status : Status) : Type 0 where
+  pub opened : Result Table Ending
+  pub finds : FindsOf layout (shown_of found.replica.file t.shown) (memory found.replica) opened
+  pub serves : Serves layout found.replica found.mended old new status opened
+  pub made : CallsMade
+  pub of : AreCallsOf layout found.replica found.mended old new status opened serves made
+  pub calls : CallsKeep t found.replica found.mended found.mending made
+  pub keeps : KeepsTable t found.replica found.mending.events made
+
+-- ---- the program
+
+-- in rooms of a layout: the file is refused, or the disk fails before it is found, or its table is served
+abbrev pub Does : Layout → Told → Outside → Outside → Status → Type 0
+Does layout t old new status = RefusesFile layout t old new status ⊎ FailsToFind layout t old new status ⊎ ((found : FoundFile layout t) × ServesTable layout t found old new status)
+
+-- rooms are taken for the layout that the superblock names
+pub record ServesOwn (t : Told) (old new : Outside) (status : Status) : Type 0 where
+  pub layout : Layout
+  pub shown : IsLayoutShown t.shown layout
+  pub does : Does layout t old new status
+
+-- memory was wanting or the disk failed in the first reads, or the superblock is refused, or the table is served in rooms of the file's own layout
+abbrev pub Outcome : Told → Outside → Outside → Status → Type 0
+Outcome t old new status = DidNothing old new status ⊎ RefusesSuperblock t old new status ⊎ ServesOwn t old new status
+
+abbrev pub Runs : Outside → Outside → Status → Type 0
+Runs old new status = (t : Told) → old.told ≡ Some t → IsImage t.shown → Outcome t old new status

@@ -1,0 +1,147 @@
+-- How far a session over a script has come, and what its functions say of it.
+use Rattle.std.specs.Prelude.{◌≡◌, ◌⊎◌, ◌≤◌, ◌+◌, ◌*◌, ◌^◌, ℕ, Bool, true, IsTrue, List, ◌++◌, length, map, vec_len, All, Option, Some, Result, Ok, Err}
+use Rattle.df_base.specs.Streams.{Appends, AppendsPart}
+use Rattle.df_disk.specs.Told.{Told}
+use Rattle.df_layout.specs.declared.layout.Layout.{Layout}
+use Rattle.df_lines.specs.Room.{IsAtEnd, line_bound}
+use Rattle.df_lines.specs.Text.{unread}
+use Rattle.df_model.specs.Commands.{Answer}
+use Rattle.df_rows.specs.Grammar.{Said}
+use Rattle.df_rows.specs.Limits.{rows_in_block}
+use Rattle.df_rows.specs.Lines.{accepted as change_of, all_accepted, behind, map_text, text_of}
+use Rattle.df_rows.specs.Script.{Begins}
+use Rattle.df_rows.specs.Tables.{Table}
+use Rattle.df_session.specs.Below.{State as Replica}
+use Rattle.df_session.specs.Links.{AreCalls, command_in}
+use Rattle.df_session.specs.Session.{Act}
+use Rattle.df_table.specs.declared.ending.Ending.{Ending}
+use Rattle.df_table.specs.declared.session.Session.{Session}
+use Rattle.df_table.specs.declared.status.Status.{Status}
+use Rattle.df_table.specs.declared.status.Status.TheVariants.{DiskFault, Memory, Refused, Words, WriteFault}
+use Rattle.df_table.specs.declared.turns.Turn.{Turn as Step}
+use Rattle.df_table.specs.declared.turns.Turn.TheVariants.{Ends, GoesOn as Goes}
+use Rattle.df_table.specs.Outside.{Blames, Outside, Writes}
+use Rattle.df_table.specs.Ready.{IsSteady, Leaves}
+use Rattle.df_table.specs.Session.{EndsText, EndsWith, Halt, HaltsIn, closing, said_in}
+use Rattle.df_table.specs.Statuses.{ending_text, status_of}
+use Rattle.df_table.specs.Turns.{AreFit, AreTurns, EndIn, IsAccepted, Turn, all_said, commands_of}
+
+-- ---- how far it has come
+
+-- what is around it, the text that is unread where the source tells it, how many bytes may still be taken, how many lines were executed, the replica and the table
+pub record State : Type 0 where
+  pub outside : Outside
+  pub text : Option (List ℕ)
+  pub budget : ℕ
+  pub lines : ℕ
+  pub replica : Replica
+  pub table : Table
+
+abbrev pub state : Outside → Session → State
+state outside s = record { outside = outside; text = unread s.lines.reading.held outside.left; budget = s.lines.reading.budget; lines = s.count; replica = s.replica; table = s.table }
+
+-- what is true of it between two lines, whatever the disk tells
+pub record IsServing (layout : Layout) (s : Session) (left : Option (List ℕ)) : Type 0 where
+  pub live : s.replica.live ≡ true
+  pub block : 64 * rows_in_block layout ≤ vec_len s.block
+  pub bound : s.lines.reading.bound ≡ line_bound layout
+  pub count : s.count + s.lines.reading.budget ≤ 2 ^ 33
+  pub at_end : IsTrue s.lines.ended → IsAtEnd left
+
+-- from origin to now these lines were executed, the first ones of the text, and what a map answers to them is written
+pub record Executed (layout : Layout) (origin now : State) (turns : List Turn) : Type 0 where
+  pub text : (text : List ℕ) → origin.text ≡ Some text → (rest : List ℕ) × (now.text ≡ Some rest) × Begins (line_bound layout) origin.budget text (all_said turns) now.budget rest
+  pub written : Appends origin.outside.written now.outside.written (map_text origin.table origin.replica.head (all_said turns))
+  pub lines : now.lines ≡ origin.lines + length turns
+  pub calls : AreTurns layout origin.replica origin.outside.told origin.table turns now.replica now.outside.told now.table
+  pub head : now.replica.head ≡ origin.replica.head + length (all_accepted origin.table (all_said turns))
+
+-- and then it ended: no line was left, the next one is none, the source failed, or something ended it within the next line
+pub record Ended (layout : Layout) (origin now : State) (status : Status) : Type 0 where
+  pub turns : List Turn
+  pub replica : Replica
+  pub mid : Option Told
+  pub table : Table
+  pub are : AreTurns layout origin.replica origin.outside.told origin.table turns replica mid table
+  pub halt : Option Halt
+  pub cut : Bool
+  pub halts : HaltsIn layout replica mid table halt now.replica now.outside.told
+  pub text : (text : List ℕ) → origin.text ≡ Some text
+      → (budget : ℕ) × (rest : List ℕ) × Begins (line_bound layout) origin.budget text (all_said turns ++ said_in halt) budget rest × EndsText (line_bound layout) budget rest now.outside.left cut status
+  pub written : EndsWith (map_text origin.table origin.replica.head (all_said turns) ++ closing (origin.lines + length turns) halt cut) halt cut origin.outside.written now.outside.written status
+
+-- ---- one line
+
+-- it was executed: it took its calls, all of which were accepted, and this is the table behind it
+pub record IsExecuted (layout : Layout) (said : Said) (s t : Replica) (old new : Option Told) (table later : Table) : Type 0 where
+  pub acts : List Act
+  pub answers : List Answer
+  pub steps : ℕ
+  pub calls : AreCalls s old acts answers t new
+  pub are : map command_in acts ≡ commands_of layout s table steps said
+  pub accepted : All IsAccepted answers
+  pub fit : AreFit (change_of table said)
+  pub behind_is : later ≡ behind table said
+  pub head : t.head ≡ s.head + length (change_of table said)
+
+-- and its answer is printed, or a front of it where the sink failed; or something ended the session within it, and says why
+abbrev pub Answers : Layout → Said → (s t : Replica) → (old new : Option Told) → (table later : Table) → (written took : Option (List ℕ)) → Step → Type 0
+Answers layout said s t old new table later written took Goes = IsExecuted layout said s t old new table later × Appends written took (text_of table s.head said)
+Answers layout said s t old new table later written took (Ends status) =
+    (IsExecuted layout said s t old new table later × (status ≡ WriteFault) × AppendsPart written took (text_of table s.head said))
+    ⊎ ((ending : Ending) × (steps : ℕ) × EndIn (commands_of layout s table steps said) s t old new ending × Writes (ending_text ending) (status_of ending) written took status × AreFit (change_of table said))
+
+-- where the session goes on
+abbrev pub OnGoing : Step → Type 0 → Type 0
+OnGoing Goes P = P
+OnGoing (Ends status) P = Unit {0}
+
+-- a line ends a session as one of these alone
+abbrev pub EndsLine : Step → Type 0
+EndsLine Goes = Unit {0}
+EndsLine (Ends Refused) = Unit {0}
+EndsLine (Ends DiskFault) = Unit {0}
+EndsLine (Ends WriteFault) = Unit {0}
+EndsLine (Ends status) = ⊥
+
+-- no turn ends it for want of memory, or for other words
+abbrev pub EndsTurn : Step → Type 0
+EndsTurn (Ends Memory) = ⊥
+EndsTurn (Ends Words) = ⊥
+EndsTurn turn = Unit {0}
+
+-- It was executed by a session: where replica and table were as they have to be, it was answered so, and they are so again. Where the session goes on, the table is the one behind the line.
+pub record Executes (layout : Layout) (said : Said) (old new : Session) (told later : Option Told) (written took : Option (List ℕ)) (turn : Step) : Type 0 where
+  pub answers : IsSteady layout old.replica old.table → Answers layout said old.replica new.replica told later old.table new.table written took turn
+  pub steady : IsSteady layout old.replica old.table → OnGoing turn (IsSteady layout new.replica new.table)
+  pub live : OnGoing turn (new.replica.live ≡ true)
+  pub behind_is : OnGoing turn (new.table ≡ behind old.table said)
+  pub leaves : Leaves old new
+  pub ends : EndsLine turn
+
+-- a text is printed, or a front of it where the sink failed
+abbrev pub Tells : List ℕ → (old new : Option (List ℕ)) → Step → Type 0
+Tells text old new Goes = Appends old new text
+Tells text old new (Ends WriteFault) = AppendsPart old new text
+Tells text old new (Ends status) = ⊥
+
+abbrev pub printed_turn : {T E : Type 0} → Result T E → Step
+printed_turn (Ok x) = Goes
+printed_turn (Err e) = Ends WriteFault
+
+-- ---- turns
+
+abbrev pub GoesOn : Layout → (old new : State) → Type 0
+GoesOn layout old new = (origin : State) (turns : List Turn) → Executed layout origin old turns → (more : List Turn) × Executed layout origin new (turns ++ more)
+
+abbrev pub EndsIn : Layout → (old new : State) → Status → Type 0
+EndsIn layout old new status = (origin : State) (turns : List Turn) → Executed layout origin old turns → Ended layout origin new status
+
+abbrev pub Turns : Layout → (old new : State) → Step → Type 0
+Turns layout old new Goes = GoesOn layout old new
+Turns layout old new (Ends status) = EndsIn layout old new status
+
+-- a turn that goes on has raised no count
+abbrev pub BlamesIfEnds : Status → (before now : ℕ) → Step → Type 0
+BlamesIfEnds fault before now Goes = now ≡ before
+BlamesIfEnds fault before now (Ends status) = Blames fault before now status

@@ -1,0 +1,72 @@
+-- The table of a file: the rows of the blocks that its checkpoint references, in order of address, changed by the commands of its tail.
+use Rattle.std.specs.Prelude.{◌≡◌, ◌≤◌, ◌<◌, ℕ, List, [], ◌∷◌, length, Some}
+use Rattle.std.specs.FinMap as map
+use Rattle.df_layout.specs.declared.layout.Layout.{Layout}
+use Rattle.df_theory.specs.Units.{Block, BlockPlace, BlockUnit, Message, Units}
+use Rattle.df_theory.specs.View.{View}
+use Rattle.df_theory.specs.Holds.{Held}
+use Rattle.df_base.specs.Image.{Image}
+use Rattle.df_model.specs.Blocks.{addresses, entries}
+use Rattle.df_rows.specs.declared.command.Command.{Command}
+use Rattle.df_rows.specs.Blocks.{TakesAll}
+use Rattle.df_rows.specs.Commands.{IsCommand, body_of}
+use Rattle.df_rows.specs.Limits.{blocks_of_table, most_rows}
+use Rattle.df_rows.specs.Tables.{CanApply, Table, with_command, with_commands}
+use Rattle.df_session.specs.Below.{DataFile, shape}
+use Rattle.df_session.specs.Serving.{format}
+
+-- ---- blocks
+
+-- what the checkpoint references, in order of address, each with the checksum of its block
+abbrev pub references_of : DataFile → View → List (ℕ × ℕ)
+references_of file v = entries v.checkpoint.parts.references (addresses (shape file).layout)
+
+-- the image shows a block at this address with this checksum, no trailer's, and this is its body
+pub record ShowsBody (image : Units) (x : ℕ × ℕ) (body : List ℕ) : Type 0 where
+  pub block : Block
+  pub there : image (BlockPlace x.0) ≡ Some (BlockUnit block)
+  pub sum : block.checksum ≡ x.1
+  pub own : 0 < block.kind
+  pub body_is : block.body ≡ body
+
+-- so it is of each of these, in order
+abbrev pub ShowsBodies : Units → List (ℕ × ℕ) → List (List ℕ) → Type 0
+ShowsBodies image [] [] = Unit {0}
+ShowsBodies image (x ∷ more) (body ∷ bodies) = ShowsBody image x body × ShowsBodies image more bodies
+ShowsBodies image references bodies = ⊥
+
+-- ---- commands
+
+-- a body is a command's, and the table has room for what it puts
+pub record Follows (t : Table) (body : List ℕ) (c : Command) : Type 0 where
+  pub body_is : body ≡ body_of c
+  pub fits : IsCommand c
+  pub room : CanApply t c
+
+-- so it is of the bodies of prepares, each behind those before it
+abbrev pub FollowAll : Table → List Message → List Command → Type 0
+FollowAll t [] [] = Unit {0}
+FollowAll t (p ∷ ps) (c ∷ more) = Follows t p.body c × FollowAll (with_command c t) ps more
+FollowAll t ps cs = ⊥
+
+-- ---- the table
+
+abbrev pub empty_table : Layout → Table
+empty_table layout = record { max = most_rows layout; rows = map.empty }
+
+-- the table of a view, over an image that shows what the view references
+pub record IsTable (file : DataFile) (image : Units) (v : View) (t : Table) : Type 0 where
+  pub bodies : List (List ℕ)
+  pub shown : ShowsBodies image (references_of file v) bodies
+  pub few : length bodies ≤ blocks_of_table file.layout
+  pub base : Table
+  pub rows : TakesAll (empty_table file.layout) bodies base
+  pub commands : List Command
+  pub tail : FollowAll base v.tail commands
+  pub is : t ≡ with_commands commands base
+
+-- an image of the disk has a view whose table this is
+pub record HasTable (file : DataFile) (t : Table) (image : Image) : Type 0 where
+  pub view : View
+  pub held : Held (shape file) ((format file).unit_at image) view
+  pub table : IsTable file ((format file).unit_at image) view t

@@ -1,0 +1,115 @@
+-- The calls of a session: those of its opening, and then those of one line after the other, until one isn't answered, or the answer is a refusal that ends it.
+use Rattle.std.specs.Prelude.{◌≡◌, ◌⊎◌, ℕ, List, [], ◌∷◌, ◌++◌, map, All, Option, Some, None, Err}
+use Rattle.df_disk.specs.Told.{Told}
+use Rattle.df_layout.specs.declared.layout.Layout.{Layout}
+use Rattle.df_model.specs.Commands.{Answer, Command, ToAdvance, ToAppend, ToBegin, ToReadBlock, ToReadPrepare, ToReadReply, ToRelease, ToReply, ToWriteBlock}
+use Rattle.df_model.specs.declared.errors.AppendError.TheVariants as append
+use Rattle.df_model.specs.declared.errors.BeginError.TheVariants as begin
+use Rattle.df_model.specs.declared.reading.PrepareError.TheVariants as prepare
+use Rattle.df_model.specs.declared.reading.ReadError.TheVariants as read
+use Rattle.df_layout.specs.declared.damage.Class.{Class}
+use Rattle.df_layout.specs.declared.places.Place.{Place}
+use Rattle.df_rows.specs.declared.command.Command.{Command as Change}
+use Rattle.df_rows.specs.Commands.{IsCommand}
+use Rattle.df_rows.specs.Grammar.{Said}
+use Rattle.df_rows.specs.Tables.{Table}
+use Rattle.df_session.specs.Below.{State as Replica, memory}
+use Rattle.df_session.specs.Endings.{IsDamaged}
+use Rattle.df_session.specs.Links.{AreCalls, EndsCalls, command_in, list_of}
+use Rattle.df_session.specs.Session.{Act}
+use Rattle.df_table.specs.declared.ending.Ending.{Ending}
+use Rattle.df_table.specs.declared.ending.Ending.TheVariants.{Disk, Damaged, NotTable, OpsSpent, SequenceSpent}
+use Rattle.df_rows.specs.Lines.{accepted, behind}
+use Rattle.df_table.specs.Policy.{line_commands}
+
+-- ---- commands
+
+-- it is no refusal, and no read of what isn't shown
+abbrev pub IsAccepted : Answer → Type 0
+IsAccepted (ToAppend (Err e)) = ⊥
+IsAccepted (ToReply (Err e)) = ⊥
+IsAccepted (ToWriteBlock (Err e)) = ⊥
+IsAccepted (ToRelease (Err e)) = ⊥
+IsAccepted (ToBegin (Err e)) = ⊥
+IsAccepted (ToAdvance (Err e)) = ⊥
+IsAccepted (ToReadPrepare (Err e)) = ⊥
+IsAccepted (ToReadReply (Err e)) = ⊥
+IsAccepted (ToReadBlock (Err e)) = ⊥
+IsAccepted answer = Unit {0}
+
+-- these commands were made, one after the other, and each was accepted
+pub record MakeAll (commands : List Command) (s t : Replica) (old new : Option Told) : Type 0 where
+  pub acts : List Act
+  pub answers : List Answer
+  pub calls : AreCalls s old acts answers t new
+  pub are : map command_in acts ≡ commands
+  pub accepted : All IsAccepted answers
+
+-- each of these answers was accepted, but perhaps the last, behind which nothing was made
+abbrev pub AreAccepted : List Answer → (failed : Option Act) → Type 0
+AreAccepted [] failed = Unit {0}
+AreAccepted (x ∷ answers) failed = (IsAccepted x ⊎ ((answers ≡ []) × (failed ≡ None))) × AreAccepted answers failed
+
+-- the last of these answers
+abbrev pub LastIs : Answer → List Answer → Type 0
+LastIs answer answers = (before : List Answer) × (answers ≡ before ++ answer ∷ [])
+
+-- a read of what isn't shown: what it names
+abbrev pub ReadsDamaged : Place → Class → Answer → Type 0
+ReadsDamaged place class answer = (answer ≡ ToReadBlock (Err (read.Damaged place class))) ⊎ (answer ≡ ToReadPrepare (Err (prepare.Damaged place class)))
+
+-- why calls ended: the last one has no answer, since the disk failed, or copies of the superblock aren't read back as a step wrote them; or its answer is that no op, or no
+-- sequence, is left, or that what was to be read isn't shown; or what was read shows that the file is no table's
+abbrev pub EndsFor : Ending → (new : Option Told) → List Answer → (failed : Option Act) → Type 0
+EndsFor Disk new answers failed = (a : Act) × (failed ≡ Some a)
+EndsFor (Damaged place class) new answers failed =
+    ((a : Act) × (failed ≡ Some a) × IsDamaged a.command new place class) ⊎ ((failed ≡ None) × ((answer : Answer) × LastIs answer answers × ReadsDamaged place class answer))
+EndsFor (NotTable place) new answers failed = failed ≡ None
+EndsFor OpsSpent new answers failed = (failed ≡ None) × LastIs (ToAppend (Err append.OpsSpent)) answers
+EndsFor SequenceSpent new answers failed = (failed ≡ None) × LastIs (ToBegin (Err begin.SequenceSpent)) answers
+
+-- the first of these commands were made, and no further one, since this ended them
+pub record EndIn (commands : List Command) (s t : Replica) (old new : Option Told) (ending : Ending) : Type 0 where
+  pub acts : List Act
+  pub answers : List Answer
+  pub failed : Option Act
+  pub calls : EndsCalls s t old new acts answers failed
+  pub rest : List Command
+  pub are : map command_in (acts ++ list_of failed) ++ rest ≡ commands
+  pub accepted : AreAccepted answers failed
+  pub why : EndsFor ending new answers failed
+
+-- ---- a line
+
+-- a line that was executed, with the calls that it took
+pub record Turn : Type 0 where
+  pub said : Said
+  pub acts : List Act
+  pub answers : List Answer
+
+-- the commands of a line over this table, where a checkpoint takes so many steps
+abbrev pub commands_of : Layout → Replica → Table → (steps : ℕ) → Said → List Command
+commands_of layout s t steps said = line_commands layout (memory s) t.rows steps (accepted t said)
+
+-- each of these has a key and a value that fit a command
+abbrev pub AreFit : List Change → Type 0
+AreFit [] = Unit {0}
+AreFit (c ∷ more) = IsCommand c × AreFit more
+
+-- from one state to another these lines were executed, one after the other: each took its calls, all of which were answered
+abbrev pub AreTurns : Layout → (s : Replica) (old : Option Told) (t : Table) → List Turn → (u : Replica) (new : Option Told) (v : Table) → Type 0
+AreTurns layout s old t [] u new v = (u ≡ s) × (new ≡ old) × (v ≡ t)
+AreTurns layout s old t (x ∷ turns) u new v =
+    (r : Replica) × (mid : Option Told) × (steps : ℕ) × (map command_in x.acts ≡ commands_of layout s t steps x.said) × AreCalls s old x.acts x.answers r mid × All IsAccepted x.answers × AreFit (accepted t x.said) × AreTurns layout r mid (behind t x.said) turns u new v
+
+abbrev pub all_said : List Turn → List Said
+all_said [] = []
+all_said (x ∷ turns) = x.said ∷ all_said turns
+
+abbrev pub all_acts : List Turn → List Act
+all_acts [] = []
+all_acts (x ∷ turns) = x.acts ++ all_acts turns
+
+abbrev pub all_answers : List Turn → List Answer
+all_answers [] = []
+all_answers (x ∷ turns) = x.answers ++ all_answers turns

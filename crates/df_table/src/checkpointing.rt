@@ -1,0 +1,191 @@
+// A checkpoint of the table: its blocks are written while the live ones, and so those that the durable checkpoint references, are let go; the checkpoint refers to the new ones alone.
+ghost use Rattle.std.specs.Prelude.{◌≡◌, ◌<◌, ◌≤◌, ◌*◌, [], ◌∷◌, true, length, None, Some, OnOk};
+ghost use Rattle.std.specs.FinMap as map;
+ghost use Rattle.df_base.specs.Causes.{IsBlamed};
+ghost use Rattle.df_layout.specs.declared.layout.Layout.{Layout as Shape};
+ghost use Rattle.df_model.specs.Commands.{WriteBlock};
+ghost use Rattle.df_rows.specs.Limits as limits;
+ghost use Rattle.df_session.specs.Beginning.{begun, captured};
+ghost use Rattle.df_session.specs.Below.{RunningState, State as Standing, memory};
+ghost use Rattle.df_session.specs.Blocks.{released};
+ghost use Rattle.df_table.specs.Calls.{Advances, Checkpoints, Comes, Concludes, Fills, IsRunning, MayBegin};
+ghost use Rattle.df_table.specs.Policy.{body_at, is_full, releases, releases_at, writes};
+ghost use Rattle.df_table.specs.Ready.{HasFree, HasRoom, IsEmptied, IsFinished, IsReady, WroteBlocks, without_live};
+ghost use Rattle.df_table.specs.Statuses.{is_disk};
+
+use crate::calls::{begin, release, step, write};
+use crate::ending::Ending;
+use df_disk::Disk;
+use df_layout::Layout;
+use df_rows::ObjectTable;
+use df_session::Replica;
+
+/// Whether the ring has no slot for the next op.
+pub(crate) fn is_full(replica: &Replica) -> bool
+    ensures { (layout : Shape) → IsReady layout replica.now → result ≡ is_full (memory replica.now) }
+{
+    let summary = replica.summary();
+    let last = summary
+        .checkpoint_op
+        .saturating_add(u64::from(summary.layout.slots));
+    let next = summary.head.saturating_add(1);
+    last < next
+}
+
+// Lets the block at an address go, if it is live.
+fn release_at<D: Disk>(disk: &mut D, replica: &mut Replica, address: u64) -> Result<(), Ending>
+    requires live { replica.old.live ≡ true }
+    ensures makes { Comes (releases_at address (memory replica.old)) replica.old replica.new (D.told disk.old) (D.told disk.new) result }
+    ensures state { OnOk result (replica.new ≡ released replica.old address) }
+    ensures live { OnOk result (replica.new.live ≡ true) }
+    ensures disk { IsBlamed is_disk (D.faults disk.old) (D.faults disk.new) result }
+{
+    match replica.reference(address) {
+        Some(_) => release(disk, replica, address),
+        None => Ok(()),
+    }
+}
+
+// Lets all live blocks go. Those of the durable checkpoint aren't written over before the next one is done.
+fn release_all<D: Disk>(disk: &mut D, replica: &mut Replica, layout: &Layout) -> Result<(), Ending>
+    requires live { replica.old.live ≡ true }
+    ensures makes { IsReady layout.now replica.old → Comes (releases (memory replica.old)) replica.old replica.new (D.told disk.old) (D.told disk.new) result }
+    ensures state { IsReady layout.now replica.old → OnOk result (replica.new ≡ without_live replica.old) }
+    ensures live { OnOk result (replica.new.live ≡ true) }
+    ensures disk { IsBlamed is_disk (D.faults disk.old) (D.faults disk.new) result }
+{
+    for before in 0..u64::from(layout.blocks) {
+        match release_at(disk, replica, before + 1) {
+            Ok(()) => {}
+            Err(ending) => return Err(ending),
+        }
+    }
+    Ok(())
+}
+
+// Writes a block of the table, counted from 0, through this buffer.
+fn write_rows<D: Disk>(
+    disk: &mut D,
+    replica: &mut Replica,
+    table: &ObjectTable,
+    layout: &Layout,
+    block: u64,
+    buffer: &mut [u8],
+) -> Result<(), Ending>
+    requires live { replica.old.live ≡ true }
+    requires block { block < limits.block_count (limits.rows_in_block layout.now) (map.len table.now.rows) }
+    requires buffer { 64 * limits.rows_in_block layout.now ≤ length buffer.old }
+    ensures makes { replica.old.file.layout ≡ layout.now → HasFree layout.now replica.old.blocks 1
+        → Comes (WriteBlock 1 (body_at layout.now table.now.rows block) ∷ []) replica.old replica.new (D.told disk.old) (D.told disk.new) result }
+    ensures wrote { OnOk result (WroteBlocks 1 replica.old replica.new) }
+    ensures live { OnOk result (replica.new.live ≡ true) }
+    ensures buffer { length buffer.new ≡ length buffer.old }
+    ensures disk { IsBlamed is_disk (D.faults disk.old) (D.faults disk.new) result }
+{
+    let size = table.put_block(layout, block, buffer);
+    write(disk, replica, &buffer[..size])
+}
+
+// Writes all blocks of the table, in order of its rows.
+fn write_table<D: Disk>(
+    disk: &mut D,
+    replica: &mut Replica,
+    table: &ObjectTable,
+    layout: &Layout,
+    buffer: &mut [u8],
+) -> Result<(), Ending>
+    requires live { replica.old.live ≡ true }
+    requires buffer { 64 * limits.rows_in_block layout.now ≤ length buffer.old }
+    ensures makes { replica.old.file.layout ≡ layout.now → HasFree layout.now replica.old.blocks (limits.block_count (limits.rows_in_block layout.now) (map.len table.now.rows))
+        → Comes (writes layout.now table.now.rows) replica.old replica.new (D.told disk.old) (D.told disk.new) result }
+    ensures wrote { OnOk result (WroteBlocks (limits.block_count (limits.rows_in_block layout.now) (map.len table.now.rows)) replica.old replica.new) }
+    ensures live { OnOk result (replica.new.live ≡ true) }
+    ensures disk { IsBlamed is_disk (D.faults disk.old) (D.faults disk.new) result }
+{
+    for block in 0..table.blocks(layout) {
+        match write_rows(disk, replica, table, layout, block, buffer) {
+            Ok(()) => {}
+            Err(ending) => return Err(ending),
+        }
+    }
+    Ok(())
+}
+
+// Takes all steps of the checkpoint that runs.
+fn finish<D: Disk>(disk: &mut D, replica: &mut Replica) -> Result<(), Ending>
+    requires live { replica.old.live ≡ true }
+    requires runs { IsRunning replica.old }
+    ensures makes { Advances replica.old replica.new (D.told disk.old) (D.told disk.new) result }
+    ensures finished { (r : RunningState) → replica.old.running ≡ Some r → OnOk result (IsFinished r replica.old replica.new) }
+    ensures live { OnOk result (replica.new.live ≡ true) }
+    ensures disk { IsBlamed is_disk (D.faults disk.old) (D.faults disk.new) result }
+{
+    loop {
+        match step(disk, replica) {
+            Ok(done) => {
+                if done {
+                    return Ok(());
+                }
+            }
+            Err(ending) => return Err(ending),
+        }
+    }
+}
+
+// Begins a checkpoint without a root, and takes all of its steps.
+fn conclude<D: Disk>(disk: &mut D, replica: &mut Replica) -> Result<(), Ending>
+    requires live { replica.old.live ≡ true }
+    ensures makes { MayBegin replica.old → Concludes replica.old replica.new (D.told disk.old) (D.told disk.new) result }
+    ensures finished { OnOk result (IsFinished (captured replica.old []) (begun replica.old []) replica.new) }
+    ensures live { OnOk result (replica.new.live ≡ true) }
+    ensures disk { IsBlamed is_disk (D.faults disk.old) (D.faults disk.new) result }
+{
+    match begin(disk, replica) {
+        Ok(()) => finish(disk, replica),
+        Err(ending) => Err(ending),
+    }
+}
+
+// Writes the blocks of the table into a grid without live blocks, and makes them durable.
+fn fill<D: Disk>(
+    disk: &mut D,
+    replica: &mut Replica,
+    table: &ObjectTable,
+    layout: &Layout,
+    buffer: &mut [u8],
+) -> Result<(), Ending>
+    requires live { replica.old.live ≡ true }
+    requires buffer { 64 * limits.rows_in_block layout.now ≤ length buffer.old }
+    ensures makes { (s : Standing) → IsEmptied layout.now s replica.old → map.len table.now.rows ≤ limits.most_rows layout.now
+        → Fills layout.now table.now.rows replica.old replica.new (D.told disk.old) (D.told disk.new) result }
+    ensures room { (s : Standing) → IsEmptied layout.now s replica.old → map.len table.now.rows ≤ limits.most_rows layout.now → OnOk result (HasRoom layout.now s replica.new) }
+    ensures live { OnOk result (replica.new.live ≡ true) }
+    ensures disk { IsBlamed is_disk (D.faults disk.old) (D.faults disk.new) result }
+{
+    match write_table(disk, replica, table, layout, buffer) {
+        Ok(()) => conclude(disk, replica),
+        Err(ending) => Err(ending),
+    }
+}
+
+/// Makes the table durable as the blocks of a checkpoint, so that the ring has slots again.
+pub(crate) fn checkpoint<D: Disk>(
+    disk: &mut D,
+    replica: &mut Replica,
+    table: &ObjectTable,
+    layout: &Layout,
+    buffer: &mut [u8],
+) -> Result<(), Ending>
+    requires live { replica.old.live ≡ true }
+    requires buffer { 64 * limits.rows_in_block layout.now ≤ length buffer.old }
+    ensures makes { IsReady layout.now replica.old → map.len table.now.rows ≤ limits.most_rows layout.now
+        → Checkpoints layout.now table.now.rows replica.old replica.new (D.told disk.old) (D.told disk.new) result }
+    ensures room { IsReady layout.now replica.old → map.len table.now.rows ≤ limits.most_rows layout.now → OnOk result (HasRoom layout.now replica.old replica.new) }
+    ensures live { OnOk result (replica.new.live ≡ true) }
+    ensures disk { IsBlamed is_disk (D.faults disk.old) (D.faults disk.new) result }
+{
+    match release_all(disk, replica, layout) {
+        Ok(()) => fill(disk, replica, table, layout, buffer),
+        Err(ending) => Err(ending),
+    }
+}

@@ -1,0 +1,138 @@
+// The program: its word, and the memory that it takes.
+ghost use Rattle.std.specs.Prelude.{◌≡◌, ◌↔◌, ◌*◌, ◌≤◌, codes, map, string_bytes, vec_len, IfOk, IsTrue};
+ghost use Rattle.df_lines.specs.Room.{IsFresh, line_bound};
+ghost use Rattle.df_rows.specs.Limits as limits;
+ghost use Rattle.df_table.specs.Outside.{Blames, HasCauses, Writes};
+ghost use Rattle.df_table.specs.Run.{IsSilent, IsTableWord, Runs, usage};
+ghost use Rattle.df_table.specs.Table.{empty_table};
+
+use crate::serving::{Reserved, refuse_file, serve_table};
+use crate::status::Status;
+use df_base::{OutOfMemory, Sink, Source};
+use df_buffers::ProbeRoom;
+use df_disk::Disk;
+use df_layout::Layout;
+use df_rows::{ObjectTable, ROW, ScriptRoom, rows_in_block};
+use df_session::{Rooms, probe};
+use std::alloc::Global;
+
+/// The line that says which words have a meaning.
+pub const USAGE: &[u8] = b"usage: objecttable FILE table\n";
+
+// Whether the words are exactly `table`.
+fn is_table(words: &[String]) -> bool
+    ensures { IsTrue result ↔ IsTableWord (map string_bytes words.now) }
+{
+    match words {
+        [word] => is_word(word.as_str()),
+        _ => false,
+    }
+}
+
+// Whether a word is `table`.
+fn is_word(word: &str) -> bool
+    ensures { IsTrue result ↔ (word.now ≡ codes "table") }
+{
+    word == "table"
+}
+
+// Prints the word that has a meaning.
+fn print_usage<W: Sink>(sink: &mut W) -> Status
+    ensures usage { Writes usage Status.Words (W.written sink.old) (W.written sink.new) result }
+    ensures sink { Blames Status.WriteFault (W.faults sink.old) (W.faults sink.new) result }
+{
+    match sink.write(USAGE) {
+        Ok(()) => Status::Words,
+        Err(_) => Status::WriteFault,
+    }
+}
+
+// Takes all the memory of a session over a file of a layout.
+fn reserve(alloc: Global, layout: &Layout) -> Result<Reserved, OutOfMemory>
+    ensures rooms { IfOk result (λ reserved. reserved.rooms.layout ≡ layout.now) }
+    ensures lines { IfOk result (λ reserved. IsFresh (line_bound layout.now) reserved.lines) }
+    ensures table { IfOk result (λ reserved. reserved.table ≡ empty_table layout.now) }
+    ensures block { IfOk result (λ reserved. 64 * limits.rows_in_block layout.now ≤ vec_len reserved.block) }
+{
+    let lines = ScriptRoom::reserve(alloc, layout)?;
+    let table = ObjectTable::reserve(alloc, layout)?;
+    let size = rows_in_block(layout) as usize * ROW;
+    let block = vec![in alloc; 0; size]?;
+    let rooms = Rooms::reserve(alloc, layout)?;
+    Ok(Reserved {
+        rooms,
+        table,
+        lines,
+        block,
+    })
+}
+
+// Finds the layout of the file that the disk shows, takes the memory for it, and serves its table.
+fn run_file<D: Disk, S: Source, W: Sink>(
+    alloc: Global,
+    source: &mut S,
+    sink: &mut W,
+    disk: &mut D,
+) -> Status
+    ensures runs { Runs
+        (record { told = D.told disk.old; left = S.left source.old; written = W.written sink.old })
+        (record { told = D.told disk.new; left = S.left source.new; written = W.written sink.new }) result }
+    ensures causes { HasCauses
+        (record { disk = D.faults disk.old; source = S.faults source.old; sink = W.faults sink.old })
+        (record { disk = D.faults disk.new; source = S.faults source.new; sink = W.faults sink.new }) result }
+    ensures memory { result ≡ Status.Memory → IsSilent
+        (record { told = D.told disk.old; left = S.left source.old; written = W.written sink.old })
+        (record { told = D.told disk.new; left = S.left source.new; written = W.written sink.new }) }
+    ensures unwritten { result ≡ Status.Memory → D.told disk.new ≡ D.told disk.old }
+    ensures words { result ≡ Status.Words → ⊥ }
+{
+    let Ok(mut room) = ProbeRoom::reserve(alloc) else {
+        return Status::Memory;
+    };
+    match probe(disk, &mut room) {
+        Ok(layout) => match reserve(alloc, &layout) {
+            Ok(reserved) => serve_table(reserved, source, sink, disk),
+            Err(_) => Status::Memory,
+        },
+        Err(error) => refuse_file(sink, &error),
+    }
+}
+
+/// Keeps a table in the data file that the disk shows: executes the script of puts, drops, gets and counts where the words are exactly `table`.
+/// All memory is taken before the first write to the disk or to the sink, but for the usage line and a refusal that come before any is
+/// taken.
+pub fn run_table<D: Disk, S: Source, W: Sink>(
+    alloc: Global,
+    words: &[String],
+    source: &mut S,
+    sink: &mut W,
+    disk: &mut D,
+) -> Status
+    // Other words print the usage line, and touch neither the disk nor the source.
+    ensures usage { (IsTableWord (map string_bytes words.now) → ⊥) → Writes usage Status.Words (W.written sink.old) (W.written sink.new) result }
+    ensures untouched { (IsTableWord (map string_bytes words.now) → ⊥) → D.told disk.new ≡ D.told disk.old }
+    ensures unread { (IsTableWord (map string_bytes words.now) → ⊥) → S.left source.new ≡ S.left source.old }
+    ensures words { result ≡ Status.Words → IsTableWord (map string_bytes words.now) → ⊥ }
+
+    // The file is refused as any open of it refuses it, or since it is no table's, by the first place that shows it. Else the script is executed: what is written is the text of
+    // a map, from the table on that the file has, and from the barrier on whatever a stop leaves has that table behind the first puts and drops, all that were answered by then
+    // and perhaps some behind them.
+    ensures runs { IsTableWord (map string_bytes words.now) → Runs
+        (record { told = D.told disk.old; left = S.left source.old; written = W.written sink.old })
+        (record { told = D.told disk.new; left = S.left source.new; written = W.written sink.new }) result }
+
+    // Each fault has its cause; want of memory comes before anything was read of the script or written.
+    ensures causes { HasCauses
+        (record { disk = D.faults disk.old; source = S.faults source.old; sink = W.faults sink.old })
+        (record { disk = D.faults disk.new; source = S.faults source.new; sink = W.faults sink.new }) result }
+    ensures memory { result ≡ Status.Memory → IsSilent
+        (record { told = D.told disk.old; left = S.left source.old; written = W.written sink.old })
+        (record { told = D.told disk.new; left = S.left source.new; written = W.written sink.new }) }
+    ensures unwritten { result ≡ Status.Memory → D.told disk.new ≡ D.told disk.old }
+{
+    if is_table(words) {
+        run_file(alloc, source, sink, disk)
+    } else {
+        print_usage(sink)
+    }
+}

@@ -1,0 +1,23 @@
+// What holds of the tables of files, whatever the code does. None of these does anything when it is called.
+ghost use Rattle.df_table.specs.Laws.{FindsOne, FirstIsEmpty, FoundIsTable, RowsInOrder, TableIsOne};
+
+/// An image and a view have one table, and a file that was just made has the empty one.
+pub fn a_table_is_one()
+    ensures one { TableIsOne }
+    ensures first { FirstIsEmpty }
+{}
+
+/// An opening finds one thing: the table, or the first place that shows that the file has none.
+pub fn an_opening_finds_one_thing()
+    ensures { FindsOne }
+{}
+
+/// What an opening finds is the table of the file.
+pub fn what_is_found_is_the_table()
+    ensures { FoundIsTable }
+{}
+
+/// The rows of a table that a checkpoint made durable stand in its blocks in their order.
+pub fn rows_are_in_order()
+    ensures { RowsInOrder }
+{}

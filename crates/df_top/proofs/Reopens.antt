@@ -1,0 +1,157 @@
+-- What a word finds behind damage before any number of opens was had since the last of them that raised its boot, and the history goes on.
+use Rattle.std.proofs.Common.{◌≡◌, ◌⊎◌, inl, inr, List, [], ◌∷◌, ◌++◌, Option, Some, refl, sym, ◌∙◌, ap, subst}
+use Rattle.df_base.specs.Image.{Image}
+use Rattle.df_base.specs.Log.{Event, Log, Sync, add}
+use Rattle.df_base.specs.Moments.{EachMoment}
+use Rattle.df_disk.specs.Adds.{AddsPart, after_all}
+use Rattle.df_disk.specs.Told.{Told, did}
+use Rattle.df_disk.proofs.Laws.{after_append}
+use Rattle.df_layout.specs.declared.layout.Layout.{Layout}
+use Rattle.df_theory.specs.Holds.{Held}
+use Rattle.df_theory.specs.View.{View}
+use Rattle.df_model.specs.Commands.{Answer}
+use Rattle.df_model.specs.Work.{Work}
+use Rattle.df_session.specs.Begun.{begun_work}
+use Rattle.df_session.specs.Below.{DataFile, FindsSince, IsLivedDisk, MayReopen, begun, shape, told_after}
+use Rattle.df_session.specs.Keeping.{KeepsFile, over}
+use Rattle.df_session.specs.Serving.{Firm, format, next}
+use Rattle.df_session.specs.Session.{Act, HoldsSome, IsMidway}
+use Rattle.df_session.specs.Found.{FoundFile, no_calls}
+use Rattle.df_session.specs.Laws.{CallsKeep}
+use Rattle.df_session.specs.Links.{CallsMade, events_made, list_of}
+use Rattle.df_session.specs.Opened.{StopsOpening}
+use Rattle.df_session.proofs.Laws.{begun_may_open, file_there, found_was_since, lived_layout}
+use Rattle.df_top.specs.Acknowledging.{run_calls, script_calls}
+use Rattle.df_top.specs.Opening.{StopsBefore}
+use Rattle.df_top.specs.Outside.{Outside}
+use Rattle.df_top.specs.Reopening.{ComesSince, IsLivedFile, LivesThrough, RunsOverHistory, ServesOverHistory, ServesSince, StaysLived}
+use Rattle.df_top.specs.Run.{ComesTo, Does, Runs, ServesIn, ServesOwn, Works}
+use Rattle.df_top.specs.declared.mode.Mode.{Mode}
+use Rattle.df_top.specs.declared.mode.Mode.TheVariants.{Format, Run, Recover, Inspect, Scrub, Workload, Upgrade, Paced}
+use Rattle.df_top.specs.declared.status.Status.{Status}
+
+-- events after others
+told_more : (es fs : List Event) (t : Told) → told_after (es ++ fs) t ≡ told_after fs (told_after es t)
+told_more [] fs t = refl
+told_more (e ∷ es) fs t = told_more es fs (did e t)
+
+-- ---- a session
+
+some_is : (t n : Told) → Some n ≡ Some t → n ≡ t
+some_is t n is = cc
+
+-- what is left has a view, whichever
+some_view : (file : DataFile) (w : Work) (acts : List Act) (image : Image) → HoldsSome file Firm w acts image → (view : View) × Held (shape file) ((format file).unit_at image) view
+some_view file w [] image has = (has.0, has.2)
+some_view file w (a ∷ acts) image (inl has) = (has.0, has.2)
+some_view file w (a ∷ acts) image (inr later) = some_view file (next file w a.given a.command).0 acts image later
+
+either_view : (file : DataFile) (image : Image) (v u : View) → Held (shape file) ((format file).unit_at image) v ⊎ Held (shape file) ((format file).unit_at image) u → (view : View) × Held (shape file) ((format file).unit_at image) view
+either_view file image v u (inl held) = (v, held)
+either_view file image v u (inr held) = (u, held)
+
+session_lives : (file : DataFile) (logs : List Log) (w : Work) (base : Told) (acts : List Act) (answers : List Answer) (failed : Option Act) (mending added : List Event)
+    → KeepsFile file Firm w base acts answers failed (over mending added base) → EachMoment (did Sync base).log (told_after added (told_after mending (did Sync base))).log (IsLivedDisk file logs)
+    → EachMoment (did Sync base).log (told_after added (told_after mending (did Sync base))).log (IsLivedFile file logs)
+session_lives file logs w base acts answers failed mending added keeps lived = λ l moment.
+    let exit : Told = told_after added (told_after mending (did Sync base)) in
+    let each : EachMoment (did Sync base).log exit.log (IsMidway file Firm w (acts ++ list_of failed)) =
+    subst (λ (n : Told). EachMoment (did Sync base).log n.log (IsMidway file Firm w (acts ++ list_of failed))) (sym (some_is keeps.after exit keeps.is)) keeps.moments in
+    record {
+      safe = (each l moment).safe;
+      left = λ image gone chance. some_view file w (acts ++ list_of failed) image ((each l moment).left image gone chance);
+      lived = lived l moment;
+    }
+
+-- ---- a word
+
+module _ (file : DataFile) (log : Log) (logs : List Log) (t : Told) (may : MayReopen file log logs t.shown) where
+  -- what was opened is this file
+  abbrev Finds : FoundFile file.layout t → Type 0
+  Finds found = FindsSince file log logs t.shown found.found
+
+  finds : (found : FoundFile file.layout t) → Finds found
+  finds found = found_was_since file log logs t.shown found.found may found.is_opened
+
+  same_file : (found : FoundFile file.layout t) → found.replica.file ≡ file
+  same_file found = file_there file.layout t found ∙ (finds found).of
+
+  -- the calls of a word keep it lived
+  calls_live : (found : FoundFile file.layout t) (c : CallsMade) → CallsKeep t found.replica found.mended found.mending c → (later : Option Told) → later ≡ after_all (events_made c) found.mended → LivesThrough file log logs t later
+  calls_live found c keeps later adds =
+      let of : DataFile = found.replica.file in
+      let here : MayReopen of log logs t.shown = subst (λ (f : DataFile). MayReopen f log logs t.shown) (sym (same_file found)) may in
+      let has : FindsSince of log logs t.shown found.found = subst (λ (f : DataFile). FindsSince f log logs t.shown found.found) (sym (same_file found)) (finds found) in
+      let opens = begun_may_open of has.found t here.version has.begins in
+      subst (λ (f : DataFile). LivesThrough f log logs t later) (same_file found) (record {
+        events = found.mending.events ++ events_made c;
+        told = adds ∙ ap (after_all (events_made c)) found.mending.told ∙ sym (after_append found.mending.events (events_made c) (Some (did Sync t)));
+        moments =
+            subst (λ (n : Told). EachMoment (did Sync (begun t)).log n.log (IsLivedFile of (add Sync log ∷ logs))) (sym (told_more found.mending.events (events_made c) (did Sync (begun t))))
+            (session_lives of (add Sync log ∷ logs) (begun_work of t.shown has.found) (begun t) c.acts c.answers c.failed found.mending.events (events_made c) (keeps.keeps Firm has.found (begun t) refl opens tt) (keeps.lived log logs here));
+      })
+
+  -- so does an open that was stopped by the disk
+  stops_live : (later : Option Told) → StopsOpening file.layout t later → StaysLived file log logs t later
+  stops_live later (inl same) = inl (inl same)
+  stops_live later (inr (inl barrier)) = inl (inr barrier)
+  stops_live later (inr (inr partly)) =
+      let of : DataFile = partly.found.file in
+      let first = found_was_since file log logs t.shown partly.found may partly.opened in
+      let here : MayReopen of log logs t.shown = subst (λ (f : DataFile). MayReopen f log logs t.shown) (sym first.of) may in
+      let has : FindsSince of log logs t.shown partly.found = subst (λ (f : DataFile). FindsSince f log logs t.shown partly.found) (sym first.of) first in
+      let good = partly.moments Firm has.found (begun t) refl (begun_may_open of has.found t here.version has.begins) tt in
+      inr (subst (λ (f : DataFile). LivesThrough f log logs t later) first.of (record {
+        events = partly.mending.events;
+        told = partly.mending.told;
+        moments = λ l moment. record {
+          safe = (good.0 l moment).safe;
+          left = λ image gone chance. either_view of image _ _ ((good.0 l moment).left image gone chance);
+          lived = partly.lived log logs here l moment;
+        };
+      }))
+
+  module _ (old new : Outside) (status : Status) where
+    fails_live : (mode : Mode) → StopsBefore mode file.layout t new.told → StaysLived file log logs t new.told
+    fails_live Inspect stops = inl stops
+    fails_live (Format layout cluster) stops = stops_live new.told stops
+    fails_live Run stops = stops_live new.told stops
+    fails_live Recover stops = stops_live new.told stops
+    fails_live Scrub stops = stops_live new.told stops
+    fails_live (Workload seed count) stops = stops_live new.told stops
+    fails_live Upgrade stops = stops_live new.told stops
+    fails_live (Paced pace) stops = stops_live new.told stops
+
+    word_lives : (mode : Mode) (found : FoundFile file.layout t) → Works mode file.layout t found old new status → StaysLived file log logs t new.told
+    word_lives (Format layout cluster) found works = absurd works
+    word_lives Upgrade found works = absurd works
+    word_lives Run found serves = inr (calls_live found (script_calls serves.session) serves.calls new.told serves.adds)
+    word_lives (Paced pace) found serves = inr (calls_live found (script_calls serves.session) serves.calls new.told serves.adds)
+    word_lives Recover found works = inr (calls_live found (no_calls found) works.calls new.told works.told)
+    word_lives Inspect found works = inl (inr works.barrier)
+    word_lives Scrub found works = inr (calls_live found (no_calls found) works.calls new.told (works.told ∙ sym works.is_mended))
+    word_lives (Workload seed count) found works = inr (calls_live found (run_calls works.worked) works.calls new.told works.calls.adds)
+
+    comes_since : (mode : Mode) (comes : ComesTo mode file.layout t old new status) → ComesSince file log logs t file.layout mode old new status comes × StaysLived file log logs t new.told
+    comes_since mode (inl refuses) = (tt, inl (inr refuses.barrier))
+    comes_since mode (inr (inl fails)) = (tt, fails_live mode fails.disk)
+    comes_since mode (inr (inr works)) = (finds works.0, word_lives mode works.0 works.1)
+
+    serves_since : (mode : Mode) → Does mode file.layout t old new status → ServesSince file log logs t mode old new status
+    serves_since mode does =
+        let both = comes_since mode does.1 in
+        record { does = does; since = both.0; lived = both.1 }
+
+    own : (mode : Mode) → ServesOwn mode t old new status → ServesSince file log logs t mode old new status
+    own mode serves = serves_since mode (subst (λ (l : Layout). Does mode l t old new status) (lived_layout file log logs t.shown may serves.layout serves.shown) serves.serves)
+
+pub serves_over_history : (mode : Mode) (layout : Layout) (old new : Outside) (status : Status) → ServesIn mode layout old new status → ServesOverHistory mode layout old new status
+serves_over_history mode layout old new status serves = λ file t log logs same told may.
+    serves_since file log logs t may old new status mode (subst (λ (l : Layout). Does mode l t old new status) same (serves t told may.whole))
+
+pub runs_over_history : (mode : Mode) (old new : Outside) (status : Status) → Runs mode old new status → RunsOverHistory mode old new status
+runs_over_history mode old new status runs = λ file t log logs told may. elim (runs t told may.whole) [
+  | inl nothing ↦ inl nothing
+  | inr (inl refuses) ↦ inr (inl refuses)
+  | inr (inr serves) ↦ inr (inr (own file log logs t may old new status mode serves))
+]
