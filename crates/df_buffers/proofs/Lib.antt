@@ -1,4 +1,0 @@
-pub mod Finds
-pub mod Making
-pub mod Probes
-pub mod Laws

@@ -1,4 +1,0 @@
-pub mod Rooms
-pub mod Found
-pub mod Sounds
-pub mod Below

@@ -1,9 +1,0 @@
--- What the crates above cite: what a scanned table says of the image, and what an append leaves.
-pub use Rattle.df_journal.proofs.Scans.{class_shown, rings_shown}
-pub use Rattle.df_journal.proofs.Moments.{append_moments, append_steps, ends_appended, next_sector}
--- ---- the op of a slot, and the header of a prepare in the header ring
-pub use Rattle.df_journal.proofs.Ops.{one_op, op_of_slot}
-pub use Rattle.df_journal.proofs.Moments.{in_header_ring}
-pub use Rattle.df_group.proofs.Laws.{own_within}
--- ---- a sync behind what was told
-pub use Rattle.df_journal.proofs.RingWrites.{sync_adds}

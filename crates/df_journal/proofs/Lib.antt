@@ -1,9 +1,0 @@
-pub mod Counted
-pub mod Decisions
-pub mod Moments
-pub mod Named
-pub mod Ops
-pub mod RingWrites
-pub mod Scans
-pub mod Walks
-pub mod Laws

@@ -1,8 +1,0 @@
-use Rattle.df_pace.proofs.Computed.{own_checkpoint, refused_begin}
-use Rattle.df_pace.proofs.worked.a_begin_stays_due.Goals as goal
-
-pub returns-clause-refused : goal.returns-clause-refused
-returns-clause-refused c = refused_begin
-
-pub returns-clause-own : goal.returns-clause-own
-returns-clause-own c = own_checkpoint
