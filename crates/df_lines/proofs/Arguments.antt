@@ -1,7 +1,7 @@
 -- The words behind a line's name.
 use Rattle.std.proofs.Common.{◌≡◌, ℕ, ◌^◌, ◌<◌, List, [], ◌∷◌, ◌++◌, sym, subst, arith}
 use Rattle.std.specs.Prelude.{decimal, codes}
-use Rattle.df_lines.specs.Grammar.{IsBody, Append, Block, Reply, Says}
+use Rattle.df_lines.specs.Grammar.{IsBody, Append, Block, Reply, Says, Stage}
 use Rattle.df_lines.specs.Words.{HasNoSpace, Cuts}
 use Rattle.df_lines.proofs.Cutting.{decimal_no_space, no_cut, one_cut}
 
@@ -35,6 +35,16 @@ client_first words client request body says = record { is = same_rest (codes "ap
 pub request_next : (words before rest : List ℕ) (client request : ℕ) (body : List ℕ) → (says : Says (codes "append " ++ words) (Append client request body)) → Cuts words before rest → NumberFirst rest (2 ^ 64) request says.word
 request_next words before rest client request body says cuts = record {
   is = (number_word words before rest _ client _ (client_first words client request body says) cuts).1;
+  fits = says.fits.1;
+  wide = omega (arith, says.fits.1);
+}
+
+pub stage_first : (words : List ℕ) (client request : ℕ) (body : List ℕ) → (says : Says (codes "stage " ++ words) (Stage client request body)) → NumberFirst words (2 ^ 128) client (decimal request ++ (32 ∷ says.word))
+stage_first words client request body says = record { is = same_rest (codes "stage ") words _ says.is; fits = says.fits.0; wide = says.fits.0 }
+
+pub stage_next : (words before rest : List ℕ) (client request : ℕ) (body : List ℕ) → (says : Says (codes "stage " ++ words) (Stage client request body)) → Cuts words before rest → NumberFirst rest (2 ^ 64) request says.word
+stage_next words before rest client request body says cuts = record {
+  is = (number_word words before rest _ client _ (stage_first words client request body says) cuts).1;
   fits = says.fits.1;
   wide = omega (arith, says.fits.1);
 }

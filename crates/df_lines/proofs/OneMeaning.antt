@@ -2,7 +2,7 @@
 use Rattle.std.proofs.Common.{◌≡◌, ◌⊎◌, ℕ, ◌-◌, ◌^◌, ◌<◌, inl, inr, List, [], ◌∷◌, ◌++◌, refl, sym, ap, subst, ◌∙◌, arith}
 use Rattle.std.specs.Prelude.{decimal, codes, Ok}
 use Rattle.hex.specs.Hex.{decode_of}
-use Rattle.df_lines.specs.Grammar.{IsBody, Said, Append, Reply, Block, Release, Checkpoint, Step, Prepare, Lookup, Read, Scrub, Recent, Says}
+use Rattle.df_lines.specs.Grammar.{IsBody, Said, Append, Stage, Flush, Reply, Block, Release, Checkpoint, Step, Prepare, Lookup, Read, Scrub, Recent, Says}
 use Rattle.df_lines.specs.Laws.{OneMeaning, OneText, OneScript, WholeScript}
 use Rattle.df_lines.specs.Script.{Begins, IsLine, IsRefused}
 use Rattle.df_lines.specs.Text.{line_of, after_line, taken}
@@ -51,9 +51,21 @@ append_once line c r d s x y one other =
     let second = number_split r s one.word other.word (omega (arith, one.fits.1)) (omega (arith, other.fits.1)) first.1 in
     same_append c d r s x y first.0 second.0 (body_split one.word other.word x y second.1 one.fits.2 other.fits.2)
 
+same_stage : (c d r s : ℕ) (x y : List ℕ) → c ≡ d → r ≡ s → x ≡ y → Stage c r x ≡ Stage d s y
+same_stage c d r s x y client request body = cc
+
+stage_once : (line : List ℕ) (c r d s : ℕ) (x y : List ℕ) → Says line (Stage c r x) → Says line (Stage d s y) → Stage c r x ≡ Stage d s y
+stage_once line c r d s x y one other =
+    let words = same_rest (codes "stage ") _ _ (sym one.is ∙ other.is) in
+    let first = number_split c d (decimal r ++ (32 ∷ one.word)) (decimal s ++ (32 ∷ other.word)) one.fits.0 other.fits.0 words in
+    let second = number_split r s one.word other.word (omega (arith, one.fits.1)) (omega (arith, other.fits.1)) first.1 in
+    same_stage c d r s x y first.0 second.0 (body_split one.word other.word x y second.1 one.fits.2 other.fits.2)
+
 -- two lines of one name say the same
 one_of_name : (line : List ℕ) (one : Said) (first second : ℕ) (body : List ℕ) → Says line one → Says line (line_named (name_of one) first second body) → one ≡ line_named (name_of one) first second body
 one_of_name line (Append c r x) m s y one other = append_once line c r m s x y one other
+one_of_name line (Stage c r x) m s y one other = stage_once line c r m s x y one other
+one_of_name line Flush m s y one other = refl
 one_of_name line (Reply n x) m s y one other =
     let parts = two_words (codes "reply ") n m line one.word other.word x y one.is other.is (omega (arith, one.fits.0)) (omega (arith, other.fits.0)) one.fits.1 other.fits.1 in
     same_sized Reply n m x y parts.0 parts.1

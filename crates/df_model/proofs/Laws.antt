@@ -3,7 +3,8 @@
 pub use Rattle.df_model.proofs.Keeps.{next_law, opened_law, sense_law, newest_few, some_of}
 pub use Rattle.df_model.proofs.Appends.{append_may_law}
 pub use Rattle.df_model.proofs.Replies.{reply_may_law}
-pub use Rattle.df_model.proofs.Exact.{append_exact_law, pass_all, reply_exact_law}
+pub use Rattle.df_model.proofs.Flushing.{flush_may_law}
+pub use Rattle.df_model.proofs.Exact.{append_exact_law, pass_all, reply_exact_law, stage_exact_law}
 pub use Rattle.df_model.proofs.Blocks.{block_aside_law, block_may_law}
 pub use Rattle.df_model.proofs.Finishes.{finish_exact_law, finish_may_law}
 pub use Rattle.df_model.proofs.Recording.{named_at, named_count}
