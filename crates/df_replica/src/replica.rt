@@ -5,6 +5,7 @@ ghost use Rattle.df_replica.specs.Replica.{summary_of};
 ghost use Rattle.df_replica.specs.Stopping.{stopped};
 
 use crate::Rooms;
+use df_format::SuperFields;
 use df_model::Summary;
 use df_opening::Parts;
 use df_sessions::Session;
@@ -71,6 +72,13 @@ impl Replica {
         ensures short { length result.now ≤ 1024 }
     {
         self.parts.root.as_slice()
+    }
+
+    /// What the superblock says: the file's layout and cluster, its durable checkpoint, and what was recorded with that.
+    pub fn fields(&self) -> &SuperFields
+        ensures { result.now ≡ self.now.fields }
+    {
+        self.parts.content.fields()
     }
 
     /// The session at a place, None exactly where the place is past the table.
