@@ -38,7 +38,7 @@ use Rattle.df_prepares.specs.Slots.{IsInOwnSlot, put_events, put_steps}
 use Rattle.df_journal.specs.Append.{ShowsRing, settle_events, settle_steps}
 use Rattle.df_journal.specs.Flush.{AreOwn, EndsFlushed, LeavesGroup, MayFlushOn, MayPut, first_slot, flush_events, flush_steps, group_puts, group_steps, last_slot, messages_of, sectors_between, sectors_of, units_of, with_headers}
 use Rattle.df_journal.proofs.GroupTables.{AreIn, at_slot, at_slot_is, ends_of_ring, get_cases, group_kept, own_get, reach_inside, sector_of_two, sector_units, sectors_put, slot_is, turn_apart, two_reach, writes_are_puts}
-use Rattle.df_journal.proofs.Moments.{slot_below, stays}
+use Rattle.df_journal.proofs.Moments.{stays}
 use Rattle.df_journal.proofs.RingWrites.{settle_are_steps}
 
 -- ---- what the rooms hold

@@ -7,7 +7,7 @@ use Rattle.std.proofs.lemmas.Bool.{cases_eq, cond-false, cond-true, eq-eqb, lt-l
 use Rattle.df_base.specs.declared.Failed.{Failed}
 use Rattle.df_base.specs.Image.{Image, IsImage, written}
 use Rattle.df_base.specs.Log
-use Rattle.df_base.specs.Log.{Event, IsLeft}
+use Rattle.df_base.specs.Log.{Event}
 use Rattle.df_base.proofs.Laws.{now_is_image, written_is_image, get_set}
 use Rattle.df_base.specs.Moments.{EachMoment, adds}
 use Rattle.df_disk.specs.Told.{Told}

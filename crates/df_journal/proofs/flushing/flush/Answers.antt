@@ -1,5 +1,5 @@
 -- The events are steps, and their moments and their end are those of the theory's flush.
-use Rattle.std.proofs.Common.{ℕ, subst, sym}
+use Rattle.std.proofs.Common.{subst, sym}
 use Rattle.df_disk.proofs.Laws.{adds_part}
 use Rattle.df_layout.specs.declared.layout.Layout.{Layout}
 use Rattle.df_headers.specs.Ring.{IsTable}
