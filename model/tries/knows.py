@@ -6,7 +6,7 @@ import os
 
 LEVELS = ("log", "blocks", "reports", "all", "groups")
 # What the program of this repository knows today.
-TODAY = "all"
+TODAY = "groups"
 
 
 def take(words: list) -> None:
