@@ -24,7 +24,7 @@ use Rattle.df_theory.specs.Next.{appended}
 use Rattle.df_theory.specs.Runs.{Step, Syncs}
 use Rattle.df_theory.specs.MakingLaws.{all_puts}
 use Rattle.df_theory.specs.WriterLaws.{AllPutPrepare, flush_steps as theory_steps}
-use Rattle.df_theory.specs.MendLaws.{Reaches}
+use Rattle.df_theory.specs.MendLaws.{AllPutTable, Reaches}
 use Rattle.df_theory.specs.GroupLaws.{IsGroupTable, flush_command}
 use Rattle.df_theory.specs.TidyLaws.{IsTidy, LeadsTidily}
 use Rattle.df_theory.specs.Device.{AreSteps, Format, IsGoodDisk, units_log}
@@ -118,6 +118,16 @@ all_prepares layout cluster sh (u ∷ us) ring all = (
 
 -- ---- the flush
 
+-- its steps are those of a group's flush in the words of the theory, over an image
+pub record GroupPuts (sh : Shape) (units : Units.Units) (us : List Message) (steps : List Step) : Type 0 where
+  pub prepares : List Units.Units
+  pub table : ℕ → Units.Header
+  pub headers : List Units.Units
+  pub puts : AllPutPrepare sh (messages_of us) prepares
+  pub sectors : AllPutTable table headers
+  pub is_table : IsGroupTable sh units (messages_of us) table headers
+  pub are : steps ≡ theory_steps prepares headers
+
 module _ (layout : Layout) (cluster : ℕ) (helds : List Holding) (table : List Header) (t : Told) (put : MayPut layout cluster helds table) (own : AreOwn layout helds) (some : 0 < length helds) (may : MayFlushOn layout cluster (units_of helds) table t) where
   abbrev us : List Message
   us = units_of helds
@@ -169,14 +179,17 @@ module _ (layout : Layout) (cluster : ℕ) (helds : List Holding) (table : List 
   abbrev image : Units.Units
   image = UnitLog.now (units_log f t.log)
 
-  shows : (place : Units.Place) → image place ≡ unit_at layout cluster (Log.now t.log) place
-  shows place = sym (shown_law f t.log (Log.now t.log) (is_format layout cluster) (λ sector. refl) place)
+  abbrev ring_is : Units.Units → Type 0
+  ring_is units = (s : ℕ) (h : Header) → slice_get table s ≡ Some h → units (HeaderPlace s) ≡ Some (HeaderUnit (header_of h))
+
+  shows : ring_is image
+  shows s h at = sym (shown_law f t.log (Log.now t.log) (is_format layout cluster) (λ sector. refl) (HeaderPlace s)) ∙ may.ring s h at
 
   of_two : (i : ℕ) (u : Message) → slice_get us i ≡ Some u → (u.header.slot / 16 ≡ first_slot us / 16) ⊎ (u.header.slot / 16 ≡ last_slot 0 us / 16)
   of_two = sector_of_two layout cluster (head v + 1) _ us all may.may.is.turn some_slots (ring_whole layout) few
 
-  is_group : IsGroupTable sh image ps (λ s. header_of (at_slot new past s)) (sector_units new (sectors_of us))
-  is_group = record {
+  group_table : (units : Units.Units) → ring_is units → IsGroupTable sh units ps (λ s. header_of (at_slot new past s)) (sector_units new (sectors_of us))
+  group_table units ring = record {
     from = λ s below.
         let h = at_slot new past s in
         let there : slice_get new s ≡ Some h = slice_get-get_or new s past (omega (arith, below, is.count)) in
@@ -184,7 +197,7 @@ module _ (layout : Layout) (cluster : ℕ) (helds : List Holding) (table : List 
           | inl changed ↦
               let same : h ≡ changed.1.header = same_Some _ _ (sym there ∙ changed.4) in
               inr (message_of changed.1, message_in us changed.0 changed.1 changed.2, changed.3 ∙ slot_is layout changed.1 (all changed.0 changed.1 changed.2).0, ap header_of same)
-          | inr old ↦ inl (shows (HeaderPlace s) ∙ may.ring s h (sym old ∙ there))
+          | inr old ↦ inl (ring s h (sym old ∙ there))
         ];
     inside = λ s reaches. reach_inside layout new (sectors_of us) s (ring_whole layout) (ends_of_ring layout cluster us all (omega (arith, may.may.is.some, count)) (ring_whole layout)) reaches;
     own = λ p at.
@@ -199,6 +212,21 @@ module _ (layout : Layout) (cluster : ℕ) (helds : List Holding) (table : List 
         let here : slice_get new one.1.header.slot ≡ Some one.1.header = own_get layout cluster us table one.0 one.1 all (turn_apart layout cluster (head v + 1) _ us all may.may.is.turn some_slots room) put.table_is one.2 in
         subst (λ (q : Units.Message). Reaches (sector_units new (sectors_of us)) (HeaderPlace (q.header.op % layout.slots))) (sym one.3)
         (subst (λ (s : ℕ). Reaches (sector_units new (sectors_of us)) (HeaderPlace s)) slot (two_reach new (first_slot us / 16) (last_slot 0 us / 16) one.1.header.slot one.1.header here (of_two one.0 one.1 one.2)));
+  }
+
+  is_group : IsGroupTable sh image ps (λ s. header_of (at_slot new past s)) (sector_units new (sectors_of us))
+  is_group = group_table image shows
+
+  -- what its steps put, over what the device shows
+  pub flush_puts : GroupPuts sh (unit_at layout cluster (Log.now t.log)) us (flush_steps us table)
+  flush_puts = record {
+    prepares = prepare_units us;
+    table = λ s. header_of (at_slot new past s);
+    headers = sector_units new (sectors_of us);
+    puts = all_prepares layout cluster sh us refl all;
+    sectors = sectors_put new past (sectors_of us);
+    is_table = group_table (unit_at layout cluster (Log.now t.log)) may.ring;
+    are = theory_same us table;
   }
 
   leads : LeadsTidily sh (units_log f t.log) v (flush_command v ps (prepare_units us) (sector_units new (sectors_of us)))

@@ -7,3 +7,6 @@ pub use Rattle.df_journal.proofs.Moments.{in_header_ring}
 pub use Rattle.df_group.proofs.Laws.{own_within}
 -- ---- a sync behind what was told
 pub use Rattle.df_journal.proofs.RingWrites.{sync_adds}
+-- ---- a flush
+pub use Rattle.df_journal.proofs.GroupTables.{AreIn, group_kept}
+pub use Rattle.df_journal.proofs.GroupMoments.{GroupPuts, are_in, flush_are_steps, flush_puts, group_ends}
