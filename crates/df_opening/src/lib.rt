@@ -19,7 +19,7 @@ pub use df_damage::{
 pub use df_model::{FormatError, MendError, OpenError};
 pub use df_quorum::Chosen;
 pub use following::what_is_left_may_be_opened;
-pub use making::format;
+pub use making::{format, test_blank, write_headers, write_synced};
 pub use mended::mend_file;
 pub use mending::write_mends;
 pub use opened::{open_file, refusal_of};
