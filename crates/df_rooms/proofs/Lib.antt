@@ -1,3 +1,4 @@
 pub mod Laws
 mod SameFile
 mod Records
+mod Asking
