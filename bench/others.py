@@ -213,11 +213,11 @@ def calls_of(bench: Bench, ground: Ground, store: Store) -> list:
 def show_puts(bench: Bench, ground: Ground, stores: list) -> None:
     rows = []
     for store, (first, seen) in zip(stores, kept_in_turn(bench, ground, stores)):
-        durable = sorted(one * 1e6 for one, _ in seen)
-        rate = PUTS * bench.rounds / sum(whole for _, whole in seen)
+        durable, each = sorted(one * 1e6 for one, _ in seen), PUTS // store.group
+        rates = [PUTS / sum(whole for _, whole in seen[at : at + each]) for at in range(0, len(seen), each)]
         rows.append([store.name, store.group, *calls_of(bench, ground, store), with_quartiles(durable, 0),
-                     f"{durable[len(durable) * 99 // 100]:,.0f}", f"{rate:,.0f}", f"{FIRST / first:,.0f}"])
-    show(f"Durable puts, {ground.name}, {PUTS * bench.rounds:,} of each behind {FIRST:,}, microseconds by the clock",
+                     f"{durable[len(durable) * 99 // 100]:,.0f}", with_quartiles(rates, 0), f"{FIRST / first:,.0f}"])
+    show(f"Durable puts, {ground.name}, {bench.rounds} rounds of {PUTS} puts of each behind {FIRST:,}, by the clock",
          ["what keeps them", "at once", "syncs until they are durable", "bytes written until then", "syncs in all",
           "us until they are durable", "99th of a hundred", "puts a second, in all", "of the first puts"], rows)
 
