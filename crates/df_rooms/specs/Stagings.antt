@@ -1,8 +1,9 @@
 -- The requests that the next flush appends, each with its body in the room of its prepare, and the prepares that the last flush made.
-use Rattle.std.specs.Prelude.{◌≡◌, ◌+◌, ◌≤◌, ℕ, List, [], ◌∷◌, ◌++◌, length, map, All}
+use Rattle.std.specs.Prelude.{◌≡◌, ◌+◌, ◌≤◌, ℕ, List, [], ◌∷◌, ◌++◌, length, map, take, All}
 use Rattle.df_layout.specs.declared.layout.Layout.{Layout}
 use Rattle.df_format.specs.declared.header.Header.{Header}
 use Rattle.df_format.specs.Making.{for_body}
+use Rattle.df_format.specs.Message.{sectors_end, sectors_of}
 use Rattle.df_format.specs.Spelling.{sealed}
 use Rattle.df_buffers.specs.Rooms.{Room}
 use Rattle.df_buffers.specs.Sounds.{Holding}
@@ -27,6 +28,7 @@ pub record IsSealedOf (s : Staged) (header : Header) (units : List Holding) : Ty
   pub held : Holding
   pub layout : held.layout ≡ s.layout
   pub unit : held.unit ≡ record { header = sealed (for_body header (first_of s.requests).body); body = (first_of s.requests).body }
+  pub sectors : take (sectors_end held.unit.header.size) held.bytes ≡ sectors_of held.unit
   pub last : units ≡ s.sealed ++ held ∷ []
 
 -- ---- the rooms
