@@ -11,6 +11,7 @@ pub mod Calls
 pub mod Sessions
 pub mod AppendCalls
 pub mod AppendTests
+pub mod StageTests
 pub mod ReplyMemory
 pub mod ReplyTests
 pub mod ReplyGiven

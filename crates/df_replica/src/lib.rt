@@ -6,6 +6,7 @@ mod begin;
 mod block;
 mod block_laws;
 mod block_reading;
+mod flush;
 mod lending;
 mod lookup;
 mod opened;
