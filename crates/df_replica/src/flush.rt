@@ -1,7 +1,7 @@
 // Requests that are staged, and the flush that appends them as one group. A staged request is in memory alone, its body in the room
 // that its prepare is made in and written from.
-ghost use Rattle.std.specs.Prelude.{◌≡◌, ◌≤◌, ◌<◌, ◌+◌, ◌++◌, ◌^◌, ℕ, List, [], length, option_map, true, IfSome, IsSome, OnErr, OnOk};
-ghost use Rattle.df_replica.specs.Below.{HasCause, IsBlamed, Adds, WalPrepares, for_body, own_place, ObeysRules, Stage, Flush, is_flush_fault, stage_refusals, first_refusal, session_of_client, session_of, IsState, memory, counted};
+ghost use Rattle.std.specs.Prelude.{◌≡◌, ◌≤◌, ◌<◌, ◌+◌, ◌++◌, ◌^◌, ℕ, List, [], length, option_map, true, Option, IfSome, IsSome, OnErr, OnOk};
+ghost use Rattle.df_replica.specs.Below.{HasCause, IsBlamed, Adds, WalPrepares, for_body, own_place, ObeysRules, Stage, Flush, is_flush_fault, stage_refusals, first_refusal, session_of_client, session_of, IsState, Told, memory, counted};
 ghost use Rattle.df_opening.specs.Below.{AreStaging};
 ghost use Rattle.df_journal.specs.Flush.{AreOwn, units_of, with_headers};
 ghost use Rattle.df_journal.specs.Tail.{AreNumbered};

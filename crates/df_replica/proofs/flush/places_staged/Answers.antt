@@ -1,5 +1,7 @@
 -- A request of a client that has no session yet takes one place more.
 use Rattle.std.proofs.Common.{◌≡◌, ◌≤◌, ◌<◌, ◌+◌, ℕ, List, length, refl, sym, ap, ◌∙◌, arith}
+use Rattle.df_opening.specs.Below.{asker_of}
+use Rattle.df_theory.specs.Sessions.{noted}
 use Rattle.df_theory.specs.Units.{Session}
 use Rattle.df_replica.specs.Flushing.{sessions_staged}
 use Rattle.df_replica.proofs.StageTests.{count_one, request_at, staged_more}
@@ -16,7 +18,7 @@ loop-i-preserved c =
     let at : c.loop-i.i < length rs = omega (arith, c.loop-i-test.true, c.len.ensures.count) in
     let r = request_at rs c.loop-i.i at in
     let op = c.args.head + (c.loop-i.i + 1) in
-    let more : length (sessions_staged ss rs c.args.head (c.loop-i.i + 1)) ≡ _ = ap (λ (x : List Session). length x) (staged_more ss rs c.args.head c.loop-i.i (c.loop-i.i + 1) op r.0 r.1 refl refl) in
+    let more : length (sessions_staged ss rs c.args.head (c.loop-i.i + 1)) ≡ length (noted (asker_of 0 op r.0) (sessions_staged ss rs c.args.head c.loop-i.i)) = ap (λ (x : List Session). length x) (staged_more ss rs c.args.head c.loop-i.i (c.loop-i.i + 1) op r.0 r.1 refl refl) in
     let one = count_one op c.request-client.result.0 r.0 (sessions_staged ss rs c.args.head c.loop-i.i) c.session_staged.result (c.request-client.ensures r.0 r.1).0 c.session_staged.ensures.session in
     elim c.if-is_none.branch [
       | then-is_none w ↦
