@@ -1,5 +1,5 @@
 -- What is staged stays so while no session asks: replies and checkpoints leave room for it.
-use Rattle.std.proofs.Common.{◌≡◌, ℕ, ◌+◌, ◌≤◌, ◌^◌, ◌==◌, if◌then◌else◌, List, [], ◌∷◌, length, Some, None, refl, sym, subst, arith}
+use Rattle.std.proofs.Common.{◌≡◌, ℕ, ◌+◌, ◌≤◌, ◌^◌, ◌==◌, if◌then◌else◌, List, [], ◌∷◌, Some, None, refl, sym, subst, arith}
 use Rattle.df_layout.specs.declared.layout.Layout.{Layout}
 use Rattle.df_sessions.specs.Requests.{sessions_of}
 use Rattle.df_theory.specs.Next.{MayAskInTurn}
