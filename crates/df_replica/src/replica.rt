@@ -1,6 +1,7 @@
 // A replica: what it keeps in memory of the file that it works on, and what it tells of it.
 ghost use Rattle.std.specs.Prelude.{◌≡◌, ◌≤◌, false, length, slice_get};
-ghost use Rattle.df_replica.specs.Below.{is_running, memory};
+ghost use Rattle.df_opening.specs.Below.{IsUsable};
+ghost use Rattle.df_replica.specs.Below.{IsState, is_running, memory};
 ghost use Rattle.df_replica.specs.Replica.{summary_of};
 ghost use Rattle.df_replica.specs.Stopping.{stopped};
 
@@ -76,7 +77,9 @@ impl Replica {
 
     /// What the superblock says: the file's layout and cluster, its durable checkpoint, and what was recorded with that.
     pub fn fields(&self) -> &SuperFields
-        ensures { result.now ≡ self.now.fields }
+        ensures value { result.now ≡ self.now.fields }
+        ensures usable { IsUsable self.now.fields }
+        ensures state { IsState self.now }
     {
         self.parts.content.fields()
     }
