@@ -62,6 +62,12 @@ Fits (Read address) word = address < 2 ^ 64
 Fits Scrub word = ⊤
 Fits Recent word = ⊤
 
+-- The words behind the name of a line that asks for a request: its client, its number, and the word of its body.
+pub record AreRequest (words : List ℕ) (client request : ℕ) (body : List ℕ) : Type 0 where
+  pub word : List ℕ
+  pub is : words ≡ spaced (decimal client ∷ decimal request ∷ word ∷ [])
+  pub fits : (client < 2 ^ 128) × (request < 2 ^ 64) × IsBody word body
+
 -- The line says this. Only numbers' widths bound what a line may say; what a call takes is the call's own matter.
 pub record Says (line : List ℕ) (said : Said) : Type 0 where
   pub word : List ℕ

@@ -1,7 +1,7 @@
 // What a line says, by cases of its first word. The grammar has one meaning for a line at most.
 ghost use Rattle.std.specs.Prelude.{◌≡◌, ◌≤◌, ◌*◌, ◌++◌, List, ℕ, length, take, codes};
 ghost use Rattle.std.specs.Prelude.{IfSome, IfNone};
-ghost use Rattle.df_lines.specs.Grammar.{IsBody, Said, Says, said_with, body_length};
+ghost use Rattle.df_lines.specs.Grammar.{AreRequest, IsBody, Said, Says, said_with, body_length};
 ghost use Rattle.df_lines.specs.Grammar.{Append, Block, Checkpoint, Lookup, Prepare, Read};
 ghost use Rattle.df_lines.specs.Grammar.{Release, Reply, Stage};
 ghost use Rattle.df_lines.specs.Words.{HasNoSpace};
@@ -74,6 +74,23 @@ fn alone(line: &[u8]) -> Option<Line>
     None
 }
 
+/// The client and the number of the request that these words ask for, with its decoded body at the front of `body`, and how many bytes
+/// that has.
+fn request(words: &[u8], body: &mut [u8]) -> Option<(u128, u64, u64)>
+    requires { length words.now ≤ 2 * length body.old }
+    ensures found { IfSome result (λ r. AreRequest words.now r.0 r.1 (take r.2 body.new)) }
+    ensures none { IfNone result ((client request : ℕ) (bytes : List ℕ) →
+        AreRequest words.now client request bytes → ⊥) }
+    ensures size { IfSome result (λ r. r.2 ≤ length body.new) }
+{
+    let (client, words) = cut(words)?;
+    let (request, word) = cut(words)?;
+    let client = u128_of(client)?;
+    let request = u64_of(request)?;
+    let length = decode(word, body)?;
+    Some((client, request, length))
+}
+
 /// What the line `append ` with these words behind it says.
 fn append(words: &[u8], body: &mut [u8]) -> Option<Line>
     requires { length words.now ≤ 2 * length body.old }
@@ -83,11 +100,7 @@ fn append(words: &[u8], body: &mut [u8]) -> Option<Line>
         Says (codes "append " ++ words.now) (Append client request bytes) → ⊥) }
     ensures size { IfSome result (λ l. body_length l ≤ length body.new) }
 {
-    let (client, words) = cut(words)?;
-    let (request, word) = cut(words)?;
-    let client = u128_of(client)?;
-    let request = u64_of(request)?;
-    let length = decode(word, body)?;
+    let (client, request, length) = request(words, body)?;
     Some(Line::Append {
         client,
         request,
@@ -104,11 +117,7 @@ fn stage(words: &[u8], body: &mut [u8]) -> Option<Line>
         Says (codes "stage " ++ words.now) (Stage client request bytes) → ⊥) }
     ensures size { IfSome result (λ l. body_length l ≤ length body.new) }
 {
-    let (client, words) = cut(words)?;
-    let (request, word) = cut(words)?;
-    let client = u128_of(client)?;
-    let request = u64_of(request)?;
-    let length = decode(word, body)?;
+    let (client, request, length) = request(words, body)?;
     Some(Line::Stage {
         client,
         request,
