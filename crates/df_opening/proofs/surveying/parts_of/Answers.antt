@@ -28,7 +28,7 @@ returns-clause-found c =
           booted = λ live. absurd (let none : false ≡ true = live in cc);
           ends = found_ends c.args.surveyed found usable.rules;
           awaits = found_awaits c.args.surveyed found;
-          staging = found_staging c.args.surveyed c.clear.new.staging.requests (ap (λ (x : Staged). x.requests) c.clear.ensures) found;
+          staging = found_staging c.args.surveyed c.clear.new.self.requests (ap (λ (x : Staged). x.requests) c.clear.ensures) found;
           captured = tt;
           course = found.read.idle;
         };
