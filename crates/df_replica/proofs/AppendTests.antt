@@ -55,7 +55,7 @@ known_by client ss (Some i) is old = search rules
 known_by client ss None is old = absurd (let new = ap is_new (found_by client ss None is) in cc)
 
 -- a client that isn't new is known
-known_client : (client : ℕ) (ss : List told.Session) → is_new (session_of_client client (map session_of ss)) ≡ false → IsKnown client ss
+pub known_client : (client : ℕ) (ss : List told.Session) → is_new (session_of_client client (map session_of ss)) ≡ false → IsKnown client ss
 known_client client ss old = known_by client ss (position (has_client client) ss) refl old
 
 pub small_session : (ss : List told.Session) (o : Option ℕ) (s : told.Session) → AreNumbered ss → session_at ss o ≡ Some s → s.request ≤ 2 ^ 62

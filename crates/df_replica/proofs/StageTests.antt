@@ -5,17 +5,16 @@ use Rattle.std.specs.List.{slice_get}
 use Rattle.std.proofs.lemmas.Bool.{eq-eqb, eqb-false}
 use Rattle.std.proofs.lemmas.List.{length-map, take_all}
 use Rattle.std.proofs.lemmas.Option.{same_Some}
-use Rattle.df_layout.specs.declared.layout.Layout.{Layout}
 use Rattle.df_sessions.specs.declared.session.Session as told
 use Rattle.df_sessions.specs.Requests as requests
 use Rattle.df_sessions.specs.Requests.{sessions_of}
 use Rattle.df_sessions.specs.Table.{IsTable}
 use Rattle.df_theory.specs.Next.{MayAskInTurn}
 use Rattle.df_theory.specs.Sessions.{MayAsk, noted, session_of, sessions_after}
-use Rattle.df_theory.specs.Units.{Header, Message, Session}
+use Rattle.df_theory.specs.Units.{Header, Session}
 use Rattle.df_model.specs.Making.{first_of, prepare_in, prepares_in}
 use Rattle.df_model.specs.Memory.{Memory}
-use Rattle.df_model.specs.Refusals.{counted, first_refusal, is_new, next_request, session_of_client, stage_refusals}
+use Rattle.df_model.specs.Refusals.{counted, first_refusal, session_of_client, stage_refusals}
 use Rattle.df_model.specs.Work.{Request}
 use Rattle.df_model.proofs.Laws.{all_pass, allowed, allowed_asks, ask_on, some_request}
 use Rattle.df_opening.specs.Below.{AreStaging, IsRequest, IsState, State, asker_of, asks_of, memory}

@@ -6,6 +6,7 @@ ghost use Rattle.df_opening.specs.Below.{AreStaging};
 ghost use Rattle.df_journal.specs.Flush.{AreOwn, units_of, with_headers};
 ghost use Rattle.df_journal.specs.Tail.{AreNumbered};
 ghost use Rattle.df_opening.specs.Held.{AreRoomsOf};
+ghost use Rattle.df_sessions.specs.Table.{IsTable as IsSessions};
 ghost use Rattle.df_replica.specs.Answering.{Serves, answer_of, as_flush, stage_answer};
 ghost use Rattle.df_replica.specs.Refusing.{AreCounters};
 ghost use Rattle.df_replica.specs.Flushing.{AreHeld, AreMadeFor, AreSmall, HavePlaces, IsFlush, IsStage, MayBeIn, MaySeal, checks_of, flush_events, flush_units, flushed, group_events, group_in, header_in, last_check, request_of, sessions_staged, staged_with, units_in, with_requests};
@@ -200,7 +201,10 @@ impl Replica {
     fn stage_refusal(&self, client: u128, request: u64, size: u64) -> Option<AppendError>
         ensures why { (body : List ℕ) → size ≡ length body → result ≡ first_refusal (stage_refusals (memory self.now) client request body) }
         ensures state { IsState self.now }
+        ensures table { IsSessions self.now.table }
     {
+        // The table is one.
+        let _count = self.parts.sessions.len();
         let staging = &self.parts.staging;
         let last = session_staged(
             &self.parts.sessions,

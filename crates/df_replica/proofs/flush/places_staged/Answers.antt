@@ -1,5 +1,5 @@
 -- A request of a client that has no session yet takes one place more.
-use Rattle.std.proofs.Common.{◌≡◌, ◌≤◌, ◌<◌, ◌+◌, ℕ, List, length, refl, sym, ap, ◌∙◌, arith}
+use Rattle.std.proofs.Common.{◌≡◌, ◌<◌, ◌+◌, List, length, refl, ap, arith}
 use Rattle.df_opening.specs.Below.{asker_of}
 use Rattle.df_theory.specs.Sessions.{noted}
 use Rattle.df_theory.specs.Units.{Session}
@@ -22,9 +22,9 @@ loop-i-preserved c =
     let one = count_one op c.request-client.result.0 r.0 (sessions_staged ss rs c.args.head c.loop-i.i) c.session_staged.result (c.request-client.ensures r.0 r.1).0 c.session_staged.ensures.session in
     elim c.if-is_none.branch [
       | then-is_none w ↦
-          let new = one.0 (w.if-is_none.ensures tt) in
+          let new = one.0 w.if-is_none.ensures in
           record { within = omega (arith, at); few = omega (arith, w.taken-is, c.loop-i.invariant.few); count = omega (arith, w.taken-is, c.loop-i.invariant.count, more, new) }
       | else-is_none w ↦
-          let known = one.1 (w.if-is_none.ensures tt) in
+          let known = one.1 w.if-is_none.ensures in
           record { within = omega (arith, at); few = omega (arith, w.taken-is, c.loop-i.invariant.few); count = omega (arith, w.taken-is, c.loop-i.invariant.count, more, known) }
     ]

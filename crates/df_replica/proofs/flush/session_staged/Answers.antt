@@ -1,14 +1,12 @@
 -- The table's session, and each staged request of the client in place of the one before it.
-use Rattle.std.proofs.Common.{◌≡◌, ◌≤◌, ◌+◌, ◌^◌, ◌==◌, ℕ, false, Option, Some, None, refl, sym, ap, ◌∙◌, arith, ne_eqb}
+use Rattle.std.proofs.Common.{◌≡◌, ◌≤◌, ◌+◌, ◌^◌, ◌==◌, false, Option, Some, None, refl, sym, ap, ◌∙◌, arith, ne_eqb}
 use Rattle.std.specs.Prelude.{IfSome, option_map}
-use Rattle.std.specs.List.{position, slice_get}
+use Rattle.std.specs.List.{position}
 use Rattle.df_model.specs.Refusals.{session_of_client}
-use Rattle.df_model.specs.Work.{Request}
 use Rattle.df_opening.specs.Below.{asker_of}
 use Rattle.df_sessions.specs.declared.session.Session as told
 use Rattle.df_sessions.specs.Requests.{session_of}
 use Rattle.df_sessions.specs.Table.{has_client}
-use Rattle.df_theory.specs.Units.{Session}
 use Rattle.df_replica.specs.Flushing.{sessions_staged}
 use Rattle.df_replica.proofs.AppendTests.{session_found, small_session}
 use Rattle.df_replica.proofs.StageTests.{other_session, own_session, request_at, staged_more}
