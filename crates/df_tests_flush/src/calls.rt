@@ -64,7 +64,7 @@ fn session(disk: &mut MemoryDisk, replica: &mut Replica) -> Answers {
 }
 
 // What the session answers over a new file, and the head that an open then finds.
-fn answers(alloc: Global) -> Result<(Answers, u64), Fail> {
+fn outcome_of(alloc: Global) -> Result<(Answers, u64), Fail> {
     let mut disk = small_file(alloc, 0)?;
     let answers = match open(alloc, &mut disk, &Layout::small())? {
         Ok(replica) => {
@@ -82,7 +82,7 @@ fn answers(alloc: Global) -> Result<(Answers, u64), Fail> {
 // Two writes, a sync, a write and a sync: each is a device call and an event.
 #[test]
 fn two_that_are_staged_are_flushed_by_five_device_calls(rt: HostRuntime) -> Result<(), Fail> {
-    let outcome = answers(rt.alloc())?;
+    let outcome = outcome_of(rt.alloc())?;
     let wanted = Answers {
         staged: [Ok(1), Ok(2)],
         counts: [2, 0],

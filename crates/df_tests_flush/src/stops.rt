@@ -88,13 +88,32 @@ fn images(rt: &impl Abort, alloc: Global, group: Group) -> Result<usize, Fail> {
     Ok(images)
 }
 
-// Of two prepares and one sector of headers: the first write leaves three images, the second and the sync nine each, and the write of
-// the headers and the sync behind it three each. So it goes on.
-#[test]
-fn a_stopped_flush_leaves_all_or_none(rt: HostRuntime) -> Result<(), Fail> {
-    let counts = [27usize, 72, 42, 87, 42, 87];
-    for (group, count) in GROUPS.iter().zip(&counts) {
-        assert_eq!(rt; images(&rt, rt.alloc(), *group)?, *count, "{group:?}");
+// So many images are left by the stops of each of these groups' flushes.
+fn expect_images(
+    rt: &impl Abort,
+    alloc: Global,
+    groups: &[Group],
+    counts: &[usize],
+) -> Result<(), Fail> {
+    for (group, count) in groups.iter().zip(counts) {
+        assert_eq!(rt; images(rt, alloc, *group)?, *count, "{group:?}");
     }
     Ok(())
+}
+
+// Of two prepares and one sector of headers the first write leaves three images, the second and the sync nine each, and the write of
+// the headers and the sync behind it three each.
+#[test]
+fn a_stopped_flush_leaves_all_or_none(rt: HostRuntime) -> Result<(), Fail> {
+    expect_images(&rt, rt.alloc(), &GROUPS[..2], &[27, 72])
+}
+
+#[test]
+fn so_it_is_with_headers_in_two_sectors(rt: HostRuntime) -> Result<(), Fail> {
+    expect_images(&rt, rt.alloc(), &GROUPS[2..4], &[42, 87])
+}
+
+#[test]
+fn so_it_is_over_the_end_of_the_ring(rt: HostRuntime) -> Result<(), Fail> {
+    expect_images(&rt, rt.alloc(), &GROUPS[4..], &[42, 87])
 }
