@@ -51,28 +51,28 @@ module _ (file : DataFile) (w : Work) (work : IsWork (shape file) (spelling file
   abbrev m : Memory
   m = memory_of (shape file) (spelling file) w
 
-  abbrev sum : ℕ
-  sum = first_of sums
+  abbrev made : ℕ
+  made = first_of sums
 
-  left_unput : (r : Running) → w.running ≡ Some r → (WritesNext Advance w a → ⊥) → (left : List ℕ) → r.left ≡ left → trailer_puts m (course (spelling file) r) sum left (BlockPlace a) ≡ None
+  left_unput : (r : Running) → w.running ≡ Some r → (WritesNext Advance w a → ⊥) → (left : List ℕ) → r.left ≡ left → trailer_puts m (course (spelling file) r) made left (BlockPlace a) ≡ None
   left_unput r running other [] is = refl
   left_unput r running other (x ∷ more) is =
-      put_aside x a (BlockUnit (trailer_block m (course (spelling file) r) sum)) (λ same. other (r, more, running, is ∙ ap (λ (n : ℕ). n ∷ more) same))
+      put_aside x a (BlockUnit (trailer_block m (course (spelling file) r) made)) (λ same. other (r, more, running, is ∙ ap (λ (n : ℕ). n ∷ more) same))
 
-  step_unput : (WritesNext Advance w a → ⊥) → (o : Option Running) → w.running ≡ o → step_puts m (course_of (spelling file) o) sum (BlockPlace a) ≡ None
+  step_unput : (WritesNext Advance w a → ⊥) → (o : Option Running) → w.running ≡ o → step_puts m (course_of (spelling file) o) made (BlockPlace a) ≡ None
   step_unput other None running = refl
   step_unput other (Some r) running = left_unput r running other r.left refl
 
   held_unput : (command : Command) → (WritesNext command w a → ⊥) → puts_of m sums command (BlockPlace a) ≡ None
   held_unput (Append client request body) other =
-      unless_none (first_refusal (append_refusals m client request body)) (put_one (PreparePlace ((m.head + 1) % m.layout.slots)) (PrepareUnit (prepare_of m sum client request body))) (BlockPlace a) (λ none. refl)
+      unless_none (first_refusal (append_refusals m client request body)) (put_one (PreparePlace ((m.head + 1) % m.layout.slots)) (PrepareUnit (prepare_of m made client request body))) (BlockPlace a) (λ none. refl)
   held_unput (Stage client request body) other = refl
   held_unput Flush other = unless_none (first_refusal (flush_refusals m)) (group_puts m.layout.slots (group_of m sums)) (BlockPlace a) (λ none. group_aside m.layout.slots (group_of m sums) a)
   held_unput (Reply op body) other =
-      unless_none (first_refusal (reply_refusals m op body)) (put_one (ReplyPlace (place_of_reply m)) (ReplyUnit (reply_of m sum body))) (BlockPlace a) (λ none. refl)
+      unless_none (first_refusal (reply_refusals m op body)) (put_one (ReplyPlace (place_of_reply m)) (ReplyUnit (reply_of m made body))) (BlockPlace a) (λ none. refl)
   held_unput (WriteBlock kind body) other =
-      unless_none (first_refusal (block_refusals m kind body)) (put_one (BlockPlace (next_address m)) (BlockUnit (block_of m.content.boot sum kind body))) (BlockPlace a)
-      (λ none. put_aside (next_address m) a (BlockUnit (block_of m.content.boot sum kind body)) (λ same.
+      unless_none (first_refusal (block_refusals m kind body)) (put_one (BlockPlace (next_address m)) (BlockUnit (block_of m.content.boot made kind body))) (BlockPlace a)
+      (λ none. put_aside (next_address m) a (BlockUnit (block_of m.content.boot made kind body)) (λ same.
       let free : is_held w (next_address m) ≡ false = (block_may_law (shape file) (spelling file) w kind body none).free in
       let no : true ≡ false = sym held ∙ ap (is_held w) (sym same) ∙ free in
       cc))

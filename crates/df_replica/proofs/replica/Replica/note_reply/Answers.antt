@@ -1,5 +1,5 @@
 -- The state behind a reply that is noted makes sense.
-use Rattle.std.proofs.Common.{◌≡◌, ◌<◌, ◌+◌, length, sym, subst, ◌∙◌, arith}
+use Rattle.std.proofs.Common.{◌≡◌, ◌<◌, ◌+◌, length, refl, sym, subst, ◌∙◌, arith}
 use Rattle.df_sessions.specs.Requests.{sessions_of}
 use Rattle.df_theory.specs.Sessions.{Tracks}
 use Rattle.df_opening.specs.Below.{AreAsked, State, state_in}
