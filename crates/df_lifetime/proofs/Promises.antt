@@ -1,11 +1,11 @@
 -- What is staged behind an answer is what the answers so far say of it.
-use Rattle.std.proofs.Common.{◌≡◌, ℕ, ◌+◌, ◌-◌, ◌≤◌, Bool, true, false, nat_lt, List, [], ◌∷◌, ◌++◌, drop, length, Option, Some, None, Ok, refl, sym, ◌∙◌, ap, arith, length-drop}
+use Rattle.std.proofs.Common.{◌≡◌, ℕ, ◌+◌, ◌-◌, ◌≤◌, true, false, nat_lt, List, [], ◌∷◌, ◌++◌, length, Option, Some, None, refl, sym, ◌∙◌, ap, arith, length-drop}
 use Rattle.std.proofs.lemmas.Bool.Decides.{nat_tests}
 use Rattle.df_theory.specs.Shape.{Shape}
 use Rattle.df_theory.specs.Units.{Message, Parts}
 use Rattle.df_theory.specs.View.{head}
 use Rattle.df_model.specs.After.{after_check, after_running, after_step_of, begun, outcome, to_check, with_group, with_live, with_prepare, with_reply, with_running, with_staged}
-use Rattle.df_model.specs.Commands.{Advance, Answer, Append, Begin, Command, Flush, Given, ReadBlock, ReadPrepare, ReadReply, Recent, Release, Reply, Scrub, Stage, ToAppend, ToBegin, ToFlush, ToRelease, ToReply, ToStage, ToWriteBlock, WriteBlock, after, supplied_sum, supplied_sums, supplied_verdict}
+use Rattle.df_model.specs.Commands.{Advance, Append, Begin, Command, Flush, Given, ReadBlock, ReadPrepare, ReadReply, Recent, Release, Reply, Scrub, Stage, ToFlush, ToStage, WriteBlock, after, supplied_sum, supplied_sums, supplied_verdict}
 use Rattle.df_model.specs.Making.{group_of, needed_of, next_address, place_of_reply, prepare_of, reply_of}
 use Rattle.df_model.specs.Memory.{memory_of}
 use Rattle.df_model.specs.Refusals.{append_refusals, begin_refusals, block_refusals, first_refusal, flush_refusals, release_refusals, reply_refusals, stage_refusals}
