@@ -26,6 +26,8 @@ class Sqlite:
         if self.base.execute("PRAGMA journal_mode=WAL").fetchone() != ("wal",):
             raise SystemExit("SQLite keeps no log here")
         self.base.execute("PRAGMA synchronous=FULL")
+        if self.base.execute("PRAGMA synchronous").fetchone() != (2,):
+            raise SystemExit("SQLite doesn't sync its log at each commit")
         self.base.execute("CREATE TABLE IF NOT EXISTS kept (key BLOB PRIMARY KEY, value BLOB) WITHOUT ROWID")
 
     def put(self, puts: list) -> None:
