@@ -4,7 +4,7 @@ use Rattle.std.specs.Prelude.{All, replicate}
 use Rattle.std.proofs.lemmas.List.Elements.{All-head, All-tail}
 use Rattle.df_disk.specs.Told.{Told}
 use Rattle.df_layout.specs.declared.layout.Layout.{Layout}
-use Rattle.df_model.specs.Commands.{Advance, Answer, Append, Begin, Command, ReadBlock, ReadPrepare, ReadReply, Recent, Release, Reply, Scrub, ToAdvance, ToAppend, ToBegin, ToReadBlock, ToReadPrepare, ToReadReply, ToRecent, ToRelease, ToReply, ToScrub, ToWriteBlock, WriteBlock}
+use Rattle.df_model.specs.Commands.{Advance, Answer, Append, Begin, Command, Flush, ReadBlock, ReadPrepare, ReadReply, Recent, Release, Reply, Scrub, Stage, ToAdvance, ToAppend, ToBegin, ToFlush, ToReadBlock, ToReadPrepare, ToReadReply, ToRecent, ToRelease, ToReply, ToScrub, ToStage, ToWriteBlock, WriteBlock}
 use Rattle.df_model.specs.Memory.{Memory}
 use Rattle.df_rows.specs.declared.command.Command.{Command as Change}
 use Rattle.df_rows.specs.declared.command.Command.TheVariants as commands
@@ -123,6 +123,8 @@ acts_have (a ∷ acts) more have rest = (have.0, acts_have acts more have.1 rest
 appended_change : (client request : ℕ) (body : List ℕ) (x : Answer) → HasChange (Append client request body) → (some : List Change) × Changes (Append client request body) x some
 appended_change client request body (ToAppend (Ok done)) has = (has.0 ∷ [], (has.0, has.1, has.2, refl))
 appended_change client request body (ToAppend (Err e)) has = ([], refl)
+appended_change client request body (ToStage r) has = ([], refl)
+appended_change client request body (ToFlush r) has = ([], refl)
 appended_change client request body (ToReply r) has = ([], refl)
 appended_change client request body (ToWriteBlock r) has = ([], refl)
 appended_change client request body (ToRelease r) has = ([], refl)
@@ -136,6 +138,8 @@ appended_change client request body (ToRecent r) has = ([], refl)
 
 one_change : (c : Command) (x : Answer) → HasChange c → (some : List Change) × Changes c x some
 one_change (Append client request body) x has = appended_change client request body x has
+one_change (Stage client request body) x has = ([], refl)
+one_change Flush x has = ([], refl)
 one_change (Reply op body) x has = ([], refl)
 one_change (WriteBlock kind body) x has = ([], refl)
 one_change (Release address) x has = ([], refl)

@@ -212,6 +212,7 @@ module _ (s t : Replica) (old new : Option Told) where
     append_answered (Err (append.ReplyPending a)) is x makes told = append_refused (append.ReplyPending a) (λ no. cc) is.0
     append_answered (Err (append.RequestOrder a)) is x makes told = append_refused (append.RequestOrder a) (λ no. cc) is.0
     append_answered (Err (append.PipelineFull a)) is x makes told = append_refused (append.PipelineFull a) (λ no. cc) is.0
+    append_answered (Err (append.Staged a)) is x makes told = append_refused (append.Staged a) (λ no. cc) is.0
     append_answered (Err (append.WalFull a b)) is x makes told = append_refused (append.WalFull a b) (λ no. cc) is.0
 
     pub append_comes : (a : Answer) → GivesAnswer (Append the_client request body) s t old new a → Appends request body a

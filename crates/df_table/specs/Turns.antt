@@ -2,7 +2,7 @@
 use Rattle.std.specs.Prelude.{◌≡◌, ◌⊎◌, ℕ, List, [], ◌∷◌, ◌++◌, map, All, Option, Some, None, Err}
 use Rattle.df_disk.specs.Told.{Told}
 use Rattle.df_layout.specs.declared.layout.Layout.{Layout}
-use Rattle.df_model.specs.Commands.{Answer, Command, ToAdvance, ToAppend, ToBegin, ToReadBlock, ToReadPrepare, ToReadReply, ToRelease, ToReply, ToWriteBlock}
+use Rattle.df_model.specs.Commands.{Answer, Command, ToAdvance, ToAppend, ToBegin, ToReadBlock, ToReadPrepare, ToFlush, ToReadReply, ToRelease, ToReply, ToStage, ToWriteBlock}
 use Rattle.df_model.specs.declared.errors.AppendError.TheVariants as append
 use Rattle.df_model.specs.declared.errors.BeginError.TheVariants as begin
 use Rattle.df_model.specs.declared.reading.PrepareError.TheVariants as prepare
@@ -27,6 +27,8 @@ use Rattle.df_table.specs.Policy.{line_commands}
 -- it is no refusal, and no read of what isn't shown
 abbrev pub IsAccepted : Answer → Type 0
 IsAccepted (ToAppend (Err e)) = ⊥
+IsAccepted (ToStage (Err e)) = ⊥
+IsAccepted (ToFlush (Err e)) = ⊥
 IsAccepted (ToReply (Err e)) = ⊥
 IsAccepted (ToWriteBlock (Err e)) = ⊥
 IsAccepted (ToRelease (Err e)) = ⊥

@@ -29,6 +29,8 @@ fn op_in(answer: &Answer) -> Result<u64, Ending>
     match answer {
         Answer::Append(Ok(receipt)) => Ok(receipt.op),
         Answer::Append(Err(_))
+        | Answer::Stage(_)
+        | Answer::Flush(_)
         | Answer::Reply(_)
         | Answer::WriteBlock(_)
         | Answer::Release(_)
@@ -77,6 +79,8 @@ fn accepted_or(answer: &Answer, otherwise: Ending) -> Result<(), Ending>
         | Answer::WriteBlock(Err(_))
         | Answer::Begin(Err(_))
         | Answer::Append(_)
+        | Answer::Stage(_)
+        | Answer::Flush(_)
         | Answer::Release(_)
         | Answer::Advance(_)
         | Answer::ReadPrepare(_)
@@ -159,6 +163,8 @@ fn is_done(answer: &Answer) -> bool
         Answer::Advance(Ok(Progress::Done { sequence: _ })) => true,
         Answer::Advance(Err(_))
         | Answer::Append(_)
+        | Answer::Stage(_)
+        | Answer::Flush(_)
         | Answer::Reply(_)
         | Answer::WriteBlock(_)
         | Answer::Release(_)
