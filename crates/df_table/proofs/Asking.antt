@@ -19,7 +19,7 @@ use Rattle.df_session.specs.Links.{AreCalls, EndsCalls, command_in, list_of}
 use Rattle.df_session.specs.Session.{Act}
 use Rattle.df_table.specs.declared.ending.Ending.{Ending}
 use Rattle.df_table.specs.Keeping.{AreChanges, Changes, IsPending}
-use Rattle.df_table.specs.Policy.{block_reads, checkpoint, line_commands, opening, prepare_reads, releases, replies, request, room_for, writes}
+use Rattle.df_table.specs.Policy.{block_reads, checkpoint, line_commands, opening, prepare_reads, releases, replies, request, room_for, the_client, writes}
 use Rattle.df_table.specs.Turns.{AreAccepted, AreFit, EndIn, IsAccepted}
 use Rattle.df_table.proofs.Executed.{put_may}
 use Rattle.df_table.proofs.Walked.{ArePlain, Asks, IsNext}
@@ -84,10 +84,17 @@ asks_made cs s t old new acts answers calls is accepted = asks_all cs acts answe
 
 -- ---- puts and drops
 
--- the body of an append is a command's
+-- a table's program asks for it: an append is the client's, and its body is a command's
 abbrev pub HasChange : Command → Type 0
-HasChange (Append client request body) = (c : Change) × IsCommand c × (body ≡ body_of c)
-HasChange command = Unit {0}
+HasChange (Append client request body) = (c : Change) × IsCommand c × (body ≡ body_of c) × (client ≡ the_client)
+HasChange (Reply op body) = Unit {0}
+HasChange (WriteBlock kind body) = Unit {0}
+HasChange (Release address) = Unit {0}
+HasChange (Begin root) = Unit {0}
+HasChange Advance = Unit {0}
+HasChange (ReadPrepare op) = Unit {0}
+HasChange (ReadBlock address) = Unit {0}
+HasChange command = ⊥
 
 abbrev pub HaveChanges : List Command → Type 0
 HaveChanges [] = Unit {0}
@@ -204,7 +211,7 @@ room_has layout m rows steps true =
 
 pub line_has : (layout : Layout) (m : Memory) (rows : Map) (steps : ℕ) (cs : List Change) → AreFit cs → HaveChanges (line_commands layout m rows steps cs)
 line_has layout m rows steps [] fit = tt
-line_has layout m rows steps (c ∷ more) fit = have_both (room_for layout m rows steps) (request m c) (room_has layout m rows steps _) ((c, fit.0, refl), (tt, tt))
+line_has layout m rows steps (c ∷ more) fit = have_both (room_for layout m rows steps) (request m c) (room_has layout m rows steps _) ((c, fit.0, refl, refl), (tt, tt))
 
 -- ---- what a line asks for
 
