@@ -48,3 +48,4 @@ pub mod Ordered
 pub mod OneFile
 pub mod Coming
 pub mod Lives
+pub mod SafelyRun

@@ -13,3 +13,4 @@ pub mod Keeping
 pub mod Run
 pub mod Laws
 pub mod Lives
+pub mod Completeness

@@ -70,6 +70,14 @@ EndsFor (NotTable place) new answers failed = failed ≡ None
 EndsFor OpsSpent new answers failed = (failed ≡ None) × LastIs (ToAppend (Err append.OpsSpent)) answers
 EndsFor SequenceSpent new answers failed = (failed ≡ None) × LastIs (ToBegin (Err begin.SequenceSpent)) answers
 
+-- a call of a line ends it: the disk failed, or no op or no sequence is left; or it tells nothing, and the copies of a superblock aren't read back as they were written
+abbrev pub IsOfCall : Option Told → Ending → Type 0
+IsOfCall told Disk = Unit {0}
+IsOfCall told (Damaged place class) = told ≡ None
+IsOfCall told (NotTable place) = ⊥
+IsOfCall told OpsSpent = Unit {0}
+IsOfCall told SequenceSpent = Unit {0}
+
 -- the first of these commands were made, and no further one, since this ended them
 pub record EndIn (commands : List Command) (s t : Replica) (old new : Option Told) (ending : Ending) : Type 0 where
   pub acts : List Act

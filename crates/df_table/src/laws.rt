@@ -1,4 +1,5 @@
 // What holds of the tables of files, whatever the code does. None of these does anything when it is called.
+ghost use Rattle.df_table.specs.Completeness.{SafeIsRun};
 ghost use Rattle.df_table.specs.Laws.{FindsOne, FirstIsEmpty, FoundIsTable, RowsInOrder, TableIsOne};
 ghost use Rattle.df_table.specs.Lives.{EveryLifeGoesOn, NextRunServesIt};
 
@@ -28,4 +29,10 @@ pub fn rows_are_in_order()
 pub fn runs_compose()
     ensures goes_on { EveryLifeGoesOn }
     ensures serves { NextRunServesIt }
+{}
+
+/// Over a file that may be opened and has a table, with boots left and a script whose lines are all lines of a table, a run in which no call failed executed all of it, or memory was wanting,
+/// or ops or sequences are spent.
+pub fn a_safe_table_is_served()
+    ensures { SafeIsRun }
 {}
