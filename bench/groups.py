@@ -1,10 +1,11 @@
 """What a group costs: a `flush` of up to eight beside one append, and beside as many appends, in turn in one session, by the clock."""
 
+import statistics
 from collections import Counter
 from random import Random
 
 from asked import Asked
-from common import Bench, Ground, digits, quartiles, sectors_of, show, with_quartiles
+from common import Bench, Ground, digits, sectors_of, show, with_quartiles
 from tries.form import Layout
 
 # As many clients as a group has prepares; and how many there are in turn, with all of them, for each round that is asked for.
@@ -89,15 +90,17 @@ def both(seen: dict, count: int) -> list:
     return [one + two for one, two in zip(seen["stage", count], seen["flush", count])]
 
 
-def ratio(ones: list, others: list) -> str:
-    return with_quartiles([one / other for one, other in zip(ones, others)], 2)
+def tenth(values: list) -> float:
+    """What one in ten stays below: on a busy machine the rest waits for a processor now and then."""
+    return statistics.quantiles(values, n=10)[0]
 
 
 def row_of_size(size: int, seen: dict) -> list:
-    """Eight of a size."""
-    one, eight, flush, whole = seen["append", 1], seen["append", CLIENTS], seen["flush", CLIENTS], both(seen, CLIENTS)
-    times = [f"{quartiles(values)[0]:,.0f}" for values in (one, eight, flush, whole)]
-    return [size, *times, ratio(flush, one), ratio(whole, one), ratio(eight, whole)]
+    """Eight of a size: medians, and the ratios of the medians and of the fastest tenths."""
+    columns = [seen["append", 1], seen["append", CLIENTS], seen["flush", CLIENTS], both(seen, CLIENTS)]
+    middles, tenths = [statistics.median(values) for values in columns], [tenth(values) for values in columns]
+    times = [f"{middle:,.0f} ({least:,.0f})" for middle, least in zip(middles, tenths)]
+    return [size, *times, *(f"{of[more] / of[less]:.2f}" for more, less in ((2, 0), (3, 0), (1, 3)) for of in (middles, tenths))]
 
 
 def row_of_count(count: int, seen: dict) -> list:
@@ -110,8 +113,9 @@ def show_groups(bench: Bench, grounds: list) -> None:
     for ground in grounds:
         found = {size: measured(bench, ground, size) for size in SIZES}
         turns = f"{ground.name}, {TURNS * bench.rounds} of each in turn, us by the clock"
-        show(f"A group of eight, {turns}", ["body", "one append", "eight appends", "`flush` of eight", "with its eight `stage`",
-             "`flush` to one append", "with its `stage`, to one append", "eight appends to that"],
+        ratios = [head for one in ("`flush` to one append", "with its `stage`, to that", "eight appends to this") for head in (one, "of the tenths")]
+        show(f"A group of eight, medians, and in brackets what the fastest tenth stays below, {turns}",
+             ["body", "one append", "eight appends", "`flush` of eight", "with its eight `stage`", *ratios],
              [row_of_size(size, seen) for size, seen in found.items()])
         show(f"Groups by how many, bodies of {TOLD} bytes, {turns}", ["how many", "appends", "`flush`", "with its `stage`"],
              [row_of_count(count, found[TOLD]) for count in range(1, CLIENTS + 1)])

@@ -1,6 +1,6 @@
 """What durable puts and an open take beside SQLite and LevelDB: one machine, one run, in turn, each asked line by line in the same way.
 
-    python3 bench/others.py PATH-TO-datafile PATH-TO-objecttable --disk FOLDER [--memory FOLDER] [--rounds N] [--seed N] [--python PATH]
+    python3 bench/others.py PATH-TO-datafile [PATH-TO-objecttable] --disk FOLDER [--memory FOLDER] [--rounds N] [--seed N] [--python PATH]
 
 Wants Debian's python3-plyvel, whose Python runs keeper.py, and strace. docs/evidence/OTHERS.md has the tables.
 """
@@ -48,9 +48,16 @@ class Store:
     def make(self, bench: Bench, ground: Ground) -> None:
         """Makes what it keeps them in, anew."""
 
-    def open(self, folder: str, front=()) -> float:
+    # Our program, where it is one: a process whose start is a part of its open.
+    program = ""
+
+    def open(self, folder: str, front=(), first: bytes = b"get 0\n") -> float:
         """Starts the process, under another one perhaps: the seconds until the first line is answered."""
         raise NotImplementedError
+
+    def look(self, keys: list) -> bytes:
+        """A line that reads what one of these keys has."""
+        return b"get %d\n" % keys[len(keys) // 2]
 
     def keep(self, puts: list) -> float:
         """The seconds until these puts are durable: one, or a group."""
@@ -120,10 +127,21 @@ class Groups(Store):
     def make(self, bench: Bench, ground: Ground) -> None:
         bench.make(ground, GROUPS, "kept")
 
-    def open(self, folder: str, front=()) -> float:
+    def open(self, folder: str, front=(), first: bytes = b"prepare 0\n") -> float:
+        start = time.perf_counter()
         self.session, self.count = Asked([*front, self.program, os.path.join(folder, "kept"), "run"]), 0
+        self.session.ask(first, 1)
+        spent = time.perf_counter() - start
         self.requests = Requests(self.session, Random(0), GROUPS.slots)
-        return self.session.want(b"prepare 0\n", b"refused NotKept first 1 last 0\n")
+        return spent
+
+    def look(self, keys: list) -> bytes:
+        return b"prepare %d\n" % (len(keys) // 2)
+
+    def fill(self, puts: list) -> None:
+        for at in range(0, len(puts), self.group):
+            self.keep(puts[at : at + self.group])
+            self.settle()
 
     def keep(self, puts: list) -> float:
         requests, bodies = self.requests, [objects.body_of(("put", *put)) for put in puts]
@@ -145,7 +163,8 @@ def stores_of(given: argparse.Namespace) -> list:
     kept = [("nothing is kept: the loop alone", "nothing", (1,)), ("one write of a sector over another, and its sync", "write", (1,)),
             ("SQLite VERSION", "sqlite", (1, 8)), ("LevelDB VERSION", "leveldb", (1, 8))]
     others = [Kept(name, kind, given.python, group) for name, kind, groups in kept for group in groups]
-    return others[:2] + [Table(given.objecttable, given.datafile, TABLE), *(Groups(given.datafile, group) for group in (1, 8))] + others[2:]
+    table = [Table(given.objecttable, given.datafile, TABLE)] if given.objecttable else []
+    return [*others[:2], *table, *(Groups(given.datafile, group) for group in (1, 8)), *others[2:]]
 
 
 def kept_in_turn(bench: Bench, ground: Ground, stores: list) -> list:
@@ -236,13 +255,13 @@ def opened(bench: Bench, ground: Ground, memory: Ground, store: Store, rows: int
         if ends:
             store.session.end()
         store.session.kill()
-        ask, seen = b"get %d\n" % keys[rows // 2], []
+        seen: list = []
         for _ in range(bench.rounds):
             shutil.copytree(made.folder, ground.path("again"))
             for folder, _, names in os.walk(ground.path("again")):
                 for name in names:
                     forget(ground, os.path.join(folder, name))
-            spent = store.open(ground.path("again"), first=ask)
+            spent = store.open(ground.path("again"), first=store.look(keys))
             seen.append((spent - start_of(store, ground)) * 1e3)
             store.session.end()
             store.session.kill()
@@ -254,34 +273,36 @@ def opened(bench: Bench, ground: Ground, memory: Ground, store: Store, rows: int
 
 def start_of(store: Store, ground: Ground) -> float:
     """The program's start alone, where an open is measured from it on: words that mean nothing are refused before anything is opened."""
-    return run([store.program, ground.path("none"), "walk"], wanted=None, status=2).clock if isinstance(store, Table) else 0.0
+    return run([store.program, ground.path("none"), "walk"], wanted=None, status=2).clock if store.program else 0.0
 
 
 def show_opens(bench: Bench, ground: Ground, memory: Ground, given: argparse.Namespace) -> None:
-    stores = [Table(given.objecttable, given.datafile, GREAT), Kept("SQLite VERSION", "sqlite", given.python),
-              Kept("LevelDB VERSION", "leveldb", given.python)]
+    table = [Table(given.objecttable, given.datafile, GREAT)] if given.objecttable else []
+    others = [Kept("SQLite VERSION", "sqlite", given.python), Kept("LevelDB VERSION", "leveldb", given.python)]
     found = []
     for rows in given.rows:
-        for store in stores:
+        # The ring keeps so many prepares; what is older an application of its own has in blocks.
+        ring = [Groups(given.datafile, 8)] if rows < GROUPS.slots else []
+        for store in [*table, *ring, *others]:
             cells = opened(bench, ground, memory, store, rows)
             found.append([store.name.partition(",")[0], rows, *cells])
-    show(f"An open up to the first answer to a `get`, {ground.name}, read anew, {bench.rounds} rounds, milliseconds by the clock",
+    show(f"An open up to the first answer to a `get`, or a `prepare`, {ground.name}, read anew, {bench.rounds} rounds, milliseconds by the clock",
          ["what keeps them", "rows", "behind a close", "behind a kill"], found)
 
 
 def words() -> argparse.Namespace:
     parser = argparse.ArgumentParser(description="Durable puts and opens beside SQLite and LevelDB.")
     parser.add_argument("datafile", type=arguments.program, help="the built program datafile")
-    parser.add_argument("objecttable", type=arguments.program, help="the built program objecttable")
+    parser.add_argument("objecttable", type=arguments.program, nargs="?", help="the built program objecttable (default: the table isn't measured)")
     parser.add_argument("--disk", type=arguments.folder, required=True, help="a folder on the disk that is meant")
-    parser.add_argument("--memory", type=arguments.folder, default="/dev/shm", help="a folder in memory, where tables are filled (default /dev/shm)")
+    parser.add_argument("--memory", type=arguments.folder, default="/dev/shm", help="where tables are filled (default /dev/shm)")
     parser.add_argument("--rounds", type=arguments.at_least(2), default=30, help="rounds of each measure (default 30)")
     parser.add_argument("--seed", type=int, default=1, help="the seed of puts and order (default 1)")
-    parser.add_argument("--python", type=arguments.program, default="/usr/bin/python3", help="the Python that knows plyvel (default /usr/bin/python3)")
+    parser.add_argument("--python", type=arguments.program, default="/usr/bin/python3", help="the Python with plyvel (default /usr/bin/python3)")
     parser.add_argument("--rows", type=arguments.at_least(1), nargs="+", default=ROWS, help="rows of the tables that are opened")
     parser.add_argument("--tables", nargs="+", choices=("puts", "opens"), default=("puts", "opens"), help="which tables (default both)")
     given = parser.parse_args()
-    given.datafile, given.objecttable = map(os.path.abspath, (given.datafile, given.objecttable))
+    given.datafile, given.objecttable = (path and os.path.abspath(path) for path in (given.datafile, given.objecttable))
     return given
 
 
