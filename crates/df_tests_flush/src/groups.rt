@@ -88,8 +88,9 @@ impl Group {
     pub(crate) fn loose(&self, call: usize) -> &'static [u16] {
         let synced = self.count.saturating_add(1);
         if call <= synced {
-            let (prepares, _) = self.place.prepares.split_at(call.min(self.count));
-            return prepares;
+            let prepares = self.place.prepares;
+            let (written, _) = prepares.split_at(call.min(self.count).min(prepares.len()));
+            return written;
         }
         let headers = self.place.headers;
         let (written, _) = headers.split_at(call.saturating_sub(synced).min(headers.len()));
