@@ -93,11 +93,11 @@ def legend(names: list, left: float, top: float, width: float) -> tuple:
     return out, y + 14
 
 
-def lines(title: str, below: str, aside: str, series: list, by_logarithm: bool = True, each: bool = False) -> list:
+def lines(title: str, below: str, unit: str, series: list, by_logarithm: bool = True, each: bool = False) -> list:
     """A plot of lines in a box of its own. The axis below is by logarithm, or has each of its places as far from the next."""
     out, top = legend([one.name for one in series], EDGE, 50, WIDTH - EDGE)
     out.insert(0, text(EDGE, 26, title, "ink", size=14, weight="bold"))
-    out.append(text(EDGE, top + 8, aside))
+    out.append(text(EDGE, top + 8, unit))
     top += 20
     places = list(dict.fromkeys(place for one in series for place, _ in one.points))
     values = [end for one in series for _, value in one.points for end in value[:3]]
@@ -120,9 +120,10 @@ def lines(title: str, below: str, aside: str, series: list, by_logarithm: bool =
             out.append(text(x, bottom + 17, number(place), anchor="middle"))
             free = x - LETTER * len(number(place)) / 2 - 6
     out.append(text((LEFT + right) / 2, bottom + 36, below, anchor="middle"))
+    # Where there are quartiles the series stand side by side, so that none hides others.
+    aside = DODGE if any(value.low < value.high for one in series for _, value in one.points) else 0
     for which, one in enumerate(series):
-        # Side by side, so that no quartiles hide others.
-        points = [(along[place] + DODGE * (which - (len(series) - 1) / 2), value) for place, value in one.points]
+        points = [(along[place] + aside * (which - (len(series) - 1) / 2), value) for place, value in one.points]
         steps = " L ".join(f"{x:.1f} {rise.at(value.middle):.1f}" for x, value in points)
         out.append(path(str(which), "M " + steps, 2.0, 'stroke-linejoin="round"'))
         for x, value in points:
