@@ -11,12 +11,15 @@ from common import CLUSTER, Ground, appends, begin, blocks, digits, done, join, 
 from tries import form, script
 from tries.binary import Binary, expect, has_strace
 from tries.form import SECTOR
+from tries.knows import knows
 from tries.words import layout_of
 
 MEMORY = ("brk", "mmap")
 EVENT_OF_CALL = {"pwrite64": "write", "fdatasync": "sync", "write": "answer"}
 SIZES = {"small": (0, 128, 3840, 7936), "large": (65280, 1048320)}
 BLOCKS = {"small": (0, 128, 3840, 16128), "large": (65280, 524032)}
+# How many prepares a group has, and the bodies of groups.
+GROUPS = {"small": (4, (128, 7936)), "large": (8, (128, 65280))}
 HEAD = ["line", "body", "lines", "writes", "syncs", "reads of the file", "bytes written", "sectors that no unit covers, in all",
         "takes of memory, in all", "reads of the script, in all"]
 
@@ -33,7 +36,17 @@ def parts_of(bench, word: str) -> list:
         parts.append(join(blocks(random, number, size), begin(trailer), working(trailer), done()).lines + reads + b"release 1\n")
     body = digits(random.randbytes(128))
     parts.append(b"append 1 1 %s\nreply 1 %s\nprepare 1\nlookup 1\n" % (body, body))
-    return parts
+    return parts + ([groups(random, *GROUPS[word])] if knows("groups") else [])
+
+
+def groups(random, count: int, sizes: tuple) -> bytes:
+    """Two groups of each size, one behind the other, with their replies."""
+    lines = [b"prepare 0\n"]
+    for group, size in enumerate(size for size in sizes for _ in range(2)):
+        ops = range(group * count + 1, group * count + count + 1)
+        lines += [b"stage %d %d %s\n" % (op - group * count, group + 1, digits(random.randbytes(size))) for op in ops]
+        lines += [b"flush\n", *(b"reply %d -\n" % op for op in ops)]
+    return b"".join(lines)
 
 
 def uncovered(layout: form.Layout, event) -> int:
@@ -44,13 +57,21 @@ def uncovered(layout: form.Layout, event) -> int:
     return (len(event.data) - sectors_of(size - form.HEADER)) // SECTOR
 
 
-def kind_of(line: bytes, answer: bytes) -> tuple:
-    """The words of a row: what the line is, and the bytes of its body."""
+def body_of(line: bytes) -> int:
+    """The bytes of a line's body."""
     word, *rest = line.split()
-    if word == b"step":
+    return len(rest[-1]) // 2 if word in (b"append", b"stage", b"reply", b"block", b"checkpoint") else 0
+
+
+def kind_of(layout: form.Layout, line: bytes, before: bytes, answer: bytes, calls: list) -> tuple:
+    """The words of a row: what the line is, and the bytes of its body; of a flush those of the line before, which staged the last one."""
+    word = line.split()[0].decode()
+    if word == "step":
         return ("step, answered working" if answer.startswith(b"working") else "step, the last"), 0
-    has_body = word in (b"append", b"reply", b"block", b"checkpoint")
-    return word.decode(), len(rest[-1]) // 2 if has_body else 0
+    if word == "flush":
+        sectors = sum(int(call.args[-1]) < layout.first() for call in named(calls, "pwrite64"))
+        return f"flush of {int(answer.split()[1])}" + (", over two sectors of headers" if sectors == 2 else ""), body_of(before)
+    return word, body_of(line)
 
 
 def lines_of(calls: list, answers: list) -> list:
@@ -89,8 +110,10 @@ def traced(bench, ground: Ground, word: str, text: bytes) -> list:
     made = [call for call in calls if call.name == "pwrite64"]
     expect("the writes", [(len(event.data), event.at) for event in writes], [tuple(map(int, call.args[-2:])) for call in made])
     lost = {id(call): uncovered(layout, event) for event, call in zip(writes, made)}
-    rows = zip(text.splitlines(), result.text.splitlines(), lines)
-    return [(kind_of(line, answer), mine, sum(lost.get(id(call), 0) for call in mine)) for line, answer, mine in rows]
+    asked = text.splitlines()
+    rows = zip(asked, [b"", *asked], result.text.splitlines(), lines)
+    return [(kind_of(layout, line, before, answer, mine), mine, sum(lost.get(id(call), 0) for call in mine))
+            for line, before, answer, mine in rows]
 
 
 def named(calls: list, *names: str) -> list:
@@ -120,7 +143,7 @@ def show_calls(bench, folder: str) -> None:
     if not has_strace():
         print("\nstrace isn't installed: the calls aren't counted")
         return
-    order = ["append", "reply", "block", "step, answered working", "step, the last", "checkpoint", "release", "prepare", "lookup", "read",
+    order = ["append", "stage", "flush", "reply", "block", "step, answered working", "step, the last", "checkpoint", "release", "prepare", "lookup", "read",
              "scrub"]
     for word in SIZES:
         seen = defaultdict(list)
@@ -130,5 +153,5 @@ def show_calls(bench, folder: str) -> None:
                 # The first line of each script isn't counted: it may take memory, of which later lines take none.
                 for kind, mine, lost in traced(bench, ground, word, text)[1:]:
                     seen[kind].append((mine, lost))
-        kinds = sorted(seen, key=lambda kind: (order.index(kind[0]), kind[1]))
+        kinds = sorted(seen, key=lambda kind: (order.index(kind[0] if kind[0] in order else "flush"), kind))
         show(f"Calls a line, layout `{word}`", HEAD, [row_of(kind, seen[kind]) for kind in kinds])

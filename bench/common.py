@@ -1,7 +1,9 @@
 """What the benches share: scripts and what they answer, fresh files, runs that are timed from outside, and tables."""
 
+import ctypes
 import os
 import statistics
+import struct
 import subprocess
 import sys
 import time
@@ -14,6 +16,8 @@ from tries import form
 from tries.form import CLIENT_REPLIES, GRID, SECTOR, WAL_PREPARES, Layout, Place
 
 CLUSTER = 7
+# Linux's number of sched_setattr on x86-64, the words of its record up to the slice, and the slice that is asked for, in nanoseconds.
+SET_SCHEDULING, SCHEDULING, SLICE = 314, struct.Struct("IIQiIQQQ"), 100_000
 
 
 class Spent(NamedTuple):
@@ -63,11 +67,17 @@ def open_answers():
 
 
 def first_in_line() -> None:
-    """Goes before other processes where that is allowed, so that a busy machine disturbs less."""
+    """Goes before other processes where that is allowed, so that a busy machine disturbs less.
+
+    A short slice has the kernel let it run as soon as what it waits for is there: else the process that runs then goes on for up to 4 ms.
+    """
     try:
         os.setpriority(os.PRIO_PROCESS, 0, -15)
     except OSError:
         pass
+    wanted = SCHEDULING.pack(SCHEDULING.size, 0, 0, os.getpriority(os.PRIO_PROCESS, 0), 0, SLICE, 0, 0)
+    # An older kernel knows no slice, and refuses or ignores it.
+    ctypes.CDLL(None).syscall(SET_SCHEDULING, 0, wanted, 0)
 
 
 class Bench(NamedTuple):

@@ -21,13 +21,15 @@ from yardstick import Yardstick, build
 
 import appends
 import calls
+import groups
 import growth
 import opens
+import rooms
 import waits
 import workload
 from tries import arguments
 
-TABLES = ("calls", "appends", "opens", "workload", "waits", "growth")
+TABLES = ("calls", "appends", "opens", "workload", "waits", "growth", "groups", "rooms")
 
 
 def wanted() -> argparse.Namespace:
@@ -59,6 +61,8 @@ def main() -> None:
             "workload": lambda: workload.show_workload(bench, grounds),
             "waits": lambda: waits.show_waits(bench, grounds),
             "growth": lambda: growth.show_growth(bench, grounds[0]),
+            "groups": lambda: groups.show_groups(bench, grounds),
+            "rooms": lambda: rooms.show_rooms(bench, grounds[0]),
         }
         for name in given.tables:
             start = time.monotonic()

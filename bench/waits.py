@@ -1,10 +1,9 @@
 """How long a client waits for an answer while checkpoints go on: a bounded piece of one behind each line, or a whole one now and then."""
 
 import statistics
-import subprocess
-import time
 
-from common import Bench, Ground, begin, done, first_in_line, join, show, trailer_of, working
+from asked import Asked
+from common import Bench, Ground, begin, done, join, show, trailer_of, working
 from tries.binary import require
 from tries.form import SMALL
 
@@ -33,27 +32,16 @@ def with_checkpoints(listed: list) -> list:
 
 def waits(bench: Bench, ground: Ground, words: list, listed: list) -> list:
     """The microseconds from each line to the end of its answer, in one session over a fresh file."""
-    path = bench.make(ground, SMALL)
-    pipe = subprocess.PIPE
-    process = subprocess.Popen([bench.program, path, *words], stdin=pipe, stdout=pipe, bufsize=0, preexec_fn=first_in_line)
     seen = []
-    try:
+    with Asked([bench.program, bench.make(ground, SMALL), *words]) as session:
         # The first answer shows that the file is open.
-        for lines, answers in [(b"prepare 0\n", 1), *listed]:
-            start = time.perf_counter()
-            process.stdin.write(lines)
-            text = b""
-            while text.count(b"\n") < answers:
-                piece = process.stdout.read(65536)
-                require("the program answers", bool(piece))
-                text += piece
-            seen.append((time.perf_counter() - start) * 1e6)
-            require(f"nothing but the first line is refused: {text!r}", b"refused" not in text or len(seen) == 1)
-        process.stdin.close()
-        require("the program ends", process.wait(60) == 0)
-    finally:
-        process.kill()
-    return seen[1:]
+        session.ask(b"prepare 0\n", 1)
+        for lines, answers in listed:
+            spent, text = session.ask(lines, answers)
+            require(f"nothing is refused: {text!r}", b"refused" not in text)
+            seen.append(spent * 1e6)
+        session.end()
+    return seen
 
 
 def row_of(bench: Bench, ground: Ground, name: str, words: list, listed: list) -> list:

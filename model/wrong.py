@@ -237,9 +237,36 @@ class Machine(wrong_scrub.Machine):
             return f"BodyTooLong max {self.layout.body_max()}"
         if has("a new client's request may be any") and word == "RequestOrder" and self.place_of(client) is None:
             return None
+        if has("an append passes over what is staged") and word == "Staged":
+            return None
         if has("the ring is full at 32") and not why and self.head() == 32:
             return "WalFull op 33 checkpoint_op 0"
         return None if skipped and has(skipped) else why
+
+    def request_refusal(self, head: int, sessions: dict, client: int, request: int, body: bytes) -> Optional[str]:
+        if has("a staged client may stage again") and any(client == one[0] for one in self.staged):
+            return None
+        return super().request_refusal(head, sessions, client, request, body)
+
+    def flush(self) -> list:
+        if has("nothing is flushed without a word") and not self.staged:
+            return [Event("answer", data=b"flushed 0\n")]
+        return super().flush()
+
+    def grouped(self, requests: list) -> list:
+        if len(requests) > 1 and has("a flush appends one by one"):
+            one_by_one = super().grouped
+            return [event for request in requests for event in one_by_one([request])]
+        events = super().grouped(requests)
+        synced = events.index(SYNC)
+        writes, headers = events[:synced], events[synced + 1 : -1]
+        if len(requests) > 1 and has("a group has one sync"):
+            return [*writes, *headers, SYNC]
+        if len(requests) > 1 and has("the headers of a group come first"):
+            return [*headers, SYNC, *writes, SYNC]
+        if len(headers) > 1 and has("the last header sector of a group isn't written"):
+            return [*writes, SYNC, *headers[:-1], SYNC]
+        return events
 
     def append(self, client: int, request: int, body: bytes) -> list:
         marked, durable = self.replies, self.durable

@@ -223,17 +223,26 @@ WORDS = (
     "the loop begins without a root",
     "the work comes before the answer",
 )
+GROUPS = (
+    "a flush appends one by one",
+    "a group has one sync",
+    "the headers of a group come first",
+    "the last header sector of a group isn't written",
+    "a staged client may stage again",
+    "an append passes over what is staged",
+    "nothing is flushed without a word",
+)
 BUG = os.environ.get("BUG", "")
 
 
 def has(name: str) -> bool:
     """Whether this is the bug that was asked for."""
-    assert name in (*NAMES, *BLOCKS, *WORDS), name
+    assert name in (*NAMES, *BLOCKS, *WORDS, *GROUPS), name
     return name == BUG
 
 
 def refuse_unknown() -> None:
     """Ends the program where the bug that is asked for isn't one of these."""
-    there = NAMES + (BLOCKS if knows("blocks") else ()) + (WORDS if knows("all") else ())
+    there = NAMES + (BLOCKS if knows("blocks") else ()) + (WORDS if knows("all") else ()) + (GROUPS if knows("groups") else ())
     if BUG and BUG not in there:
         sys.exit(f"no such bug: {BUG}; those that there are:\n" + "\n".join(there))

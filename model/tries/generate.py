@@ -103,16 +103,17 @@ def any_number(random: Random, high: int) -> int:
 
 
 def appends(m: Machine) -> list:
-    """The clients that may append now with their next requests; client 0 stands for one that is new."""
-    if m.head() - m.replies == recovery.PIPELINE or m.head() in (m.durable.op + m.layout.slots, form.LIMIT):
+    """The clients that may append or stage now with their next requests; client 0 stands for one that is new."""
+    head, sessions = m.counted()
+    if head - m.replies == recovery.PIPELINE or head in (m.durable.op + m.layout.slots, form.LIMIT):
         return []
-    known = [(one.client, one.request + 1) for one in m.sessions if one.op <= m.replies and one.request < form.LIMIT]
-    return known + [(0, 1)] * (len(m.sessions) < m.layout.clients)
+    known = [(one.client, one.request + 1) for one in sessions.values() if one.op <= m.replies and one.request < form.LIMIT]
+    return known + [(0, 1)] * (len(sessions) < m.layout.clients)
 
 
 def new_client(random: Random, m: Machine) -> int:
     """A client without a session, most often of a small number."""
-    taken = {one.client for one in m.sessions}
+    taken = m.counted()[1]
     while True:
         client = random.randint(1, 80) if random.random() < 0.7 else one_of(random, 1, 2**128 - 1)
         if client not in taken:
@@ -126,10 +127,13 @@ def good(random: Random, m: Machine, most: Optional[int] = None) -> bytes:
     more = generate_grid.good(random, m, most) if random.random() < (0.4 if may or waits else 1) else None
     if more:
         return more
+    if m.staged and random.random() < (0.3 if may or waits else 1):
+        return b"flush"
     data = body(random, m.layout)[:most]
     if may and (not waits or random.random() < 0.55):
         client, request = random.choice(may)
-        return b"append %d %d %s" % (client or new_client(random, m), request, spelled(random, data))
+        word = b"stage" if m.staged or knows("groups") and random.random() < 0.5 else b"append"
+        return b"%s %d %d %s" % (word, client or new_client(random, m), request, spelled(random, data))
     return b"reply %d %s" % (m.replies + 1, spelled(random, data)) if waits else reading(random, m)
 
 
@@ -155,7 +159,7 @@ def refused(random: Random, m: Machine) -> bytes:
     long = b"00" * (m.layout.body_max() + random.choice((0, 1, 2)))
     known = random.choice(m.sessions) if m.sessions else recovery.Session(5, 1, 1)
     client, request = known.client, known.request
-    return random.choice((
+    line = random.choice((
         b"append %d %d %s" % (client, request, data), b"append %d %d %s" % (client, request + 1, data),
         b"append %d %d %s" % (client, request + 2, data), b"append %d %d %s" % (client, max(0, request - 1), data),
         b"append %d 1 %s" % (new_client(random, m), data), b"append %d 2 -" % new_client(random, m),
@@ -166,6 +170,9 @@ def refused(random: Random, m: Machine) -> bytes:
         b"reply %d %s" % (m.replies + 1, data), b"reply %d " % m.replies + long,
         b"reply %d -" % any_number(random, 2**64 - 1), reading(random, m), reading(random, m),
     ))
+    if knows("groups") and line.startswith(b"append ") and random.random() < 0.5:
+        return random.choice((b"flush", line.replace(b"append", b"stage")))
+    return line
 
 
 def line_of(random: Random, m: Machine, odds: float, most: Optional[int] = None) -> bytes:

@@ -2,12 +2,14 @@
 
 from random import Random
 
-from . import form, generate, recovery, units
-from .common import Try, session
+from . import form, generate, recovery, script, units
+from .common import Try, reopen, session
 from .damage import look, outcome_of
 from .forge import boot_of, put
 from .form import HEADER, SECTOR, Place
+from .knows import knows
 from .machine import Machine
+from .stops import left as torn_write
 
 # What is left of a prepare: it and its header, the prepare alone, the header alone, or nothing.
 ALL, PREPARE, TOLD, NOTHING = range(4)
@@ -110,4 +112,34 @@ def grouped(t: Try) -> None:
     session(t, "a group, once more", data, generate.good_script(random, data, 3))
 
 
-KINDS = {"grouped": (grouped, 8)}
+def staged(random: Random, m: Machine) -> list:
+    """Lines that stage one to eight requests, as many as the file has room for."""
+    waiting, slots = m.head() - m.replies, m.durable.op + m.layout.slots - m.head()
+    known = sum(one.op <= m.replies for one in m.sessions) + m.layout.clients - len(m.sessions)
+    count = min(random.choice((1, 2, 2, 3, 3, 4, 5, 8)), recovery.PIPELINE - waiting, slots, known)
+    bodies = [generate.body(random, m.layout) if random.random() < 0.3 else b"" for _ in range(count)]
+    return [b"stage %d %d %s" % (*who, body.hex().encode() or b"-") for who, body in zip(askers(random, m, count), bodies)]
+
+
+def flushed(t: Try) -> None:
+    """A flush of up to eight requests, stopped before each of its syncs with every subset of what is loose there as it was written."""
+    data = generate.image(t.random, 31, generate.home(t.random))
+    lines = staged(t.random, generate.machine_of(data))
+    start = len(script.run(data, generate.text_of(t.random, lines)).events)
+    wanted = script.run(data, generate.text_of(t.random, [*lines, b"flush"]))
+    loose, base = [], script.state(data, wanted.events[:start])
+    for upto, event in enumerate(wanted.events[start:], start + 1):
+        if event.kind == "write":
+            loose.append(event)
+        elif event.kind == "sync":
+            for subset in range(2 ** len(loose)):
+                image = base
+                for at, write in enumerate(loose):
+                    image = script.state(image, [write]) if subset >> at & 1 else torn_write(t, image, write)
+                t.binary.put(image)
+                reopen(t, f"a flush of {len(lines)}, {subset:b} of {len(loose)}", wanted.kept(upto - 1), image)
+            base, loose = script.state(data, wanted.events[:upto]), []
+    t.counts[f"flushes of {len(lines)} that were stopped in every way"] += 1
+
+
+KINDS = {"grouped": (grouped, 8), **({"flushed": (flushed, 2)} if knows("groups") else {})}

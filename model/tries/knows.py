@@ -1,12 +1,12 @@
 """What the program that is tried knows: the log alone, blocks and checkpoints too, the scrubber's lines and the reports `recover` and
-`inspect` too, or every line and word."""
+`inspect` too, every word and every line but those of groups, or these too."""
 
 import argparse
 import os
 
-LEVELS = ("log", "blocks", "reports", "all")
+LEVELS = ("log", "blocks", "reports", "all", "groups")
 # What the program of this repository knows today.
-TODAY = "all"
+TODAY = "groups"
 
 
 def take(words: list) -> None:

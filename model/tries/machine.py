@@ -22,6 +22,8 @@ class Machine(Grid):
         # That of the superblock as it was found; an open raises it, and in the next one units are made.
         self.boot = self.found_boot = opened.content.boot
         self.image = image
+        # The requests that the next flush appends: client, request and body of each.
+        self.staged: list = []
         # The offsets that were read, in order.
         self.reads: list = []
         self.start(view.checkpoint)
@@ -71,15 +73,27 @@ class Machine(Grid):
     def too_long(self, body: bytes) -> bool:
         return len(body) > self.layout.body_max()
 
+    def counted(self) -> tuple:
+        """The head and the sessions, as if what is staged were appended."""
+        head, sessions = self.head(), {one.client: one for one in self.sessions}
+        for client, request, _ in self.staged:
+            head += 1
+            sessions[client] = recovery.Session(client, request, head)
+        return head, sessions
+
     def append_refusal(self, client: int, request: int, body: bytes) -> Optional[str]:
         """Why an append is refused: the first of these that holds."""
-        place, head = self.place_of(client), self.head()
-        last = None if place is None else self.sessions[place]
+        why = self.request_refusal(self.head(), {one.client: one for one in self.sessions}, client, request, body)
+        return why or (f"Staged count {len(self.staged)}" if self.staged else None)
+
+    def request_refusal(self, head: int, sessions: dict, client: int, request: int, body: bytes) -> Optional[str]:
+        """Why a request isn't taken behind this head and these sessions."""
+        last = sessions.get(client)
         if client == 0:
             return "ClientZero"
         if self.too_long(body):
             return f"BodyTooLong max {self.layout.body_max()}"
-        if last is None and len(self.sessions) == self.layout.clients:
+        if last is None and len(sessions) == self.layout.clients:
             return f"ClientsFull max {self.layout.clients}"
         if last and last.op <= self.replies and request == last.request:
             return f"Repeated op {last.op}"
@@ -99,17 +113,38 @@ class Machine(Grid):
         why = self.append_refusal(client, request, body)
         if why:
             return refused(why)
-        op = self.head() + 1
-        one = units.prepare(
-            self.home, self.boot, self.last_checksum(), client, op, request, body, self.replies, self.durable.sequence
-        )
-        self.tail.append(one)
-        self.waiting[op] = one.checksum
-        self.sessions = recovery.after(self.sessions, one)
-        slot = op % self.layout.slots
-        self.table[slot] = one.header
-        write = Event("write", self.layout.place(op), form.whole_sectors(one.encode()))
-        return [write, SYNC, self.header_sector(slot), SYNC, answer(f"appended {op}")]
+        return self.grouped([(client, request, body)]) + [answer(f"appended {self.head()}")]
+
+    def stage(self, client: int, request: int, body: bytes) -> list:
+        """The request is kept for the next flush."""
+        why = self.request_refusal(*self.counted(), client, request, body)
+        if why:
+            return refused(why)
+        self.staged.append((client, request, body))
+        return [answer(f"staged {self.head() + len(self.staged)}")]
+
+    def flush(self) -> list:
+        """What is staged is appended as one group."""
+        if not self.staged:
+            return refused("NothingStaged")
+        requests, self.staged = self.staged, []
+        return self.grouped(requests) + [answer(f"flushed {len(requests)}")]
+
+    def grouped(self, requests: list) -> list:
+        """The prepares of a group are written, in order of op, and synced, and then the sectors of their headers."""
+        first, writes, slots = self.head() + 1, [], []
+        for client, request, body in requests:
+            op = self.head() + 1
+            one = units.prepare(self.home, self.boot, self.last_checksum(), client, op, request, body, self.replies,
+                                self.durable.sequence, (first, first + len(requests) - 1))
+            self.tail.append(one)
+            self.waiting[op] = one.checksum
+            self.sessions = recovery.after(self.sessions, one)
+            slots.append(op % self.layout.slots)
+            self.table[slots[-1]] = one.header
+            writes.append(Event("write", self.layout.place(op), form.whole_sectors(one.encode())))
+        sectors = list(dict.fromkeys(slot // form.HEADERS for slot in slots))
+        return [*writes, SYNC, *(self.header_sector(sector * form.HEADERS) for sector in sectors), SYNC]
 
     def header_sector(self, slot: int) -> Event:
         """The write of the sector that has a slot's header, whole from the table."""

@@ -2,7 +2,7 @@
 
 from functools import lru_cache
 
-from . import checkpoint_rows, copy_rows, form, recovery, report_rows, script, superblock, units
+from . import checkpoint_rows, copy_rows, form, group_rows, recovery, report_rows, script, superblock, units
 from .binary import expect
 from .common import Try, asked, session
 from .copy_rows import A5, BLANK, FIRST, HOME, TOP, file_of, four
@@ -230,7 +230,7 @@ ROWS = (
 def listed() -> list:
     """The rows for what the program knows."""
     more = [*(checkpoint_rows.rows() if knows("blocks") else copy_rows.WITHOUT_CHECKPOINTS)]
-    return [*ROWS, *more, *(report_rows.rows() if knows("reports") else [])]
+    return [*ROWS, *more, *(report_rows.rows() if knows("reports") else []), *(group_rows.rows() if knows("groups") else [])]
 
 
 def rows(t: Try) -> None:

@@ -29,9 +29,12 @@ if knows("blocks"):
     }
 if knows("reports"):
     LINES |= {"scrub": (re.compile(rb"scrub"), ()), "recent": (re.compile(rb"recent"), ())}
-# For each line that changes what is kept, with how many of its events that may be found after a stop, and with how many it is
-# durable: a prepare or a reply with its own write and the sync behind it, a checkpoint with copy 1.
-KEEPS = {"append": (1, 2), "reply": (1, 2), "step": (4, 5)}
+if knows("groups"):
+    LINES |= {
+        "stage": (re.compile(rb"stage %s %s %s" % (NUMBER_OF_LINE, NUMBER_OF_LINE, BODY)), (128, 64)),
+        "flush": (re.compile(rb"flush"), ()),
+    }
+KEEPS = ("append", "flush", "reply", "step")
 DONE, FOUND, WORDS, SCRIPT, REFUSED = 0, 1, 2, 3, 4
 
 
@@ -180,12 +183,18 @@ def quietly(machine: Machine, line: tuple, events: list, spans: list) -> bytes:
     return events.pop().data
 
 
+def found_with(word: str, events: list) -> int:
+    """With how many of a line's events what it keeps may be found after a stop; it is durable with one more: prepares and a reply with
+    all of their own writes and the sync behind them, a checkpoint with copy 1."""
+    return 4 if word == "step" else events.index(SYNC)
+
+
 def does(machine: Machine, line: tuple, events: list, spans: list) -> list:
     """One line: its events go behind those before it, and the view after it where it changes what is kept."""
     more = machine.line(line)
     if line[0] in KEEPS and len(more) > 2:
-        first, last = KEEPS[line[0]]
-        spans.append((machine.view(), len(events) + first, len(events) + last))
+        first = found_with(line[0], more)
+        spans.append((machine.view(), len(events) + first, len(events) + first + 1))
     events += more
     return more
 

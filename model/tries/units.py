@@ -166,17 +166,20 @@ def in_boot(f: dict, boot: int) -> dict:
     return dict(f, version=2, boot=0 if f["kind"] == RESERVED else boot, group=group, group_last=group)
 
 
-def made(f: dict, boot: int, body: bytes) -> Unit:
-    """The unit of these fields that is made in a boot."""
-    whole = seal(in_boot(f, boot), body)
-    return Unit(whole[:HEADER], body)
+def made(f: dict, boot: int, body: bytes, group: Optional[tuple] = None) -> Unit:
+    """The unit of these fields that is made in a boot; a prepare may be of the group with these ops."""
+    fields = in_boot(f, boot)
+    if group:
+        fields["group"], fields["group_last"] = group
+    return Unit(seal(fields, body)[:HEADER], body)
 
 
-def prepare(home: Home, boot: int, parent: bytes, client: int, op: int, request: int, body: bytes, mark: int, checkpoint: int) -> Unit:
-    """A prepare, which is a group by itself."""
+def prepare(home: Home, boot: int, parent: bytes, client: int, op: int, request: int, body: bytes, mark: int, checkpoint: int,
+            group: Optional[tuple] = None) -> Unit:
+    """A prepare, of the group with these ops, or of one by itself."""
     f = fields_of(home, PREPARE, body, parent=parent, client=number(client), op=op, request=request, mark=mark,
                   checkpoint=checkpoint, slot=op % home.layout.slots)
-    return made(f, boot, body)
+    return made(f, boot, body, group)
 
 
 def reply(home: Home, boot: int, parent: bytes, session, place: int, body: bytes, mark: int, checkpoint: int) -> Unit:

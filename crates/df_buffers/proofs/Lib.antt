@@ -1,4 +1,5 @@
 pub mod Finds
 pub mod Making
+pub mod Bodies
 pub mod Probes
 pub mod Laws

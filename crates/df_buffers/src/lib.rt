@@ -1,7 +1,9 @@
-//! Rooms for units: raw ones that hold any bytes, and sound ones whose bytes are a unit that is valid at its own place.
+//! Rooms for units: raw ones that hold any bytes, filled ones with a body that waits for its header, and sound ones whose bytes are a unit that is
+//! valid at its own place.
 #![tactic(auto)]
 
 mod copies;
+mod filled;
 mod find;
 mod headers;
 mod identity;
@@ -13,6 +15,7 @@ mod raw;
 mod slots;
 mod sound;
 
+pub use filled::Filled;
 pub use identity::{Identity, Wanted};
 pub use kinds::{Block, HeaderSector, Prepare, Reply, RoomKind, SuperSector, Trailer, UnitKind};
 pub use probe::ProbeRoom;

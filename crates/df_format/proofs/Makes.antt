@@ -1,6 +1,7 @@
 -- What is made is a unit, and its sectors stand at the front of the buffer.
 use Rattle.std.proofs.Common.{inl, inr, ◌≡◌, ℕ, ◌+◌, ◌-◌, ◌≤◌, List, [], ◌++◌, length, take, drop, replicate, refl, sym, ◌∙◌, ap, subst, arith}
-use Rattle.std.proofs.lemmas.List.{drop-drop}
+use Rattle.std.proofs.lemmas.List.{drop-drop, drop-take, drop_at, length-take-le}
+use Rattle.std.proofs.Math.Seq.{take-add}
 use Rattle.df_base.specs.Fields.{AreBytes}
 use Rattle.df_format.specs.declared.header.Header.{Header}
 use Rattle.df_format.specs.Spelling.{spelling, spelling_rest, sealed, tail_of}
@@ -66,6 +67,16 @@ pub further : (a b : ℕ) (xs ys : List ℕ) → a ≤ b → drop a xs ≡ drop 
 further a b xs ys order same =
     let there : a + (b - a) ≡ b = omega arith in
     ap (λ (n : ℕ). drop n xs) (sym there) ∙ sym (drop-drop (b - a) a xs) ∙ ap (λ (l : List ℕ). drop (b - a) l) same ∙ drop-drop (b - a) a ys ∙ ap (λ (n : ℕ). drop n ys) there
+
+-- a body behind the place of a header stays there when the header is written
+pub body_behind : (count : ℕ) (old new : List ℕ) → drop 256 new ≡ drop 256 old → take (256 + count) new ≡ take 256 new ++ take count (drop 256 old)
+body_behind count old new rest = take-add 256 count new ∙ ap (λ (l : List ℕ). take 256 new ++ take count l) rest
+
+-- and is what was put there
+pub body_put : (body old new : List ℕ) → 256 ≤ length old → take (256 + length body) new ≡ take 256 old ++ body → take (length body) (drop 256 new) ≡ body
+body_put body old new room front =
+    let size : length (take 256 old) ≡ 256 = length-take-le 256 old room in
+    sym (drop-take 256 (length body) new) ∙ ap (drop 256) front ∙ drop_at (take 256 old) body 256 size
 
 -- header, body and zeros, one behind the other
 pub sectors_made : (p : Message) (s1 s2 s3 : List ℕ) (end : ℕ) → take 256 s1 ≡ spelling p.header → take (256 + length p.body) s2 ≡ take 256 s1 ++ p.body

@@ -24,7 +24,7 @@ pub use copy_laws::{
 pub use decode::decode_unit;
 pub use header::{Header, NO_CHECKSUM, NO_CHECKSUMS};
 pub use kind::Kind;
-pub use make::{Made, make_unit};
+pub use make::{Made, make_unit, seal_unit};
 pub use own::own_place;
 pub use reference::Reference;
 pub use super_codec::{decode_copy, decode_own_copy, encode_copy};

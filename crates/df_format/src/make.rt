@@ -1,5 +1,6 @@
 // Units as they are made at the front of a buffer: header, body, and zeros up to the last whole sector.
 ghost use Rattle.std.specs.Prelude.{◌≡◌, ◌+◌, ◌-◌, ◌*◌, ◌/◌, ◌≤◌, length, take, drop};
+ghost use Rattle.df_base.specs.Fields.{AreBytes};
 ghost use Rattle.df_format.specs.Spelling.{spelling, sealed};
 ghost use Rattle.df_format.specs.Rules.{IsSealed, ObeysRules};
 ghost use Rattle.df_format.specs.Message.{sectors_end, sectors_of};
@@ -36,22 +37,34 @@ fn put_header(into: &mut [u8], header: &Header)
     encode_header(header, &mut into[..HEADER]);
 }
 
-// Writes header, body and zeros up to the end of a sector, and gives that end.
-fn write_sectors(header: &Header, body: &[u8], into: &mut [u8]) -> usize
+// Writes the header before a body of this length that stands behind its place, and zeros up to the end of a sector, and gives that end.
+fn write_ends(header: &Header, count: usize, into: &mut [u8]) -> usize
     requires header { IsSealed header.now }
-    requires room { sectors_end (256 + length body.now) ≤ length into.old }
-    requires size { 256 + length body.now ≤ 1048576 }
-    ensures length { result ≡ sectors_end (256 + length body.now) }
-    ensures sectors { take result into.new ≡ sectors_of (record { header = header.now; body = body.now }) }
+    requires room { sectors_end (256 + count) ≤ length into.old }
+    requires size { 256 + count ≤ 1048576 }
+    ensures length { result ≡ sectors_end (256 + count) }
+    ensures sectors { take result into.new ≡ sectors_of (record { header = header.now; body = take count (drop 256 into.old) }) }
     ensures rest { drop result into.new ≡ drop result into.old }
 {
-    let size = HEADER + body.len();
+    let size = HEADER + count;
     let end = sectors_end(size);
     put_header(into, header);
-    put_bytes(into, HEADER, body);
     put_zeros(into, size, end);
     end
 }
+
+// The body that stands behind the place of a header.
+fn body_in(bytes: &[u8], count: usize) -> &[u8]
+    requires { 256 + count ≤ length bytes.now }
+    ensures { result.now ≡ take count (drop 256 bytes.now) }
+{
+    &bytes[HEADER..HEADER + count]
+}
+
+// The bytes of a buffer are bytes, as its type says.
+fn are_bytes(bytes: &[u8])
+    ensures { AreBytes bytes.now }
+{}
 
 // The header with the fields that follow from the body.
 fn for_body(header: Header, body: &[u8]) -> Header
@@ -63,6 +76,27 @@ fn for_body(header: Header, body: &[u8]) -> Header
         size: (HEADER + body.len()) as u32,
         ..header
     }
+}
+
+/// Makes a unit of any kind of the body that stands at the front of a buffer, behind the place of a header: it sets the header's
+/// size and checksums, writes the header, and zeros up to the last whole sector, and leaves the rest of the buffer. The body has
+/// `count` bytes.
+pub fn seal_unit(header: Header, count: usize, into: &mut [u8]) -> Made
+    requires rules { ObeysRules (for_body header (take count (drop 256 into.old))) }
+    requires size { 256 + count ≤ 1048576 }
+    requires room { sectors_end (256 + count) ≤ length into.old }
+    ensures header { result.header ≡ sealed (for_body header (take count (drop 256 into.old))) }
+    ensures length { result.length ≡ sectors_end (256 + count) }
+    ensures sealed { IsSealed result.header }
+    ensures unit { MadeIsUnit (record { header = result.header; body = take count (drop 256 into.old) }) }
+    ensures sectors { take result.length into.new ≡ sectors_of (record { header = result.header; body = take count (drop 256 into.old) }) }
+    ensures rest { drop result.length into.new ≡ drop result.length into.old }
+{
+    let body = body_in(into, count);
+    are_bytes(body);
+    let header = seal_header(for_body(header, body));
+    let length = write_ends(&header, count, into);
+    Made { header, length }
 }
 
 /// Makes a unit of any kind with this body at the front of a buffer: it sets the header's size and checksums, writes
@@ -78,7 +112,6 @@ pub fn make_unit(header: Header, body: &[u8], into: &mut [u8]) -> Made
     ensures sectors { take result.length into.new ≡ sectors_of (record { header = result.header; body = body.now }) }
     ensures rest { drop result.length into.new ≡ drop result.length into.old }
 {
-    let header = seal_header(for_body(header, body));
-    let length = write_sectors(&header, body, into);
-    Made { header, length }
+    put_bytes(into, HEADER, body);
+    seal_unit(header, body.len(), into)
 }

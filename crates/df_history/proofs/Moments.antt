@@ -73,15 +73,15 @@ rests_still sh log v rests s x (inr written) = absurd ((rests.calm (PreparePlace
 abbrev pub PutsNone : Units → Type 0
 PutsNone put = (s : ℕ) → put (PreparePlace s) ≡ None
 
-abbrev pub AllPutNone : List Step → Type 0
-AllPutNone [] = Unit {0}
-AllPutNone ((Puts put) ∷ ss) = PutsNone put × AllPutNone ss
-AllPutNone (Syncs ∷ ss) = AllPutNone ss
-
 still_put : (log : UnitLog) (put : Units) → PutsNone put → IsStill log → IsStill (wrote put log)
 still_put log put none still s x (inl shown) = still s x (inl (ap (λ (o : Option AnyUnit). or_else o (now log (PreparePlace s))) (sym (none s)) ∙ shown))
 still_put log put none still s x (inr (inl new)) = absurd (let both : None ≡ Some x = sym (none s) ∙ new in cc)
 still_put log put none still s x (inr (inr old)) = still s x (inr old)
+
+abbrev pub AllPutNone : List Step → Type 0
+AllPutNone [] = Unit {0}
+AllPutNone ((Puts put) ∷ ss) = PutsNone put × AllPutNone ss
+AllPutNone (Syncs ∷ ss) = AllPutNone ss
 
 still_sync : (log : UnitLog) → IsStill log → IsStill (add Synced log)
 still_sync log still s x (inl shown) = inl shown

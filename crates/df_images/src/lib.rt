@@ -10,7 +10,7 @@ pub use calls::{
     served_file,
 };
 pub use df_replica::{
-    AppendError, BeginError, BlockError, FormatError, LookupError, NotLive, OpenError,
+    AppendError, BeginError, BlockError, FlushError, FormatError, LookupError, NotLive, OpenError,
     PrepareError, Progress, ReadError, Replica, ReplyError, Rooms, StepError,
 };
 pub use files::{

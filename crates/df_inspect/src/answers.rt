@@ -11,13 +11,13 @@ ghost use Rattle.df_inspect.specs.Prints.{Prints};
 use crate::blocks::scrubbed_line;
 use crate::line::{Line, number_line, text_line, write_line};
 use crate::refusals::{
-    append_refusal, begin_refusal, block_refusal, lookup_refusal, prepare_refusal, read_refusal,
-    reply_refusal, step_refusal,
+    append_refusal, begin_refusal, block_refusal, flush_refusal, lookup_refusal, prepare_refusal,
+    read_refusal, reply_refusal, step_refusal,
 };
 use df_base::{Check, Failed, Sink};
 use df_model::{
-    Answer, AppendError, BeginError, BlockError, Command, NotLive, Progress, Receipt, Reference,
-    ReplyError, StepError,
+    Answer, AppendError, BeginError, BlockError, Command, FlushError, NotLive, Progress, Receipt,
+    Reference, ReplyError, StepError,
 };
 
 /// What was answered to a command, or why it is refused. A failing disk has no line, nor has a unit that was read, which prints itself.
@@ -33,6 +33,8 @@ fn answer_line(command: &Command, answer: &Answer) -> Line
 {
     match *answer {
         Answer::Append(answer) => append_line(answer),
+        Answer::Stage(answer) => stage_line(answer),
+        Answer::Flush(answer) => flush_line(answer),
         Answer::Reply(answer) => reply_line(op_in(command), answer),
         Answer::WriteBlock(answer) => wrote_line(answer),
         Answer::Release(answer) => release_line(address_in(command), answer),
@@ -76,6 +78,26 @@ fn append_line(answer: Result<Receipt, AppendError>) -> Line
     match answer {
         Ok(receipt) => number_line("appended", u128::from(receipt.op)),
         Err(error) => append_refusal(error),
+    }
+}
+
+// `staged OP`: the op that the request is to get.
+fn stage_line(answer: Result<u64, AppendError>) -> Line
+    ensures { (c : Asked) → result.items ≡ text_of c (answers.Stage answer) }
+{
+    match answer {
+        Ok(op) => number_line("staged", u128::from(op)),
+        Err(error) => append_refusal(error),
+    }
+}
+
+// `flushed COUNT`: how many prepares were appended.
+fn flush_line(answer: Result<u64, FlushError>) -> Line
+    ensures { (c : Asked) → result.items ≡ text_of c (answers.Flush answer) }
+{
+    match answer {
+        Ok(count) => number_line("flushed", u128::from(count)),
+        Err(error) => flush_refusal(error),
     }
 }
 

@@ -1,13 +1,13 @@
 // The lines that say why a command is refused: the name of the cause and its numbers. A failing disk has no line.
 ghost use Rattle.std.specs.Prelude.{◌≡◌};
 ghost use Rattle.df_model.specs.declared.errors.AppendError.TheVariants as append;
-ghost use Rattle.df_script_model.specs.Texts.{append_refusal, begin_refusal, block_refusal, lookup_refusal, prepare_refusal, read_refusal, reply_refusal, step_refusal};
+ghost use Rattle.df_script_model.specs.Texts.{append_refusal, begin_refusal, block_refusal, flush_refusal, lookup_refusal, prepare_refusal, read_refusal, reply_refusal, step_refusal};
 
 use crate::line::{Line, number_line, text_line, two_numbers_line};
 use crate::names::damaged_line;
 use df_model::{
-    AppendError, BeginError, BlockError, LookupError, PrepareError, ReadError, ReplyError,
-    StepError,
+    AppendError, BeginError, BlockError, FlushError, LookupError, PrepareError, ReadError,
+    ReplyError, StepError,
 };
 
 /// Why a prepare isn't appended.
@@ -29,6 +29,7 @@ pub(crate) fn append_refusal(error: AppendError) -> Line
         AppendError::WalFull { op, checkpoint_op } => wal_full_line(op, checkpoint_op),
         AppendError::OpsSpent => text_line("refused OpsSpent\n"),
         AppendError::DiskFault => text_line(""),
+        AppendError::Staged { count } => number_line("refused Staged count", u128::from(count)),
     }
 }
 
@@ -42,6 +43,16 @@ fn wal_full_line(op: u64, checkpoint_op: u64) -> Line
         "checkpoint_op",
         u128::from(checkpoint_op),
     )
+}
+
+/// Why what is staged isn't appended.
+pub(crate) fn flush_refusal(error: FlushError) -> Line
+    ensures { result.items ≡ flush_refusal error }
+{
+    match error {
+        FlushError::NothingStaged => text_line("refused NothingStaged\n"),
+        FlushError::DiskFault => text_line(""),
+    }
 }
 
 /// Why a reply isn't stored.

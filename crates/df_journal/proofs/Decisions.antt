@@ -18,7 +18,7 @@ use Rattle.df_format.specs.Valid.{IsInSlot, IsUnit}
 use Rattle.df_format.proofs.Laws.{valid_belongs}
 use Rattle.df_layout.specs.declared.places.Zone.TheVariants.{WalPrepares}
 use Rattle.df_theory.specs.Units
-use Rattle.df_theory.specs.Units.{AnyUnit, HeaderPlace, PreparePlace, PrepareUnit}
+use Rattle.df_theory.specs.Units.{AnyUnit, HeaderPlace, PreparePlace}
 use Rattle.df_units.specs.Meaning.{header_of, number_of}
 use Rattle.df_units.proofs.Laws.{one_number}
 use Rattle.df_theory.specs.Cases

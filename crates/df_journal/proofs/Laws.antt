@@ -5,5 +5,9 @@ pub use Rattle.df_journal.proofs.Moments.{append_moments, append_steps, ends_app
 pub use Rattle.df_journal.proofs.Ops.{one_op, op_of_slot}
 pub use Rattle.df_journal.proofs.Moments.{in_header_ring}
 pub use Rattle.df_group.proofs.Laws.{own_within}
--- ---- a sync behind what was told
-pub use Rattle.df_journal.proofs.RingWrites.{sync_adds}
+-- ---- a sync behind what was told, and one element of a list after the other
+pub use Rattle.df_journal.proofs.RingWrites.{drop_all, drop_from, sync_adds}
+-- ---- a flush
+pub use Rattle.df_journal.proofs.GroupTables.{AreIn, group_kept}
+pub use Rattle.df_journal.proofs.GroupWrites.{stands_at}
+pub use Rattle.df_journal.proofs.GroupMoments.{GroupPuts, are_in, flush_are_steps, flush_puts, group_ends}

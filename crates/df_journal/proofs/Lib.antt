@@ -1,5 +1,8 @@
 pub mod Counted
 pub mod Decisions
+pub mod GroupTables
+pub mod GroupWrites
+pub mod GroupMoments
 pub mod Moments
 pub mod Named
 pub mod Ops

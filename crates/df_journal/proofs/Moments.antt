@@ -7,7 +7,7 @@ use Rattle.std.proofs.lemmas.Bool.{cases_eq, cond-false, cond-true, eq-eqb, lt-l
 use Rattle.df_base.specs.declared.Failed.{Failed}
 use Rattle.df_base.specs.Image.{Image, IsImage, written}
 use Rattle.df_base.specs.Log
-use Rattle.df_base.specs.Log.{Event, IsLeft}
+use Rattle.df_base.specs.Log.{Event}
 use Rattle.df_base.proofs.Laws.{now_is_image, written_is_image, get_set}
 use Rattle.df_base.specs.Moments.{EachMoment, adds}
 use Rattle.df_disk.specs.Told.{Told}
@@ -110,9 +110,9 @@ append_steps layout u table own is bytes brings = (
 decided_above : (n b top : ℕ) (image : Units.Units) (o : ℕ) → top < o → decided n b top image o ≡ cut (seen_header b o (image (HeaderPlace (o % n)))) (decision n b image o)
 decided_above n b top image o above = cond-true (nat_lt top o) (cut (seen_header b o (image (HeaderPlace (o % n)))) (decision n b image o)) (decision n b image o) (lt-ltb top o above)
 
-stays : (layout : Layout) (cluster : ℕ) (named : 0 < cluster) (parse : ℕ → List ℕ → Option Units.Parts) (image : Image) (v u : View) → IsImage image → Held (shape_of layout cluster named parse) (unit_at layout cluster image) u
-    → u.checkpoint ≡ v.checkpoint → ((p : Units.Message) → In p v.tail → In p u.tail) → head v ≤ head u → head u ≤ head v + 1 → OthersStay (shape_of layout cluster named parse) (unit_at layout cluster image) v
-stays layout cluster named parse image v u whole held same tail low high =
+pub stays : (layout : Layout) (cluster : ℕ) (named : 0 < cluster) (parse : ℕ → List ℕ → Option Units.Parts) (image : Image) (v u : View) (count : ℕ) → IsImage image → Held (shape_of layout cluster named parse) (unit_at layout cluster image) u
+    → u.checkpoint ≡ v.checkpoint → ((p : Units.Message) → In p v.tail → In p u.tail) → head v ≤ head u → head u ≤ head v + count → OthersStay (shape_of layout cluster named parse) (unit_at layout cluster image) v count
+stays layout cluster named parse image v u count whole held same tail low high =
     let sh = shape_of layout cluster named parse in
     let units = unit_at layout cluster image in
     let found : IsFound sh units u = (found_law sh units u).0 held in
@@ -143,8 +143,8 @@ module _ (layout : Layout) (u : Message) (table : List Header) (t : Told) (may :
       record {
         good = good;
         others = λ image left chance. elim (good.left image left chance) [
-          | inl before ↦ stays layout u.header.cluster may.named may.parse image may.view may.view left.whole before refl (λ p is. is) (omega arith) (omega arith)
-          | inr behind ↦ stays layout u.header.cluster may.named may.parse image may.view (appended may.view (message_of u ∷ [])) left.whole behind refl (λ p is. in_front p may.view.tail (message_of u ∷ []) is) (omega (arith, more)) (omega (arith, more))
+          | inl before ↦ stays layout u.header.cluster may.named may.parse image may.view may.view 1 left.whole before refl (λ p is. is) (omega arith) (omega arith)
+          | inr behind ↦ stays layout u.header.cluster may.named may.parse image may.view (appended may.view (message_of u ∷ [])) 1 left.whole behind refl (λ p is. in_front p may.view.tail (message_of u ∷ []) is) (omega (arith, more)) (omega (arith, more))
         ];
       }
 

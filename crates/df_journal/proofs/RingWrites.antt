@@ -41,19 +41,19 @@ pub record LeadsAs (all rest : List Event) (old mid : Option Told) : Type 0 wher
 pub leads_first : (all : List Event) (old : Option Told) → LeadsAs all all old old
 leads_first all old = record { whole = refl; part = λ new part. part }
 
-leads_more : (all es fs : List Event) (old mid new : Option Told) → LeadsAs all (es ++ fs) old mid → new ≡ after_all es mid → LeadsAs all fs old new
+pub leads_more : (all es fs : List Event) (old mid new : Option Told) → LeadsAs all (es ++ fs) old mid → new ≡ after_all es mid → LeadsAs all fs old new
 leads_more all es fs old mid new before turn = record {
   whole = ap (after_all fs) turn ∙ sym (after_append es fs mid) ∙ before.whole;
   part = λ later part. before.part later (all_then es fs mid new later turn part);
 }
 
 -- the elements from one on are it and those behind it
-drop_from : {X : Type 0} (k : ℕ) (xs : List X) (x : X) → slice_get xs k ≡ Some x → drop k xs ≡ x ∷ drop (suc k) xs
+pub drop_from : {X : Type 0} (k : ℕ) (xs : List X) (x : X) → slice_get xs k ≡ Some x → drop k xs ≡ x ∷ drop (suc k) xs
 drop_from k [] x at = absurd (cc)
 drop_from zero (y ∷ xs) x at = ap (λ z. z ∷ xs) (same_Some _ _ at)
 drop_from (suc k) (y ∷ xs) x at = drop_from k xs x at
 
-drop_all : {X : Type 0} (k : ℕ) (xs : List X) → length xs ≤ k → drop k xs ≡ []
+pub drop_all : {X : Type 0} (k : ℕ) (xs : List X) → length xs ≤ k → drop k xs ≡ []
 drop_all zero [] le = refl
 drop_all (suc k) [] le = refl
 drop_all zero (x ∷ xs) le = absurd (omega (arith, le))

@@ -62,16 +62,16 @@ pub record MayAppendOn (layout : Layout) (u : Message) (table : List Header) (t 
   pub may : MayAppend (shape_of layout u.header.cluster named parse) view (message_of u ∷ [])
   pub ring : ShowsRing layout u.header.cluster (Log.now t.log) table
 
--- every slot but that of the next op stays taken, by what the superblock names or by the view's boot, or stays empty, once the head is known; what is to be mended may change
-pub record OthersStay (sh : Shape) (image : Units.Units) (v : View) : Type 0 where
+-- every slot but those of the next ops, so many, stays taken, by what the superblock names or by the view's boot, or stays empty, once the head is known; what is to be mended may change
+pub record OthersStay (sh : Shape) (image : Units.Units) (v : View) (count : ℕ) : Type 0 where
   pub taken : (p : Units.Message) → In p v.tail → Takes (slots sh) image v.checkpoint.content p
-  pub empty : (o : ℕ) → head v + 1 < o → o ≤ v.checkpoint.content.op + slots sh → IsEmpty (decided (slots sh) (boot_of v) (head v) image o)
+  pub empty : (o : ℕ) → head v + count < o → o ≤ v.checkpoint.content.op + slots sh → IsEmpty (decided (slots sh) (boot_of v) (head v) image o)
 
 -- at a moment of the append the log is good for the view before it and the one behind it, and in whatever a stop leaves, under no chance, every other slot stays taken or stays empty
 pub record Leaves (layout : Layout) (u : Message) (table : List Header) (t : Told) (may : MayAppendOn layout u table t) (log : Log.Log) : Type 0 where
   pub good : IsGoodDisk (format_of layout u.header.cluster) (shape_of layout u.header.cluster may.named may.parse) may.view (appended may.view (message_of u ∷ [])) log
   pub others : (image : Image) → IsLeft log image → NoChanceOf (format_of layout u.header.cluster) log image
-      → OthersStay (shape_of layout u.header.cluster may.named may.parse) (unit_at layout u.header.cluster image) may.view
+      → OthersStay (shape_of layout u.header.cluster may.named may.parse) (unit_at layout u.header.cluster image) may.view 1
 
 -- at its end the file is tidy again, with the prepare, and the header ring shows the table
 pub record EndsAppended (layout : Layout) (u : Message) (table : List Header) (t : Told) (may : MayAppendOn layout u table t) (after : Told) (new : List Header) : Type 0 where

@@ -7,4 +7,5 @@ pub mod Known
 pub mod Planned
 pub mod Tail
 pub mod Append
+pub mod Flush
 pub mod Below

@@ -1,9 +1,10 @@
 //! The journal: what recovery sees in the two rings and decides of each slot, the tail that it finds there, and the append of a
-//! prepare with its header: a put, and a settling of what was put.
+//! prepare with its header, or of a group of them: puts, and a settling of what was put.
 #![tactic(auto)]
 
 mod appends;
 mod counts;
+mod flushing;
 mod known;
 mod plans;
 mod reach;
@@ -15,6 +16,7 @@ mod table;
 pub use appends::{append, put};
 pub use counts::{bound_top, count_rings, is_behind, is_lost};
 pub use df_group::{Reach, Tail};
+pub use flushing::flush;
 pub use known::{lacking_known, slot_of};
 pub use reach::find_reach;
 pub use reads::{scan, scanned_is_shown};

@@ -1,5 +1,5 @@
 -- A life with damage is lived: what each of its opens finds was had since the last one that raised its boot.
-use Rattle.std.proofs.Common.{◌≡◌, ◌⊎◌, inl, inr, ℕ, List, [], ◌∷◌, Option, Some, refl, sym, ◌∙◌, ap, subst}
+use Rattle.std.proofs.Common.{◌≡◌, ◌⊎◌, inl, inr, ℕ, List, [], ◌∷◌, Option, Some, refl, sym, ◌∙◌, subst}
 use Rattle.df_base.specs.Image.{Image, changed}
 use Rattle.df_base.specs.Log as logs
 use Rattle.df_base.specs.Log.{AreLoose, Event, IsLeft, Log, Stop, Sync, add}
@@ -20,20 +20,18 @@ use Rattle.df_replica.specs.Following.{MayOpen}
 use Rattle.df_replica.specs.Serving.{format}
 use Rattle.df_replica.proofs.Laws.{added_is_told, begun_may_open, first_goes_on, found_was_since, layout_shown, lived_layout, stopped_goes_on}
 use Rattle.df_upgrade.specs.Upgrading.{second}
-use Rattle.df_session.specs.Found.{FoundFile}
 use Rattle.df_session.specs.Opened.{StopsOpening}
 use Rattle.df_top.specs.Opening.{StopsBefore}
 use Rattle.df_top.specs.Outside.{Outside}
-use Rattle.df_top.specs.Reopening.{IsLivedFile, LivesThrough, StaysLived}
-use Rattle.df_top.specs.Run.{Does, DidNothing, RefusesSuperblock, Works}
+use Rattle.df_top.specs.Reopening.{IsLivedFile, StaysLived}
+use Rattle.df_top.specs.Run.{Does}
 use Rattle.df_top.specs.declared.mode.Mode.{Mode}
 use Rattle.df_top.specs.declared.mode.Mode.TheVariants.{Format, Run, Recover, Inspect, Scrub, Workload, Upgrade, Paced}
 use Rattle.df_top.specs.declared.status.Status.{Status}
 use Rattle.df_top.proofs.Laws.{runs_over_history, serves_over_history}
 use Rattle.df_lifetime.specs.Again.{Again, EveryLifeIsLived, EveryOpenFindsSince, IsSpared, LifeBeginsAnew, RunsKeepSince, ScriptsKeepSince, UpgradedMayBeDamaged}
 use Rattle.df_lifetime.specs.Again.Again.{Damaged, Halted, Once}
-use Rattle.df_lifetime.specs.Hurt.{began_with}
-use Rattle.df_lifetime.specs.Life.{Chapter, GoesAlong, IsCarried, IsInOrder, Life, Word}
+use Rattle.df_lifetime.specs.Life.{GoesAlong, IsCarried, IsInOrder, Word}
 use Rattle.df_lifetime.specs.Life.Life.{Taken}
 use Rattle.df_lifetime.proofs.Along.{after_along, moment_along}
 use Rattle.df_lifetime.proofs.HurtLives.{start_stays}

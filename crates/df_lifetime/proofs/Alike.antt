@@ -11,7 +11,6 @@ use Rattle.df_theory.specs.Units.{AnyUnit, BlockPlace, Place, PreparePlace, Repl
 use Rattle.df_theory.specs.View.{View}
 use Rattle.df_theory.proofs.Laws.{one_found_law}
 use Rattle.df_units.specs.Bytes.{unit_at}
-use Rattle.df_model.specs.Blocks.{Blocks}
 use Rattle.df_model.specs.Memory.{Memory, memory_of}
 use Rattle.df_model.specs.Work.{opened}
 use Rattle.df_replica.specs.Below.{DataFile, IsOpened, State as Replica, memory, shape, spelling}

@@ -8,7 +8,7 @@ use Rattle.df_theory.proofs.Laws.{one_found_law}
 use Rattle.df_units.specs.Bytes.{unit_at}
 use Rattle.df_units.specs.Meaning.{layout_of}
 use Rattle.df_units.proofs.Laws.{of_places}
-use Rattle.df_model.specs.Commands.{Answer, Command}
+use Rattle.df_model.specs.Commands.{Answer, Command, Given}
 use Rattle.df_model.specs.Sense.{IsWork}
 use Rattle.df_model.specs.Memory.{memory_of}
 use Rattle.df_model.specs.Supply.{boot_sum}
@@ -24,11 +24,12 @@ use Rattle.df_session.specs.Begun.{begun_work}
 use Rattle.df_session.specs.Below.{codec}
 use Rattle.df_lifetime.specs.Acknowledged.{AcknowledgedIsFound, AllThere, AreThere}
 use Rattle.df_lifetime.specs.Life.{Chapter, GoesBy, LeadsTo, MayHave}
-use Rattle.df_lifetime.specs.There.{IsThere}
+use Rattle.df_lifetime.specs.There.{IsThere, Promised, promised_by, promised_in}
 use Rattle.df_lifetime.proofs.Done.{just_there}
 use Rattle.df_lifetime.proofs.Haves.{are_there, begun_bare}
 use Rattle.df_lifetime.proofs.Lives.{every_life_goes_on}
 use Rattle.df_lifetime.proofs.Next.{stays}
+use Rattle.df_lifetime.proofs.Promises.{promised_on}
 
 -- ---- a state that is found makes sense, behind its boot update
 
@@ -43,25 +44,26 @@ begun_makes_sense file image view version whole found unspent =
 -- ---- what was answered stays, whatever is done next
 
 module _ (file : DataFile) where
-  stays_behind : (acts : List Act) (w : Work) (command : Command) (x : Answer) → IsWork (shape file) (spelling file) w → AreInputs acts → IsThere (kept w) command x → IsThere (kept (work_after file w acts)) command x
-  stays_behind [] w command x work inputs there = there
-  stays_behind (a ∷ acts) w command x work inputs there =
-      stays_behind acts (next file w a.given a.command).0 command x (sense_law (shape file) (spelling file) w a.given a.command inputs.0 work) inputs.1
-      (stays (shape file) (kept w) (kept (next file w a.given a.command).0) command x work.view (next_law (shape file) (spelling file) w a.given a.command work) there)
+  stays_behind : (acts : List Act) (w : Work) (rs : List Promised) (given : Given) (command : Command) (x : Answer) → IsWork (shape file) (spelling file) w → AreInputs acts → IsThere (kept w) rs given command x → IsThere (kept (work_after file w acts)) rs given command x
+  stays_behind [] w rs given command x work inputs there = there
+  stays_behind (a ∷ acts) w rs given command x work inputs there =
+      stays_behind acts (next file w a.given a.command).0 rs given command x (sense_law (shape file) (spelling file) w a.given a.command inputs.0 work) inputs.1
+      (stays (shape file) (kept w) (kept (next file w a.given a.command).0) rs given command x work.view (next_law (shape file) (spelling file) w a.given a.command work) there)
 
-  all_stay : (acts : List Act) (w : Work) (done : List Act) (answers : List Answer) → IsWork (shape file) (spelling file) w → AreInputs acts → AreThere (kept w) done answers → AreThere (kept (work_after file w acts)) done answers
-  all_stay acts w [] [] work inputs there = tt
-  all_stay acts w [] (x ∷ answers) work inputs there = absurd there
-  all_stay acts w (a ∷ done) [] work inputs there = absurd there
-  all_stay acts w (a ∷ done) (x ∷ answers) work inputs there = (stays_behind acts w a.command x work inputs there.0, all_stay acts w done answers work inputs there.1)
+  all_stay : (acts : List Act) (w : Work) (rs : List Promised) (done : List Act) (answers : List Answer) → IsWork (shape file) (spelling file) w → AreInputs acts → AreThere (kept w) rs done answers → AreThere (kept (work_after file w acts)) rs done answers
+  all_stay acts w rs [] [] work inputs there = tt
+  all_stay acts w rs [] (x ∷ answers) work inputs there = absurd there
+  all_stay acts w rs (a ∷ done) [] work inputs there = absurd there
+  all_stay acts w rs (a ∷ done) (x ∷ answers) work inputs there = (stays_behind acts w rs a.given a.command x work inputs there.0, all_stay acts w (promised_by rs a.command x) done answers work inputs there.1)
 
   -- of the acts that came through the first ones were answered
-  pub front_there : (acts more : List Act) (w : Work) → IsWork (shape file) (spelling file) w → AreInputs (acts ++ more) → AreThere (kept (work_after file w (acts ++ more))) acts (answers_of file w acts)
+  pub front_there : (acts more : List Act) (w : Work) → IsWork (shape file) (spelling file) w → AreInputs (acts ++ more) → AreThere (kept (work_after file w (acts ++ more))) (promised_in w) acts (answers_of file w acts)
   front_there [] more w work inputs = tt
   front_there (a ∷ acts) more w work inputs =
       let then : IsWork (shape file) (spelling file) (next file w a.given a.command).0 = sense_law (shape file) (spelling file) w a.given a.command inputs.0 work in (
-        stays_behind (acts ++ more) (next file w a.given a.command).0 a.command (next file w a.given a.command).1 then inputs.1 (just_there (shape file) (spelling file) w a.given a.command work),
-        front_there acts more (next file w a.given a.command).0 then inputs.1,
+        stays_behind (acts ++ more) (next file w a.given a.command).0 (promised_in w) a.given a.command (next file w a.given a.command).1 then inputs.1 (just_there (shape file) (spelling file) w a.given a.command work),
+        subst (λ (rs : List Promised). AreThere (kept (work_after file w ((a ∷ acts) ++ more))) rs acts (answers_of file (next file w a.given a.command).0 acts)) (sym (promised_on (shape file) (spelling file) w a.given work a.command))
+            (front_there acts more (next file w a.given a.command).0 then inputs.1),
       )
 
   pub front_inputs : (acts more : List Act) → AreInputs (acts ++ more) → AreInputs acts
@@ -83,23 +85,23 @@ module _ (file : DataFile) where
         (subst AreInputs (ap (λ (l : List Act). c.answered ++ l) goes.came.some ∙ sym (append_assoc c.answered goes.came.more goes.came.rest)) goes.inputs)
 
     -- what is there behind the acts that came through is in the view that it came to
-    came_there : (done : List Act) (answers : List Answer) → AreThere (kept (work_after file start (c.answered ++ goes.came.more))) done answers → AreThere u done answers
+    came_there : (done : List Act) (answers : List Answer) → AreThere (kept (work_after file start (c.answered ++ goes.came.more))) [] done answers → AreThere u [] done answers
     came_there done answers there =
-        are_there (kept (work_after file start acts)) u goes.view done answers (subst (λ (l : List Act). AreThere (kept (work_after file start l)) done answers) (sym goes.came.are) there)
+        are_there (kept (work_after file start acts)) u goes.view [] done answers (subst (λ (l : List Act). AreThere (kept (work_after file start l)) [] done answers) (sym goes.came.are) there)
 
     -- so is what was answered in it
-    answered_there : AreThere u c.answered c.answers
+    answered_there : AreThere u [] c.answered c.answers
     answered_there =
         came_there c.answered c.answers
-        (subst (AreThere (kept (work_after file start (c.answered ++ goes.came.more))) c.answered) (sym goes.answers_are)
+        (subst (AreThere (kept (work_after file start (c.answered ++ goes.came.more))) [] c.answered) (sym goes.answers_are)
         (front_there c.answered goes.came.more start work inputs))
 
     -- and what was answered before
-    before_there : (done : List Act) (answers : List Answer) → AreThere v done answers → AreThere u done answers
+    before_there : (done : List Act) (answers : List Answer) → AreThere v [] done answers → AreThere u [] done answers
     before_there done answers there =
-        came_there done answers (all_stay (c.answered ++ goes.came.more) start done answers work inputs (are_there v (kept start) (begun_bare file c.shown v) done answers there))
+        came_there done answers (all_stay (c.answered ++ goes.came.more) start [] done answers work inputs (are_there v (kept start) (begun_bare file c.shown v) [] done answers there))
 
-  none_there : (view : View) (acts : List Act) (answers : List Answer) → acts ≡ [] → answers ≡ [] → AreThere view acts answers
+  none_there : (view : View) (acts : List Act) (answers : List Answer) → acts ≡ [] → answers ≡ [] → AreThere view [] acts answers
   none_there view [] [] none no_answers = tt
   none_there view [] (x ∷ answers) none no_answers = absurd (cc)
   none_there view (a ∷ acts) answers none no_answers = absurd (cc)
@@ -107,10 +109,10 @@ module _ (file : DataFile) where
   -- what was answered in earlier sessions
   all_before : file.version ≡ 2 → (c : Chapter) (v u : View) (chapters : List Chapter) → LeadsTo file c v u → AllThere v chapters → AllThere u chapters
   all_before version c v u [] leads there = tt
-  all_before version c v u (d ∷ chapters) (inl is) there = (are_there v u is.same d.answered d.answers there.0, all_before version c v u chapters (inl is) there.1)
+  all_before version c v u (d ∷ chapters) (inl is) there = (are_there v u is.same [] d.answered d.answers there.0, all_before version c v u chapters (inl is) there.1)
   all_before version c v u (d ∷ chapters) (inr goes) there = (before_there version c goes.0 v u goes.1 d.answered d.answers there.0, all_before version c v u chapters (inr goes) there.1)
 
-  own_there : file.version ≡ 2 → (c : Chapter) (v u : View) → LeadsTo file c v u → AreThere u c.answered c.answers
+  own_there : file.version ≡ 2 → (c : Chapter) (v u : View) → LeadsTo file c v u → AreThere u [] c.answered c.answers
   own_there version c v u (inl is) = none_there u c.answered c.answers is.none is.no_answers
   own_there version c v u (inr goes) = answered_there version c goes.0 v u goes.1
 

@@ -1,6 +1,6 @@
 -- Views that are the same but for the boot are one for a life: what a file has come to, and what was acknowledged, is there in each of them.
 use Rattle.std.proofs.Common.{◌≡◌, inl, inr, ℕ, List, [], ◌∷◌, sym, ◌∙◌, ap, subst, arith, refl}
-use Rattle.std.specs.Prelude.{length, Ok}
+use Rattle.std.specs.Prelude.{drop, length, Ok}
 use Rattle.std.specs.List.{slice_get}
 use Rattle.df_base.specs.Image.{Image}
 use Rattle.df_theory.specs.Sessions.{sessions_after}
@@ -8,7 +8,8 @@ use Rattle.df_theory.specs.Tails.{In}
 use Rattle.df_theory.specs.Units.{Session}
 use Rattle.df_theory.specs.View.{View, sessions}
 use Rattle.df_model.specs.Commands as commands
-use Rattle.df_model.specs.Commands.{Answer, Command, ToAdvance, ToAppend, ToReply}
+use Rattle.df_model.specs.Commands.{Answer, Command, Given, ToAdvance, ToAppend, ToFlush, ToReply, supplied_sums}
+use Rattle.df_model.specs.Making.{first_of}
 use Rattle.df_model.specs.Views.{KeepsView}
 use Rattle.df_model.specs.Work.{kept}
 use Rattle.df_model.specs.declared.answers.Progress.TheVariants.{Done}
@@ -18,7 +19,7 @@ use Rattle.df_replica.proofs.Laws.{keeps_on}
 use Rattle.df_session.specs.Begun.{begun_work}
 use Rattle.df_lifetime.specs.Acknowledged.{AreThere}
 use Rattle.df_lifetime.specs.Life.{Chapter, LeadsTo, MayHave}
-use Rattle.df_lifetime.specs.There.{HasPrepare, HasReply, IsThere}
+use Rattle.df_lifetime.specs.There.{HasPrepare, HasReply, HavePrepares, IsThere, Promised, promised_by}
 
 -- ---- what a file may have come to
 
@@ -58,14 +59,19 @@ module _ (v u : View) (keeps : KeepsView v u) where
         (r.0, keeps.stored k ∙ r.1, r.2, r.3);
   }
 
-  one_there : (command : Command) (answer : Answer) → IsThere v command answer → IsThere u command answer
-  one_there (commands.Append client request body) (ToAppend (Ok x)) there = prepare_there x.0 x.1 client request body there
-  one_there (commands.Reply op body) (ToReply (Ok sum)) there = reply_there op sum body there
-  one_there commands.Advance (ToAdvance (Ok (Done n))) there = omega (arith, there, keeps.content.sequence)
-  one_there command answer there = tt
+  prepares_there : (rs : List Promised) (sums : List ℕ) → HavePrepares v rs sums → HavePrepares u rs sums
+  prepares_there [] sums have = tt
+  prepares_there (r ∷ rs) sums have = (prepare_there r.op (first_of sums) r.client r.request r.body have.0, prepares_there rs (drop 1 sums) have.1)
 
-  pub are_there : (acts : List Act) (answers : List Answer) → AreThere v acts answers → AreThere u acts answers
-  are_there [] [] there = tt
-  are_there [] (x ∷ answers) there = absurd there
-  are_there (a ∷ acts) [] there = absurd there
-  are_there (a ∷ acts) (x ∷ answers) there = (one_there a.command x there.0, are_there acts answers there.1)
+  one_there : (rs : List Promised) (given : Given) (command : Command) (answer : Answer) → IsThere v rs given command answer → IsThere u rs given command answer
+  one_there rs given (commands.Append client request body) (ToAppend (Ok x)) there = prepare_there x.0 x.1 client request body there
+  one_there rs given commands.Flush (ToFlush (Ok count)) there = (there.0, prepares_there rs (supplied_sums given) there.1)
+  one_there rs given (commands.Reply op body) (ToReply (Ok sum)) there = reply_there op sum body there
+  one_there rs given commands.Advance (ToAdvance (Ok (Done n))) there = omega (arith, there, keeps.content.sequence)
+  one_there rs given command answer there = tt
+
+  pub are_there : (rs : List Promised) (acts : List Act) (answers : List Answer) → AreThere v rs acts answers → AreThere u rs acts answers
+  are_there rs [] [] there = tt
+  are_there rs [] (x ∷ answers) there = absurd there
+  are_there rs (a ∷ acts) [] there = absurd there
+  are_there rs (a ∷ acts) (x ∷ answers) there = (one_there rs a.given a.command x there.0, are_there (promised_by rs a.command x) acts answers there.1)

@@ -37,6 +37,7 @@ use Rattle.df_session.specs.Keeping.{KeepsFile, LeavesAll, over}
 use Rattle.df_top.specs.Outside.{Outside}
 use Rattle.df_lifetime.specs.Acknowledged.{AreThere}
 use Rattle.df_lifetime.specs.Hurt.{AreAnswered, HurtRunsKeep, HurtScriptsKeep, KeepsOn, NextFinds, RunsKeepOn, ScriptsKeepOn, at_end}
+use Rattle.df_lifetime.specs.There.{promised_in}
 use Rattle.df_lifetime.proofs.Acts.{ends_inputs, first_answers, front_and_rest, has_front, work_on}
 use Rattle.df_lifetime.proofs.Bases.{AnsweredOver, KeepsOver, told_over}
 use Rattle.df_lifetime.proofs.Files.{one_file, one_told}
@@ -57,9 +58,9 @@ take_inputs k acts more inputs = subst AreInputs (sym (front_and_rest k acts mor
 
 module _ (file : DataFile) (g : Grade) (w : Work) (work : IsWork (shape file) (spelling file) w) (version : file.version ≡ 2) where
   -- what was answered is in the view behind it
-  answers_there : (acts : List Act) (answers : List Answer) (more rest : List Act) → answers ≡ answers_of file w acts → AreInputs (acts ++ (more ++ rest)) → AreThere (kept (work_after file w (acts ++ more))) acts answers
+  answers_there : (acts : List Act) (answers : List Answer) (more rest : List Act) → answers ≡ answers_of file w acts → AreInputs (acts ++ (more ++ rest)) → AreThere (kept (work_after file w (acts ++ more))) (promised_in w) acts answers
   answers_there acts answers more rest are inputs =
-      subst (λ (l : List Answer). AreThere (kept (work_after file w (acts ++ more))) acts l) (sym are)
+      subst (λ (l : List Answer). AreThere (kept (work_after file w (acts ++ more))) (promised_in w) acts l) (sym are)
       (front_there file acts more w work (front_inputs file (acts ++ more) rest (subst AreInputs (sym (append_assoc acts more rest)) inputs)))
 
   module _ (acts : List Act) (answers : List Answer) (are : answers ≡ answers_of file w acts) (perhaps : List Act) (inputs : AreInputs (acts ++ perhaps)) where

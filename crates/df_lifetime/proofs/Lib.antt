@@ -8,6 +8,7 @@ mod Lives
 mod Blank
 mod Next
 mod Done
+mod Promises
 mod Found
 mod HurtSessions
 mod HurtLives

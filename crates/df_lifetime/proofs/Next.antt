@@ -13,9 +13,10 @@ use Rattle.df_theory.specs.Units.{Message, Session}
 use Rattle.df_theory.specs.View.{View, head, sequence, sessions}
 use Rattle.df_theory.proofs.Laws.{noted_get, sessions-append, sessions-drop, in_front, in_drop, stored_else}
 use Rattle.df_model.specs.Commands as commands
-use Rattle.df_model.specs.Commands.{Answer, Command, ToAdvance, ToAppend, ToReply}
+use Rattle.df_model.specs.Commands.{Answer, Command, Given, ToAdvance, ToAppend, ToFlush, ToReply, supplied_sums}
+use Rattle.df_model.specs.Making.{first_of}
 use Rattle.df_model.specs.declared.answers.Progress.TheVariants.{Done}
-use Rattle.df_lifetime.specs.There.{HasPrepare, HasReply, IsThere}
+use Rattle.df_lifetime.specs.There.{HasPrepare, HasReply, HavePrepares, IsThere, Promised}
 
 -- ---- prepares
 
@@ -111,8 +112,13 @@ sequence_stays n v _ (Boot d is) low = omega (arith, low, is.same.sequence)
 
 -- ---- all of them
 
-pub stays : (sh : Shape) (v u : View) (command : Command) (answer : Answer) → Sound sh v → Next v u → IsThere v command answer → IsThere u command answer
-stays sh v u (commands.Append client request body) (ToAppend (Ok x)) sound next there = prepare_stays sh x.0 x.1 client request body v u sound next there
-stays sh v u (commands.Reply op body) (ToReply (Ok sum)) sound next there = reply_stays sh op sum body v u sound next there
-stays sh v u commands.Advance (ToAdvance (Ok (Done n))) sound next there = sequence_stays n v u next there
-stays sh v u command answer sound next there = tt
+prepares_stay : (sh : Shape) (v u : View) (rs : List Promised) (sums : List ℕ) → Sound sh v → Next v u → HavePrepares v rs sums → HavePrepares u rs sums
+prepares_stay sh v u [] sums sound next have = tt
+prepares_stay sh v u (r ∷ rs) sums sound next have = (prepare_stays sh r.op (first_of sums) r.client r.request r.body v u sound next have.0, prepares_stay sh v u rs (drop 1 sums) sound next have.1)
+
+pub stays : (sh : Shape) (v u : View) (rs : List Promised) (given : Given) (command : Command) (answer : Answer) → Sound sh v → Next v u → IsThere v rs given command answer → IsThere u rs given command answer
+stays sh v u rs given (commands.Append client request body) (ToAppend (Ok x)) sound next there = prepare_stays sh x.0 x.1 client request body v u sound next there
+stays sh v u rs given commands.Flush (ToFlush (Ok count)) sound next there = (there.0, prepares_stay sh v u rs (supplied_sums given) sound next there.1)
+stays sh v u rs given (commands.Reply op body) (ToReply (Ok sum)) sound next there = reply_stays sh op sum body v u sound next there
+stays sh v u rs given commands.Advance (ToAdvance (Ok (Done n))) sound next there = sequence_stays n v u next there
+stays sh v u rs given command answer sound next there = tt

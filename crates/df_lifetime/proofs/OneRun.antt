@@ -1,5 +1,5 @@
 -- A generated run over what is shown goes one way, and the numbers of its file follow from its answers.
-use Rattle.std.proofs.Common.{◌≡◌, ℕ, ◌+◌, List, [], ◌∷◌, map, Option, Some, None, Ok, refl, sym, ◌∙◌, ap, subst}
+use Rattle.std.proofs.Common.{◌≡◌, ℕ, ◌+◌, List, [], ◌∷◌, length, map, Option, Some, None, Ok, refl, sym, ◌∙◌, ap, subst}
 use Rattle.df_base.specs.Image.{Image, IsImage}
 use Rattle.df_base.specs.Streams.{Appends}
 use Rattle.df_disk.specs.Told.{Told}
@@ -11,21 +11,22 @@ use Rattle.df_theory.specs.Shape.{Shape}
 use Rattle.df_theory.specs.Units.{AnyUnit, Message, Parts, Place}
 use Rattle.df_theory.specs.View.{View, head, sequence}
 use Rattle.df_units.specs.Bytes.{unit_at}
-use Rattle.df_model.specs.After.{after_running, after_step_of, outcome, to_check, with_prepare, with_reply}
-use Rattle.df_model.specs.Changing.{appended_in, begun_in, checked_in, course_on, memory_after, replied_in, step_in, unless_refused}
-use Rattle.df_model.specs.Commands.{Advance, Answer, Append, Begin, Command, Given, ReadBlock, ReadPrepare, ReadReply, Recent, Release, Reply, Scrub, ToAdvance, ToAppend, ToReply, WriteBlock, after, supplied_sum, supplied_verdict}
-use Rattle.df_model.specs.Making.{needed_of, place_of_reply, prepare_of, reply_of}
+use Rattle.df_model.specs.After.{after_running, after_step_of, outcome, to_check, with_group, with_prepare, with_reply, with_staged}
+use Rattle.df_model.specs.Changing.{appended_in, begun_in, checked_in, course_on, flushed_in, memory_after, replied_in, staged_in, step_in, unless_refused}
+use Rattle.df_model.specs.Commands.{Advance, Answer, Append, Begin, Command, Flush, Given, ReadBlock, ReadPrepare, ReadReply, Recent, Release, Reply, Scrub, Stage, ToAdvance, ToAppend, ToFlush, ToReply, ToStage, WriteBlock, after, supplied_sum, supplied_sums, supplied_verdict}
+use Rattle.df_model.specs.Making.{group_of, needed_of, place_of_reply, prepare_of, reply_of}
 use Rattle.df_model.specs.Memory.{Course, Memory, course, course_of, memory_of}
-use Rattle.df_model.specs.Refusals.{append_refusals, begin_refusals, first_refusal, reply_refusals}
+use Rattle.df_model.specs.Refusals.{append_refusals, begin_refusals, first_refusal, flush_refusals, reply_refusals, stage_refusals}
 use Rattle.df_model.specs.Supply.{Codec, Shown, begun_from, next, result, shown_after}
-use Rattle.df_model.specs.Work.{Running, Work, opened}
+use Rattle.df_model.specs.Work.{Request, Running, Work, opened}
 use Rattle.df_model.specs.declared.errors.AppendError.{AppendError}
 use Rattle.df_model.specs.declared.errors.BeginError.{BeginError}
+use Rattle.df_model.specs.declared.errors.FlushError.{FlushError}
 use Rattle.df_model.specs.declared.errors.ReplyError.{ReplyError}
 use Rattle.df_model.specs.declared.answers.Progress.TheVariants.{Done as Ended}
 use Rattle.df_model.specs.declared.answers.Verdict.{Verdict}
 use Rattle.df_model.specs.declared.answers.Verdict.TheVariants.{Sound, Failing}
-use Rattle.df_model.proofs.Laws.{change_law}
+use Rattle.df_model.proofs.Laws.{change_law, length_in}
 use Rattle.df_replica.specs.Below.{DataFile, State as Replica, memory, shape, spelling}
 use Rattle.df_replica.specs.Reading.{shown_of}
 use Rattle.df_replica.specs.Serving.{Firm, Keeps, next as next_work}
@@ -92,6 +93,7 @@ numbers_in m = (m.head, m.replies, m.content.sequence)
 -- what an answer makes of them, and what answers do
 abbrev pub after_answer : Answer → Numbers → Numbers
 after_answer (ToAppend (Ok receipt)) n = (n.0 + 1, n.1, n.2)
+after_answer (ToFlush (Ok count)) n = (n.0 + count, n.1, n.2)
 after_answer (ToReply (Ok sum)) n = (n.0, n.1 + 1, n.2)
 after_answer (ToAdvance (Ok (Ended sequence))) n = (n.0, n.1, n.2 + 1)
 after_answer x n = n
@@ -103,6 +105,14 @@ after_answers (x ∷ xs) n = after_answers xs (after_answer x n)
 append_counts : (o : Option AppendError) (w u : Work) (m : Memory) (p : Message) (r : ℕ × ℕ) → numbers_in (unless_refused o m (appended_in m p)) ≡ after_answer (ToAppend (outcome o w u r).1) (numbers_in m)
 append_counts (Some e) w u m p r = refl
 append_counts None w u m p r = refl
+
+stage_counts : (o : Option AppendError) (w u : Work) (m : Memory) (r : Request) (op : ℕ) → numbers_in (unless_refused o m (staged_in m r)) ≡ after_answer (ToStage (outcome o w u op).1) (numbers_in m)
+stage_counts (Some e) w u m r op = refl
+stage_counts None w u m r op = refl
+
+flush_counts : (o : Option FlushError) (w u : Work) (m : Memory) (ps : List Message) (count : ℕ) → length ps ≡ count → numbers_in (unless_refused o m (flushed_in m ps)) ≡ after_answer (ToFlush (outcome o w u count).1) (numbers_in m)
+flush_counts (Some e) w u m ps count many = refl
+flush_counts None w u m ps count many = λ i. (m.head + many i, m.replies, m.content.sequence)
 
 reply_counts : (o : Option ReplyError) (w u : Work) (m : Memory) (sum : ℕ) → numbers_in (unless_refused o m (replied_in m sum)) ≡ after_answer (ToReply (outcome o w u sum).1) (numbers_in m)
 reply_counts (Some e) w u m sum = refl
@@ -133,6 +143,12 @@ module _ (sh : Shape) (spell : Parts → List ℕ) (w : Work) (given : Given) wh
   counted_one (Append client request body) =
       let p = prepare_of m (supplied_sum given) client request body in
       append_counts (first_refusal (append_refusals m client request body)) w (with_prepare w p) m p (p.header.op, supplied_sum given)
+  counted_one (Stage client request body) =
+      let r : Request = record { client = client; request = request; body = body } in
+      stage_counts (first_refusal (stage_refusals m client request body)) w (with_staged w r) m r (m.head + length w.staged + 1)
+  counted_one Flush =
+      let ps = group_of m (supplied_sums given) in
+      flush_counts (first_refusal (flush_refusals m)) w (with_group w ps) m ps (length w.staged) (length_in m (m.head + 1) (m.head + length w.staged) (m.head + 1) m.head_checksum w.staged (supplied_sums given))
   counted_one (Reply op body) = reply_counts (first_refusal (reply_refusals m op body)) w (with_reply w (place_of_reply m) (reply_of m (supplied_sum given) body)) m (supplied_sum given)
   counted_one (WriteBlock kind body) = refl
   counted_one (Release address) = refl

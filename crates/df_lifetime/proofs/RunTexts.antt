@@ -12,7 +12,7 @@ use Rattle.df_theory.specs.Shape.{Shape}
 use Rattle.df_theory.specs.View.{View, head, sequence}
 use Rattle.df_units.specs.Bytes.{unit_at}
 use Rattle.df_model.specs.After.{after_advance, after_begin, after_block, after_release}
-use Rattle.df_model.specs.Commands.{Advance, Answer, Command, ToAdvance, ToAppend, ToBegin, ToReadBlock, ToReadPrepare, ToReadReply, ToRecent, ToRelease, ToReply, ToScrub, ToWriteBlock, WriteBlock}
+use Rattle.df_model.specs.Commands.{Advance, Answer, Command, ToAdvance, ToAppend, ToBegin, ToFlush, ToReadBlock, ToReadPrepare, ToReadReply, ToRecent, ToRelease, ToReply, ToScrub, ToStage, ToWriteBlock, WriteBlock}
 use Rattle.df_model.specs.Memory.{memory_of}
 use Rattle.df_model.specs.Supply.{Codec, Shown, checksum_given, next, result, shown_after}
 use Rattle.df_model.specs.Work.{Work}
@@ -151,6 +151,9 @@ same_numbers a b c x y z one two three = λ i. (one i, two i, three i)
 one_added : (x : Answer) (n m : Numbers) → after_answer x (added n m) ≡ added n (after_answer x m)
 one_added (ToAppend (Ok receipt)) n m = same_numbers _ _ _ _ _ _ (omega arith) refl refl
 one_added (ToAppend (Err e)) n m = refl
+one_added (ToStage r) n m = refl
+one_added (ToFlush (Ok count)) n m = same_numbers _ _ _ _ _ _ (omega arith) refl refl
+one_added (ToFlush (Err e)) n m = refl
 one_added (ToReply (Ok sum)) n m = same_numbers _ _ _ _ _ _ refl (omega arith) refl
 one_added (ToReply (Err e)) n m = refl
 one_added (ToAdvance (Ok (Ended k))) n m = same_numbers _ _ _ _ _ _ refl refl (omega arith)

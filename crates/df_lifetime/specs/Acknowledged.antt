@@ -11,18 +11,18 @@ use Rattle.df_replica.specs.Below.{shape, DataFile}
 use Rattle.df_replica.specs.Serving.{format}
 use Rattle.df_replica.specs.Session.{Act}
 use Rattle.df_lifetime.specs.Life.{Chapter, Life}
-use Rattle.df_lifetime.specs.There.{IsThere}
+use Rattle.df_lifetime.specs.There.{IsThere, Promised, promised_by}
 
--- what each of these acts was answered is there
-abbrev pub AreThere : View → List Act → List Answer → Type 0
-AreThere v [] [] = Unit {0}
-AreThere v (a ∷ acts) (x ∷ answers) = IsThere v a.command x × AreThere v acts answers
-AreThere v acts answers = ⊥
+-- what each of these acts was answered is there, where these requests are staged before the first of them
+abbrev pub AreThere : View → List Promised → List Act → List Answer → Type 0
+AreThere v rs [] [] = Unit {0}
+AreThere v rs (a ∷ acts) (x ∷ answers) = IsThere v rs a.given a.command x × AreThere v (promised_by rs a.command x) acts answers
+AreThere v rs acts answers = ⊥
 
--- and so is what was answered in each of these sessions
+-- and so is what was answered in each of these sessions, which begin with nothing staged
 abbrev pub AllThere : View → List Chapter → Type 0
 AllThere v [] = Unit {0}
-AllThere v (c ∷ chapters) = AreThere v c.answered c.answers × AllThere v chapters
+AllThere v (c ∷ chapters) = AreThere v [] c.answered c.answers × AllThere v chapters
 
 -- Whatever was acknowledged in any session of a file's life is in the view that the next open finds.
 abbrev pub AcknowledgedIsFound : Type 0

@@ -28,6 +28,7 @@ use Rattle.df_top.specs.Working.{WorksThrough}
 use Rattle.df_top.specs.declared.status.Status.{Status}
 use Rattle.df_lifetime.specs.Acknowledged.{AreThere}
 use Rattle.df_lifetime.specs.Life.{Chapter, Life, MayHave}
+use Rattle.df_lifetime.specs.There.{promised_in}
 use Rattle.df_lifetime.specs.Life.Life.{Begun, Ended, Made, Ran, Spared, Stopped, Taken}
 
 -- The next open finds the view after all of these acts, which were answered so, and perhaps some of those behind them, from the first of these on: the file may be opened by
@@ -37,7 +38,7 @@ pub record NextFinds (file : DataFile) (g : Grade) (w : Work) (acts : List Act) 
   pub rest : List Act
   pub some : perhaps ≡ more ++ rest
   pub may : SomeKeeps (kept (work_after file w (acts ++ more))) (λ view. MayOpen file view t)
-  pub there : AreThere (kept (work_after file w (acts ++ more))) acts answers
+  pub there : AreThere (kept (work_after file w (acts ++ more))) (promised_in w) acts answers
   pub stands : StandsFor g (unit_at file.layout file.cluster t.shown) (kept (work_after file w (acts ++ more)))
 
 -- what a base tells at the end of a session

@@ -1,10 +1,12 @@
--- What was acknowledged is in a view: prepares, replies and checkpoints.
-use Rattle.std.specs.Prelude.{◌≡◌, ◌<◌, ◌≤◌, ℕ, List, Ok, Some}
+-- What was acknowledged is in a view: prepares, alone or in groups, replies and checkpoints.
+use Rattle.std.specs.Prelude.{◌≡◌, ◌<◌, ◌≤◌, ◌+◌, ℕ, List, [], ◌∷◌, ◌++◌, drop, length, Ok, Some}
 use Rattle.std.specs.List.{slice_get}
 use Rattle.df_theory.specs.Tails.{In}
 use Rattle.df_theory.specs.Units.{Message, Session}
 use Rattle.df_theory.specs.View.{View, head, sequence, sessions}
-use Rattle.df_model.specs.Commands.{Advance, Answer, Append, Command, Reply, ToAdvance, ToAppend, ToReply}
+use Rattle.df_model.specs.Commands.{Advance, Answer, Append, Command, Flush, Given, Reply, Stage, ToAdvance, ToAppend, ToFlush, ToReply, ToStage, supplied_sums}
+use Rattle.df_model.specs.Making.{first_of}
+use Rattle.df_model.specs.Work.{Request, Work}
 use Rattle.df_model.specs.declared.answers.Progress.TheVariants.{Done}
 
 -- the prepare that was appended with this op and checksum is in the view: a checkpoint has reached its op, or it stands in the tail
@@ -18,9 +20,40 @@ pub record HasReply (v : View) (op sum : ℕ) (body : List ℕ) : Type 0 where
   pub counted : op ≤ v.replies
   pub stored : (k : ℕ) (s : Session) → slice_get (sessions v) k ≡ Some s → s.op ≡ op → (r : Message) × (v.stored k ≡ Some r) × (r.header.checksum ≡ sum) × (r.body ≡ body)
 
--- what a command was answered is in the view, where that was a prepare, a reply or a finished checkpoint
-abbrev pub IsThere : View → Command → Answer → Type 0
-IsThere v (Append client request body) (ToAppend (Ok answer)) = HasPrepare v answer.0 answer.1 client request body
-IsThere v (Reply op body) (ToReply (Ok sum)) = HasReply v op sum body
-IsThere v Advance (ToAdvance (Ok (Done n))) = n ≤ sequence v
-IsThere v command answer = Unit {0}
+-- ---- requests that are staged
+
+-- a request that was staged, with the op that its prepare is to get, as it was answered
+pub record Promised : Type 0 where
+  pub op : ℕ
+  pub client : ℕ
+  pub request : ℕ
+  pub body : List ℕ
+
+abbrev pub promised_from : (op : ℕ) → List Request → List Promised
+promised_from op [] = []
+promised_from op (r ∷ rs) = record { op = op; client = r.client; request = r.request; body = r.body } ∷ promised_from (op + 1) rs
+
+-- all that are staged in a state: none at an open
+abbrev pub promised_in : Work → List Promised
+promised_in w = promised_from (head w.view + 1) w.staged
+
+-- those that are staged behind an answer, where these were before it
+abbrev pub promised_by : List Promised → Command → Answer → List Promised
+promised_by rs (Stage client request body) (ToStage (Ok op)) = rs ++ record { op = op; client = client; request = request; body = body } ∷ []
+promised_by rs Flush (ToFlush (Ok count)) = []
+promised_by rs command answer = rs
+
+-- the prepares of these requests are in the view, with these checksums
+abbrev pub HavePrepares : View → List Promised → (sums : List ℕ) → Type 0
+HavePrepares v [] sums = Unit {0}
+HavePrepares v (r ∷ rs) sums = HasPrepare v r.op (first_of sums) r.client r.request r.body × HavePrepares v rs (drop 1 sums)
+
+-- ---- what was answered
+
+-- What a command was answered is in the view, where that was a prepare, all prepares of a group, a reply or a finished checkpoint. A flush acknowledges each request that was staged before it.
+abbrev pub IsThere : View → List Promised → Given → Command → Answer → Type 0
+IsThere v rs given (Append client request body) (ToAppend (Ok answer)) = HasPrepare v answer.0 answer.1 client request body
+IsThere v rs given Flush (ToFlush (Ok count)) = (length rs ≡ count) × HavePrepares v rs (supplied_sums given)
+IsThere v rs given (Reply op body) (ToReply (Ok sum)) = HasReply v op sum body
+IsThere v rs given Advance (ToAdvance (Ok (Done n))) = n ≤ sequence v
+IsThere v rs given command answer = Unit {0}

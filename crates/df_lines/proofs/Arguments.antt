@@ -1,7 +1,7 @@
 -- The words behind a line's name.
 use Rattle.std.proofs.Common.{◌≡◌, ℕ, ◌^◌, ◌<◌, List, [], ◌∷◌, ◌++◌, sym, subst, arith}
 use Rattle.std.specs.Prelude.{decimal, codes}
-use Rattle.df_lines.specs.Grammar.{IsBody, Append, Block, Reply, Says}
+use Rattle.df_lines.specs.Grammar.{AreRequest, IsBody, Append, Block, Reply, Says, Stage}
 use Rattle.df_lines.specs.Words.{HasNoSpace, Cuts}
 use Rattle.df_lines.proofs.Cutting.{decimal_no_space, no_cut, one_cut}
 
@@ -29,15 +29,22 @@ bad_body words before after bound n rest body first is cuts none = none body (su
 
 -- ---- the numbers of the lines that have a body
 
-pub client_first : (words : List ℕ) (client request : ℕ) (body : List ℕ) → (says : Says (codes "append " ++ words) (Append client request body)) → NumberFirst words (2 ^ 128) client (decimal request ++ (32 ∷ says.word))
-client_first words client request body says = record { is = same_rest (codes "append ") words _ says.is; fits = says.fits.0; wide = says.fits.0 }
+pub client_first : (words : List ℕ) (client request : ℕ) (body : List ℕ) → (are : AreRequest words client request body) → NumberFirst words (2 ^ 128) client (decimal request ++ (32 ∷ are.word))
+client_first words client request body are = record { is = are.is; fits = are.fits.0; wide = are.fits.0 }
 
-pub request_next : (words before rest : List ℕ) (client request : ℕ) (body : List ℕ) → (says : Says (codes "append " ++ words) (Append client request body)) → Cuts words before rest → NumberFirst rest (2 ^ 64) request says.word
-request_next words before rest client request body says cuts = record {
-  is = (number_word words before rest _ client _ (client_first words client request body says) cuts).1;
-  fits = says.fits.1;
-  wide = omega (arith, says.fits.1);
+pub request_next : (words before rest : List ℕ) (client request : ℕ) (body : List ℕ) → (are : AreRequest words client request body) → Cuts words before rest → NumberFirst rest (2 ^ 64) request are.word
+request_next words before rest client request body are cuts = record {
+  is = (number_word words before rest _ client _ (client_first words client request body are) cuts).1;
+  fits = are.fits.1;
+  wide = omega (arith, are.fits.1);
 }
+
+-- the request that a line asks for
+pub appended : (words : List ℕ) (client request : ℕ) (body : List ℕ) → Says (codes "append " ++ words) (Append client request body) → AreRequest words client request body
+appended words client request body says = record { word = says.word; is = same_rest (codes "append ") words _ says.is; fits = says.fits }
+
+pub staged : (words : List ℕ) (client request : ℕ) (body : List ℕ) → Says (codes "stage " ++ words) (Stage client request body) → AreRequest words client request body
+staged words client request body says = record { word = says.word; is = same_rest (codes "stage ") words _ says.is; fits = says.fits }
 
 pub op_first : (words : List ℕ) (op : ℕ) (body : List ℕ) → (says : Says (codes "reply " ++ words) (Reply op body)) → NumberFirst words (2 ^ 64) op says.word
 op_first words op body says = record { is = same_rest (codes "reply ") words _ says.is; fits = says.fits.0; wide = omega (arith, says.fits.0) }

@@ -2,13 +2,13 @@
 use Rattle.std.proofs.Common.{◌≡◌, ◌⊎◌, ℕ, ◌-◌, ◌^◌, ◌<◌, inl, inr, List, [], ◌∷◌, ◌++◌, refl, sym, ap, subst, ◌∙◌, arith}
 use Rattle.std.specs.Prelude.{decimal, codes, Ok}
 use Rattle.hex.specs.Hex.{decode_of}
-use Rattle.df_lines.specs.Grammar.{IsBody, Said, Append, Reply, Block, Release, Checkpoint, Step, Prepare, Lookup, Read, Scrub, Recent, Says}
+use Rattle.df_lines.specs.Grammar.{AreRequest, IsBody, Said, spaced, Append, Stage, Flush, Reply, Block, Release, Checkpoint, Step, Prepare, Lookup, Read, Scrub, Recent, Says}
 use Rattle.df_lines.specs.Laws.{OneMeaning, OneText, OneScript, WholeScript}
 use Rattle.df_lines.specs.Script.{Begins, IsLine, IsRefused}
 use Rattle.df_lines.specs.Text.{line_of, after_line, taken}
 use Rattle.df_lines.proofs.Cutting.{decimal_no_space, one_split}
 use Rattle.df_lines.proofs.Decimals.{one_number}
-use Rattle.df_lines.proofs.Arguments.{same_rest}
+use Rattle.df_lines.proofs.Arguments.{appended, same_rest, staged}
 use Rattle.df_lines.proofs.Meanings.{name_of, first_of, second_of, body_of, line_named, is_named, nothing_said, same_name}
 
 dash_is_no_hex : (bytes : List ℕ) → decode_of (codes "-") ≡ Ok bytes → ⊥
@@ -29,8 +29,8 @@ number_split m n a b m_fits n_fits same =
 body_split : (one other a b : List ℕ) → one ≡ other → IsBody one a → IsBody other b → a ≡ b
 body_split one other a b same x y = one_body one a b x (subst (λ (w : List ℕ). IsBody w b) (sym same) y)
 
-same_append : (c d r s : ℕ) (x y : List ℕ) → c ≡ d → r ≡ s → x ≡ y → Append c r x ≡ Append d s y
-same_append c d r s x y client request body = cc
+same_asked : (make : ℕ → ℕ → List ℕ → Said) (c d r s : ℕ) (x y : List ℕ) → c ≡ d → r ≡ s → x ≡ y → make c r x ≡ make d s y
+same_asked make c d r s x y client request body = cc
 
 same_sized : (make : ℕ → List ℕ → Said) (m n : ℕ) (x y : List ℕ) → m ≡ n → x ≡ y → make m x ≡ make n y
 same_sized make m n x y number body = cc
@@ -44,16 +44,23 @@ two_words front m n line a b x y one other fits fits' body body' =
     let parts = number_split m n a b fits fits' (same_rest front (decimal m ++ (32 ∷ a)) (decimal n ++ (32 ∷ b)) (sym one ∙ other)) in
     (parts.0, body_split a b x y parts.1 body body')
 
-append_once : (line : List ℕ) (c r d s : ℕ) (x y : List ℕ) → Says line (Append c r x) → Says line (Append d s y) → Append c r x ≡ Append d s y
-append_once line c r d s x y one other =
-    let words = same_rest (codes "append ") _ _ (sym one.is ∙ other.is) in
-    let first = number_split c d (decimal r ++ (32 ∷ one.word)) (decimal s ++ (32 ∷ other.word)) one.fits.0 other.fits.0 words in
+one_request : (words : List ℕ) (c r d s : ℕ) (x y : List ℕ) → AreRequest words c r x → AreRequest words d s y → (c ≡ d) × (r ≡ s) × (x ≡ y)
+one_request words c r d s x y one other =
+    let first = number_split c d (decimal r ++ (32 ∷ one.word)) (decimal s ++ (32 ∷ other.word)) one.fits.0 other.fits.0 (sym one.is ∙ other.is) in
     let second = number_split r s one.word other.word (omega (arith, one.fits.1)) (omega (arith, other.fits.1)) first.1 in
-    same_append c d r s x y first.0 second.0 (body_split one.word other.word x y second.1 one.fits.2 other.fits.2)
+    (first.0, second.0, body_split one.word other.word x y second.1 one.fits.2 other.fits.2)
 
 -- two lines of one name say the same
 one_of_name : (line : List ℕ) (one : Said) (first second : ℕ) (body : List ℕ) → Says line one → Says line (line_named (name_of one) first second body) → one ≡ line_named (name_of one) first second body
-one_of_name line (Append c r x) m s y one other = append_once line c r m s x y one other
+one_of_name line (Append c r x) m s y one other =
+    let words = spaced (decimal c ∷ decimal r ∷ one.word ∷ []) in
+    let parts = one_request words c r m s x y (appended words c r x (subst (λ (l : List ℕ). Says l (Append c r x)) one.is one)) (appended words m s y (subst (λ (l : List ℕ). Says l (Append m s y)) one.is other)) in
+    same_asked Append c m r s x y parts.0 parts.1 parts.2
+one_of_name line (Stage c r x) m s y one other =
+    let words = spaced (decimal c ∷ decimal r ∷ one.word ∷ []) in
+    let parts = one_request words c r m s x y (staged words c r x (subst (λ (l : List ℕ). Says l (Stage c r x)) one.is one)) (staged words m s y (subst (λ (l : List ℕ). Says l (Stage m s y)) one.is other)) in
+    same_asked Stage c m r s x y parts.0 parts.1 parts.2
+one_of_name line Flush m s y one other = refl
 one_of_name line (Reply n x) m s y one other =
     let parts = two_words (codes "reply ") n m line one.word other.word x y one.is other.is (omega (arith, one.fits.0)) (omega (arith, other.fits.0)) one.fits.1 other.fits.1 in
     same_sized Reply n m x y parts.0 parts.1

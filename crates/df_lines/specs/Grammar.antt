@@ -7,6 +7,8 @@ use Rattle.df_lines.specs.declared.line.Line.TheVariants as lines
 -- a line, with its body
 pub data Said : Type 0 where
   Append : (client request : ℕ) (body : List ℕ) → Said
+  Stage : (client request : ℕ) (body : List ℕ) → Said
+  Flush : Said
   Reply : (op : ℕ) (body : List ℕ) → Said
   Block : (kind : ℕ) (body : List ℕ) → Said
   Release : (address : ℕ) → Said
@@ -25,6 +27,8 @@ IsBody word body = ((word ≡ codes "-") × (body ≡ [])) ⊎ ((0 < length word
 -- The words of a line, where this word stands for its body. A number is its decimal digits, with no zero before them.
 abbrev pub words_of : Said → List ℕ → List (List ℕ)
 words_of (Append client request body) word = codes "append" ∷ decimal client ∷ decimal request ∷ word ∷ []
+words_of (Stage client request body) word = codes "stage" ∷ decimal client ∷ decimal request ∷ word ∷ []
+words_of Flush word = codes "flush" ∷ []
 words_of (Reply op body) word = codes "reply" ∷ decimal op ∷ word ∷ []
 words_of (Block kind body) word = codes "block" ∷ decimal kind ∷ word ∷ []
 words_of (Release address) word = codes "release" ∷ decimal address ∷ []
@@ -45,6 +49,8 @@ spaced (word ∷ next ∷ more) = word ++ (32 ∷ spaced (next ∷ more))
 -- a client is below 2^128, a block's kind below 2^8, any other number below 2^64, and this word stands for the body
 abbrev pub Fits : Said → List ℕ → Type 0
 Fits (Append client request body) word = (client < 2 ^ 128) × (request < 2 ^ 64) × IsBody word body
+Fits (Stage client request body) word = (client < 2 ^ 128) × (request < 2 ^ 64) × IsBody word body
+Fits Flush word = ⊤
 Fits (Reply op body) word = (op < 2 ^ 64) × IsBody word body
 Fits (Block kind body) word = (kind < 2 ^ 8) × IsBody word body
 Fits (Release address) word = address < 2 ^ 64
@@ -56,6 +62,12 @@ Fits (Read address) word = address < 2 ^ 64
 Fits Scrub word = ⊤
 Fits Recent word = ⊤
 
+-- The words behind the name of a line that asks for a request: its client, its number, and the word of its body.
+pub record AreRequest (words : List ℕ) (client request : ℕ) (body : List ℕ) : Type 0 where
+  pub word : List ℕ
+  pub is : words ≡ spaced (decimal client ∷ decimal request ∷ word ∷ [])
+  pub fits : (client < 2 ^ 128) × (request < 2 ^ 64) × IsBody word body
+
 -- The line says this. Only numbers' widths bound what a line may say; what a call takes is the call's own matter.
 pub record Says (line : List ℕ) (said : Said) : Type 0 where
   pub word : List ℕ
@@ -65,6 +77,8 @@ pub record Says (line : List ℕ) (said : Said) : Type 0 where
 -- what was read of a line, with its body at the front of the buffer
 abbrev pub said_with : List ℕ → Line → Said
 said_with buffer (lines.Append client request n) = Append client request (take n buffer)
+said_with buffer (lines.Stage client request n) = Stage client request (take n buffer)
+said_with buffer lines.Flush = Flush
 said_with buffer (lines.Reply op n) = Reply op (take n buffer)
 said_with buffer (lines.Block kind n) = Block kind (take n buffer)
 said_with buffer (lines.Release address) = Release address
@@ -79,6 +93,7 @@ said_with buffer lines.Recent = Recent
 -- how many bytes of the buffer are the line's body
 abbrev pub body_length : Line → ℕ
 body_length (lines.Append client request n) = n
+body_length (lines.Stage client request n) = n
 body_length (lines.Reply op n) = n
 body_length (lines.Block kind n) = n
 body_length (lines.Checkpoint n) = n

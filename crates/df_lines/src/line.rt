@@ -10,6 +10,14 @@ pub enum Line {
         request: u64,
         length: u64,
     },
+    /// `stage CLIENT REQUEST BODY`
+    Stage {
+        client: u128,
+        request: u64,
+        length: u64,
+    },
+    /// `flush`
+    Flush,
     /// `reply OP BODY`
     Reply {
         op: u64,

@@ -1,9 +1,9 @@
 // What a line says, by cases of its first word. The grammar has one meaning for a line at most.
 ghost use Rattle.std.specs.Prelude.{◌≡◌, ◌≤◌, ◌*◌, ◌++◌, List, ℕ, length, take, codes};
 ghost use Rattle.std.specs.Prelude.{IfSome, IfNone};
-ghost use Rattle.df_lines.specs.Grammar.{IsBody, Said, Says, said_with, body_length};
+ghost use Rattle.df_lines.specs.Grammar.{AreRequest, IsBody, Said, Says, said_with, body_length};
 ghost use Rattle.df_lines.specs.Grammar.{Append, Block, Checkpoint, Lookup, Prepare, Read};
-ghost use Rattle.df_lines.specs.Grammar.{Release, Reply};
+ghost use Rattle.df_lines.specs.Grammar.{Release, Reply, Stage};
 ghost use Rattle.df_lines.specs.Words.{HasNoSpace};
 
 use crate::line::Line;
@@ -24,6 +24,9 @@ pub fn parse(line: &[u8], body: &mut [u8]) -> Option<Line>
     };
     if name == b"append".as_slice() {
         return append(words, body);
+    }
+    if name == b"stage".as_slice() {
+        return stage(words, body);
     }
     if name == b"reply".as_slice() {
         return reply(words, body);
@@ -59,6 +62,9 @@ fn alone(line: &[u8]) -> Option<Line>
     if line == b"step".as_slice() {
         return Some(Line::Step);
     }
+    if line == b"flush".as_slice() {
+        return Some(Line::Flush);
+    }
     if line == b"scrub".as_slice() {
         return Some(Line::Scrub);
     }
@@ -66,6 +72,23 @@ fn alone(line: &[u8]) -> Option<Line>
         return Some(Line::Recent);
     }
     None
+}
+
+/// The client and the number of the request that these words ask for, with its decoded body at the front of `body`, and how many bytes
+/// that has.
+fn request(words: &[u8], body: &mut [u8]) -> Option<(u128, u64, u64)>
+    requires { length words.now ≤ 2 * length body.old }
+    ensures found { IfSome result (λ r. AreRequest words.now r.0 r.1 (take r.2 body.new)) }
+    ensures none { IfNone result ((client request : ℕ) (bytes : List ℕ) →
+        AreRequest words.now client request bytes → ⊥) }
+    ensures size { IfSome result (λ r. r.2 ≤ length body.new) }
+{
+    let (client, words) = cut(words)?;
+    let (request, word) = cut(words)?;
+    let client = u128_of(client)?;
+    let request = u64_of(request)?;
+    let length = decode(word, body)?;
+    Some((client, request, length))
 }
 
 /// What the line `append ` with these words behind it says.
@@ -77,12 +100,25 @@ fn append(words: &[u8], body: &mut [u8]) -> Option<Line>
         Says (codes "append " ++ words.now) (Append client request bytes) → ⊥) }
     ensures size { IfSome result (λ l. body_length l ≤ length body.new) }
 {
-    let (client, words) = cut(words)?;
-    let (request, word) = cut(words)?;
-    let client = u128_of(client)?;
-    let request = u64_of(request)?;
-    let length = decode(word, body)?;
+    let (client, request, length) = request(words, body)?;
     Some(Line::Append {
+        client,
+        request,
+        length,
+    })
+}
+
+/// What the line `stage ` with these words behind it says.
+fn stage(words: &[u8], body: &mut [u8]) -> Option<Line>
+    requires { length words.now ≤ 2 * length body.old }
+    ensures found { IfSome result (λ l.
+        Says (codes "stage " ++ words.now) (said_with body.new l)) }
+    ensures none { IfNone result ((client request : ℕ) (bytes : List ℕ) →
+        Says (codes "stage " ++ words.now) (Stage client request bytes) → ⊥) }
+    ensures size { IfSome result (λ l. body_length l ≤ length body.new) }
+{
+    let (client, request, length) = request(words, body)?;
+    Some(Line::Stage {
         client,
         request,
         length,

@@ -4,15 +4,16 @@ use Rattle.std.specs.List.{slice_get}
 use Rattle.std.proofs.lemmas.Bool.{lt-leb, and_right, and_left, and_from}
 use Rattle.df_theory.specs.Units.{Parts, Session}
 use Rattle.df_theory.specs.Shape.{Shape}
-use Rattle.df_model.specs.Work.{Running, Work}
+use Rattle.df_model.specs.Work.{Request, Running, Work}
 use Rattle.df_model.specs.Memory.{Course, Memory, course_of, free_of, block_room, memory_of, message_room}
-use Rattle.df_model.specs.Refusals.{append_refusals, begin_refusals, block_refusals, first_refusal, is_last_request, is_new, is_running, last_op, next_request, release_refusals, reply_refusals, session_of_client, steps_left}
-use Rattle.df_model.specs.Making.{first_of, needed_of, next_address, place_of_reply, prepare_of, reply_of}
-use Rattle.df_model.specs.After.{after_check, after_running, after_step_of, begun, lookup_answer, outcome, prepare_answer, read_answer, to_check, with_live, with_prepare, with_reply, with_running}
-use Rattle.df_model.specs.Commands.{Advance, Answer, Append, Begin, Command, Given, ReadBlock, ReadPrepare, ReadReply, Recent, Release, Reply, Scrub, ToAdvance, ToAppend, ToBegin, ToReadBlock, ToReadPrepare, ToReadReply, ToRecent, ToRelease, ToReply, ToScrub, ToWriteBlock, WriteBlock, after, supplied_block, supplied_message, supplied_sum, supplied_verdict}
+use Rattle.df_model.specs.Refusals.{append_refusals, begin_refusals, block_refusals, first_refusal, flush_refusals, is_last_request, is_new, is_running, is_staged, last_op, next_request, release_refusals, reply_refusals, request_refusals, session_of_client, stage_refusals, steps_left}
+use Rattle.df_model.specs.Making.{first_of, group_of, needed_of, next_address, place_of_reply, prepare_of, reply_of}
+use Rattle.df_model.specs.After.{after_check, after_running, after_step_of, begun, lookup_answer, outcome, prepare_answer, read_answer, to_check, with_group, with_live, with_prepare, with_reply, with_running, with_staged}
+use Rattle.df_model.specs.Commands.{Advance, Answer, Append, Begin, Command, Flush, Given, ReadBlock, ReadPrepare, ReadReply, Recent, Release, Reply, Scrub, Stage, ToAdvance, ToAppend, ToBegin, ToFlush, ToReadBlock, ToReadPrepare, ToReadReply, ToRecent, ToRelease, ToReply, ToScrub, ToStage, ToWriteBlock, WriteBlock, after, supplied_block, supplied_message, supplied_sum, supplied_sums, supplied_verdict}
 use Rattle.df_model.specs.Answering.{AppendsInOrder, MemoryLaw, OrderLaw, OthersInOrder, ReplyParentLaw}
 use Rattle.df_model.specs.declared.errors.AppendError.{AppendError}
 use Rattle.df_model.specs.declared.errors.AppendError.TheVariants as append
+use Rattle.df_model.specs.declared.errors.FlushError.TheVariants as flush
 use Rattle.df_model.specs.declared.errors.ReplyError.TheVariants as reply
 use Rattle.df_model.specs.declared.errors.BlockError.TheVariants as block
 use Rattle.df_model.specs.declared.errors.BeginError.{BeginError}
@@ -25,6 +26,7 @@ use Rattle.df_model.specs.declared.answers.Progress.TheVariants.{Working, Done}
 use Rattle.df_model.specs.declared.answers.Verdict.{Verdict}
 use Rattle.df_model.specs.declared.answers.Scrubbed.{Scrubbed}
 use Rattle.df_model.specs.declared.answers.Scrubbed.TheVariants.{Checked, TourEnd}
+use Rattle.df_model.proofs.Tests.{behind_decides, first_refuses}
 
 -- ---- answers by what is in memory
 
@@ -50,6 +52,8 @@ check_answer m verdict (x ∷ more) = Checked x.0 verdict
 
 abbrev pub answer_from : (Parts → List ℕ) → Memory → Given → Command → Answer
 answer_from spell m given (Append client request body) = ToAppend (answer_or (first_refusal (append_refusals m client request body)) (m.head + 1, supplied_sum given))
+answer_from spell m given (Stage client request body) = ToStage (answer_or (first_refusal (stage_refusals m client request body)) (m.head + length m.staged + 1))
+answer_from spell m given Flush = ToFlush (answer_or (first_refusal (flush_refusals m)) (length m.staged))
 answer_from spell m given (Reply op body) = ToReply (answer_or (first_refusal (reply_refusals m op body)) (supplied_sum given))
 answer_from spell m given (WriteBlock kind body) = ToWriteBlock (answer_or (first_refusal (block_refusals m kind body)) (next_address m, supplied_sum given))
 answer_from spell m given (Release address) = ToRelease (answer_or {A = Unit {0}} (first_refusal (release_refusals m address)) tt)
@@ -79,6 +83,8 @@ module _ (sh : Shape) (spell : Parts → List ℕ) (w : Work) (given : Given) wh
 
   pub answer_is : (c : Command) → (after sh spell w given c).1 ≡ answer_from spell m given c
   answer_is (Append client request body) = ap ToAppend (outcome_answer (first_refusal (append_refusals m client request body)) w (with_prepare w (prepare_of m (supplied_sum given) client request body)) (m.head + 1, supplied_sum given))
+  answer_is (Stage client request body) = ap ToStage (outcome_answer (first_refusal (stage_refusals m client request body)) w (with_staged w (record { client = client; request = request; body = body })) (m.head + length m.staged + 1))
+  answer_is Flush = ap ToFlush (outcome_answer (first_refusal (flush_refusals m)) w (with_group w (group_of m (supplied_sums given))) (length m.staged))
   answer_is (Reply op body) = ap ToReply (outcome_answer (first_refusal (reply_refusals m op body)) w (with_reply w (place_of_reply m) (reply_of m (supplied_sum given) body)) (supplied_sum given))
   answer_is (WriteBlock kind body) = ap ToWriteBlock (outcome_answer (first_refusal (block_refusals m kind body)) w (with_live w (next_address m) (Some (supplied_sum given))) (next_address m, supplied_sum given))
   answer_is (Release address) = ap ToRelease (outcome_answer {A = Unit {0}} (first_refusal (release_refusals m address)) w (with_live w address None) tt)
@@ -128,7 +134,7 @@ module _ (m : Memory) (client request : ℕ) (body : List ℕ) where
 
   -- the tests behind these
   abbrev last : List (Bool × AppendError)
-  last = (m.head - m.replies == 8, append.PipelineFull (m.head - m.replies)) ∷ (nat_lt (m.content.op + m.layout.slots) (m.head + 1), append.WalFull (m.head + 1) m.content.op) ∷ ((m.head == 2 ^ 62) || nat_lt (2 ^ 62) request, append.OpsSpent) ∷ []
+  last = (m.head - m.replies == 8, append.PipelineFull (m.head - m.replies)) ∷ (nat_lt (m.content.op + m.layout.slots) (m.head + 1), append.WalFull (m.head + 1) m.content.op) ∷ ((m.head == 2 ^ 62) || nat_lt (2 ^ 62) request, append.OpsSpent) ∷ (is_staged m, append.Staged (length m.staged)) ∷ []
 
   abbrev after_pending : List (Bool × AppendError)
   after_pending = number_test ∷ last
@@ -182,10 +188,13 @@ module _ (m : Memory) (client request : ℕ) (body : List ℕ) where
     repeated = λ s named fits known same stored. past_two _ named fits (repeats s known same stored);
     pending = λ s named fits known late. past_two _ named fits (waits s known late);
     number = λ s named fits known stored above. past_two _ named fits (orders s known stored above);
+    first = λ e some. first_refuses (request_refusals m client request body) ((is_staged m, append.Staged (length m.staged)) ∷ []) e some;
+    staged = λ none some. behind_decides (request_refusals m client request body) ((is_staged m, append.Staged (length m.staged)) ∷ []) none ∙ hit (is_staged m, append.Staged (length m.staged)) [] (lt-ltb 0 (length m.staged) some);
   }
 
   others : OthersInOrder m request body
   others = record {
+    unstaged = λ none. hit (not (is_staged m), flush.NothingStaged) [] (ap (λ (rs : List Request). not (nat_lt 0 (length rs))) none);
     nothing = λ same. hit (m.replies == m.head, reply.NothingPending m.head) ((not (request == m.replies + 1), reply.ReplyOrder (m.replies + 1)) ∷ (long_test.0, reply.BodyTooLong (message_room m.layout)) ∷ []) (eq-eqb m.replies m.head same);
     kind = λ same. hit (request == 0, block.KindZero) ((nat_lt (block_room m.layout) (length body), block.BodyTooLong (block_room m.layout)) ∷ (length (free_of m) == 0, block.GridFull m.layout.blocks) ∷ []) (eq-eqb request 0 same);
     running = λ r at. ap (λ (o : Option Course). first_refusal (begin_refusals (record m { running = o }) request body)) at;

@@ -1,42 +1,44 @@
 -- An append.
-use Rattle.std.proofs.Common.{◌≡◌, inl, inr, ℕ, ◌+◌, ◌<◌, ◌≤◌, true, List, [], ◌∷◌, ◌++◌, length, take, Option, Some, None, refl, sym, ◌∙◌, ap, subst, arith, length-append, ltb-false, eqb-true}
+use Rattle.std.proofs.Common.{◌≡◌, inl, inr, ℕ, ◌+◌, ◌<◌, ◌≤◌, nat_lt, true, false, if◌then◌else◌, List, [], ◌∷◌, ◌++◌, length, take, Option, Some, None, refl, sym, ◌∙◌, ap, subst, arith, length-append, ltb-false, eqb-true}
 use Rattle.std.specs.Prelude.{◌-◌, ◌^◌}
 use Rattle.std.proofs.lemmas.List.{take-append-le}
 use Rattle.std.proofs.lemmas.Bool.{or_parts, not-false, eqb-false}
 use Rattle.df_base.proofs.Laws.{and_false}
-use Rattle.df_theory.specs.Units.{Message, Session, Parts}
+use Rattle.df_theory.specs.Units.{Header, Message, Session, Parts}
 use Rattle.df_theory.specs.Sessions.{MayAsk}
 use Rattle.df_theory.specs.Shape.{Shape}
 use Rattle.df_theory.specs.View.{View, head, sessions}
 use Rattle.df_theory.specs.Next.{IsStamped, MayAppend, appended}
 use Rattle.df_theory.proofs.Laws.{in_either, in_single, sessions-append, append_sound}
-use Rattle.df_model.specs.Work.{Running, Work}
+use Rattle.df_model.specs.Work.{Request, Running, Work}
 use Rattle.df_model.specs.Codec.{AreLawful}
-use Rattle.df_model.specs.Refusals.{append_refusals, first_refusal, is_new, last_op, next_request, session_of_client}
+use Rattle.df_model.specs.Refusals.{append_refusals, first_refusal, is_new, is_staged, last_op, next_request, request_refusals, session_of_client}
 use Rattle.df_model.specs.After.{with_prepare}
-use Rattle.df_model.specs.Sense.{AreWaiting, IsCapture, IsWork}
+use Rattle.df_model.specs.Sense.{AreStaged, AreWaiting, IsCapture, IsWork}
 use Rattle.df_model.specs.Laws.{AppendMayLaw}
+use Rattle.df_model.specs.declared.errors.AppendError.TheVariants as append
 use Rattle.df_model.proofs.Captures.{capture_on}
-use Rattle.df_model.proofs.Tests.{get_front, get_last, all_pass}
+use Rattle.df_model.proofs.Tests.{get_front, get_last, all_pass, pass_both}
+use Rattle.df_model.proofs.Groups.{nothing_staged}
 use Rattle.df_model.proofs.Knows.{append_knows, one_fewer}
 use Rattle.df_model.proofs.Sessions.{known_asks, new_asks, noted_lawful}
-use Rattle.df_model.specs.Memory.{memory_of}
-use Rattle.df_model.specs.Making.{prepare_of}
+use Rattle.df_model.specs.Memory.{Memory, memory_of}
+use Rattle.df_model.specs.Making.{prepare_of, prepares_in}
 
--- what is known of an append that isn't refused
-pub record IsAllowed (sh : Shape) (w : Work) (client request : ℕ) (session : Option Session) : Type 0 where
+-- what is known of a request that isn't refused
+pub record IsAllowed (m : Memory) (client request : ℕ) (session : Option Session) : Type 0 where
   pub named : client ≡ 0 → ⊥
-  pub places : is_new session ≡ true → length (sessions w.view) ≡ sh.layout.clients → ⊥
-  pub answered : last_op session ≤ w.view.replies
+  pub places : is_new session ≡ true → length m.sessions ≡ m.layout.clients → ⊥
+  pub answered : last_op session ≤ m.replies
   pub next : request ≡ next_request session
-  pub pipeline : head w.view - w.view.replies ≡ 8 → ⊥
-  pub room : head w.view + 1 ≤ w.view.checkpoint.content.op + sh.layout.slots
-  pub op : head w.view ≡ 2 ^ 62 → ⊥
+  pub pipeline : m.head - m.replies ≡ 8 → ⊥
+  pub room : m.head + 1 ≤ m.content.op + m.layout.slots
+  pub op : m.head ≡ 2 ^ 62 → ⊥
   pub request_to : request ≤ 2 ^ 62
 
-pub allowed : (sh : Shape) (spell : Parts → List ℕ) (w : Work) (client request : ℕ) (body : List ℕ) → first_refusal (append_refusals (memory_of sh spell w) client request body) ≡ None → IsAllowed sh w client request (session_of_client client (sessions w.view))
-allowed sh spell w client request body none =
-    let tests = all_pass (append_refusals (memory_of sh spell w) client request body) none in
+pub allowed : (m : Memory) (client request : ℕ) (body : List ℕ) → first_refusal (request_refusals m client request body) ≡ None → IsAllowed m client request (session_of_client client m.sessions)
+allowed m client request body none =
+    let tests = all_pass (request_refusals m client request body) none in
     let last = or_parts _ _ tests.1.1.1.1.1.1.1.1.0 in
     record {
       named = eqb-false _ _ tests.0;
@@ -49,26 +51,42 @@ allowed sh spell w client request body none =
       request_to = ltb-false _ _ last.1;
     }
 
+-- so its client may ask
+pub allowed_asks : (m : Memory) (h : Header) (body : List ℕ) → length m.sessions ≤ m.layout.clients → m.replies ≤ h.mark → IsAllowed m h.client h.request (session_of_client h.client m.sessions) → MayAsk m.layout.clients h m.sessions
+allowed_asks m h body few mark is = go (session_of_client h.client m.sessions) refl is
+  where
+    go : (o : Option Session) → session_of_client h.client m.sessions ≡ o → IsAllowed m h.client h.request o → MayAsk m.layout.clients h m.sessions
+    go None at fine = new_asks m.layout.clients h m.sessions at (let full = fine.places refl in omega arith) fine.next
+    go (Some s) at fine = known_asks m.layout.clients h m.sessions s at few fine.next (omega (arith, fine.answered, mark))
+
+-- the first request of a new client, or one more
+pub some_request : (o : Option Session) → 0 < next_request o
+some_request None = omega arith
+some_request (Some s) = omega arith
+
+-- nothing is staged
+no_requests : (rs : List Request) → (nat_lt 0 (length rs)) ≡ false → rs ≡ []
+no_requests [] none = refl
+no_requests (r ∷ rs) none = absurd (omega (arith, ltb-false 0 (length (r ∷ rs)) none))
+
 module _ (sh : Shape) (spell : Parts → List ℕ) (w : Work) (sum client request : ℕ) (body : List ℕ) (work : IsWork sh spell w) (none : first_refusal (append_refusals (memory_of sh spell w) client request body) ≡ None) where
   abbrev v : View
   v = w.view
 
+  both : (first_refusal (request_refusals (memory_of sh spell w) client request body) ≡ None) × ((if is_staged (memory_of sh spell w) then Some (append.Staged (length w.staged)) else None) ≡ None)
+  both = pass_both (request_refusals (memory_of sh spell w) client request body) ((is_staged (memory_of sh spell w), append.Staged (length w.staged)) ∷ []) none
+
+  unstaged : w.staged ≡ []
+  unstaged = no_requests w.staged (all_pass ((is_staged (memory_of sh spell w), append.Staged (length w.staged)) ∷ []) both.1).0
+
   abbrev p : Message
   p = prepare_of (memory_of sh spell w) sum client request body
 
-  is : IsAllowed sh w client request (session_of_client client (sessions v))
-  is = allowed sh spell w client request body none
-
-  asks_of : (o : Option Session) → session_of_client client (sessions v) ≡ o → IsAllowed sh w client request o → MayAsk sh.layout.clients p.header (sessions v)
-  asks_of None at fine = new_asks sh.layout.clients p.header (sessions v) at (
-      let few = work.sessions.few in
-      let full = fine.places refl in
-      omega arith
-      ) fine.next
-  asks_of (Some s) at fine = known_asks sh.layout.clients p.header (sessions v) s at work.sessions.few fine.next fine.answered
+  is : IsAllowed (memory_of sh spell w) client request (session_of_client client (sessions v))
+  is = allowed (memory_of sh spell w) client request body both.0
 
   asks : MayAsk sh.layout.clients p.header (sessions v)
-  asks = asks_of (session_of_client client (sessions v)) refl is
+  asks = allowed_asks (memory_of sh spell w) p.header body work.sessions.few (omega arith) is
 
   pub may_append : MayAppend sh v (p ∷ [])
   may_append = record {
@@ -85,11 +103,6 @@ module _ (sh : Shape) (spell : Parts → List ℕ) (w : Work) (sum client reques
 
   head_is : head (appended v (p ∷ [])) ≡ head v + 1
   head_is = omega (arith, length-append v.tail (p ∷ []))
-
-  -- the first request of a new client, or one more
-  some_request : (o : Option Session) → 0 < next_request o
-  some_request None = omega arith
-  some_request (Some s) = omega arith
 
   lawful : client < 2 ^ 128 → AreLawful sh.layout.clients (sessions (appended v (p ∷ [])))
   lawful fits = subst (AreLawful sh.layout.clients) (sym (sessions-append v.checkpoint.parts.sessions v.tail (p ∷ []))) (noted_lawful sh.layout.clients p.header (sessions v) work.sessions asks (record {
@@ -117,11 +130,19 @@ module _ (sh : Shape) (spell : Parts → List ℕ) (w : Work) (sum client reques
       (λ q at low. elim (in_either q v.tail (p ∷ []) at) [ inl before ↦ old.ends q before low | inr new ↦ absurd (omega (arith, ap (λ (x : Message). x.header.op) (in_single q p new), old.op_to)) ])
       (omega (arith, old.op_to, head_is))
 
+  -- nothing is staged behind it
+  staged : client < 2 ^ 128 → (rs : List Request) → rs ≡ [] → AreStaged sh (appended v (p ∷ [])) (prepares_in (memory_of sh spell (with_prepare w p)) (head (appended v (p ∷ [])) + 1) (head (appended v (p ∷ [])) + length rs) (head (appended v (p ∷ [])) + 1) (memory_of sh spell (with_prepare w p)).head_checksum rs [])
+  staged fits rs none =
+      let top = head (appended v (p ∷ [])) in
+      let m = memory_of sh spell (with_prepare w p) in
+      subst (λ (qs : List Request). AreStaged sh (appended v (p ∷ [])) (prepares_in m (top + 1) (top + length qs) (top + 1) m.head_checksum qs [])) (sym none) (nothing_staged sh (appended v (p ∷ [])) (append_sound sh v (p ∷ []) work.view may_append) (lawful fits))
+
   pub append_keeps : client < 2 ^ 128 → IsWork sh spell (with_prepare w p)
   append_keeps fits = record {
     codec = work.codec;
     version = record { version = work.version.version; places = work.version.places; names = work.version.names };
     view = append_sound sh v (p ∷ []) work.view may_append;
+    staged = staged fits w.staged unstaged;
     sessions = lawful fits;
     grid = work.grid;
     waiting = waiting;

@@ -62,6 +62,7 @@ live_keeps sh spell w a c fits work free = record {
   sessions = work.sessions;
   grid = λ k held. go k (k == a) refl held;
   waiting = work.waiting;
+  staged = work.staged;
   running = work.running;
   one = one_more w (with_live w a (Some c)) a c (live_knows w a c) (nowhere_new w a (nowhere w a free.unheld)) work.one;
   sums = λ k d is. sums k d (k == a) is;
@@ -89,6 +90,7 @@ release_keeps sh spell w a work = record {
   sessions = work.sessions;
   grid = λ k held. go k (k == a) held;
   waiting = work.waiting;
+  staged = work.staged;
   running = work.running;
   one = one_fewer w (with_live w a None) (release_knows w a) work.one;
   sums = λ k d is. sums k d (k == a) is;

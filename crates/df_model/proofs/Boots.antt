@@ -1,5 +1,5 @@
 -- A boot update: it may be made, its state makes sense, and it leads on.
-use Rattle.std.proofs.Common.{◌≡◌, inl, inr, ℕ, ◌+◌, ◌-◌, ◌<◌, ◌^◌, List, [], ◌∷◌, take, drop, false, true, refl, sym, ◌∙◌, ap, subst, arith}
+use Rattle.std.proofs.Common.{◌≡◌, inl, inr, ℕ, ◌+◌, ◌-◌, ◌<◌, ◌^◌, List, [], ◌∷◌, length, take, drop, false, true, refl, sym, ◌∙◌, ap, subst, arith}
 use Rattle.df_theory.specs.Units.{BlockPlace, Content, Message, Parts, PreparePlace, PrepareUnit}
 use Rattle.df_theory.specs.Tails.{In, last_checksum}
 use Rattle.df_theory.specs.Shape.{Shape}
@@ -25,6 +25,7 @@ use Rattle.df_model.specs.Laws.{BacksOn, LeadsOn}
 use Rattle.df_model.specs.Boots.{BootCommandLaw, BootMayLaw, IsMendedFor, RaisedLaw, Raises}
 use Rattle.df_model.proofs.Captures.{capture_raised}
 use Rattle.df_model.proofs.Grid.{each_weaker}
+use Rattle.df_model.proofs.Groups.{staged_on}
 use Rattle.df_model.proofs.Knows.{KnowsNoMore, one_fewer}
 use Rattle.df_model.proofs.NoBlocks.{blocks_stay, spare_all, update_no_blocks}
 use Rattle.df_model.proofs.Recording.{IsRecordable, named_count, recordable, records_now}
@@ -64,6 +65,11 @@ raised_law sh spell w sum work unspent = record {
     sessions = work.sessions;
     grid = work.grid;
     waiting = record { count = work.waiting.count; each = work.waiting.each };
+    staged =
+        let m = memory_of sh spell w in
+        let n = memory_of sh spell (raised w d) in
+        let top = head w.view in
+        staged_on sh w.view (booted w.view d) m n (top + 1) (top + length w.staged) (top + 1) (top + length w.staged) (top + 1) (top + 1) m.head_checksum n.head_checksum w.staged [] [] refl (omega arith) (omega arith) refl (omega arith) refl work.staged;
     running = λ r at. capture_raised sh spell w sum r (work.running r at);
     one = one_fewer w (raised w d) (raised_knows w d) work.one;
     sums = work.sums;

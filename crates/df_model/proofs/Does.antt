@@ -1,5 +1,5 @@
 -- What each command does to the device leads on.
-use Rattle.std.proofs.Common.{◌≡◌, inl, inr, ℕ, ◌+◌, ◌==◌, Bool, true, false, if◌then◌else◌, List, [], ◌∷◌, Option, Some, None, refl, sym, ◌∙◌, ap, subst, arith}
+use Rattle.std.proofs.Common.{◌≡◌, inl, inr, ℕ, ◌+◌, ◌==◌, Bool, true, false, if◌then◌else◌, List, [], ◌∷◌, length, Option, Some, None, refl, sym, ◌∙◌, ap, subst, arith}
 use Rattle.df_theory.specs.Units.{Block, BlockPlace, BlockUnit, Content, CopyPlace, CopyUnit, Parts, Units, overlay}
 use Rattle.df_theory.specs.Trailer.{InChain}
 use Rattle.df_theory.specs.Shape.{Shape}
@@ -12,16 +12,17 @@ use Rattle.df_theory.proofs.Laws.{put_else, tidy_block_law, tidy_finish_law}
 use Rattle.df_model.specs.Work.{Running, Work}
 use Rattle.df_model.specs.Memory.{memory_of}
 use Rattle.df_model.specs.Blocks.{addresses}
-use Rattle.df_model.specs.Making.{block_of, needed_of, next_address, place_of_reply, prepare_of, reply_of}
-use Rattle.df_model.specs.Refusals.{append_refusals, begin_refusals, block_refusals, first_refusal, release_refusals, reply_refusals}
-use Rattle.df_model.specs.After.{after_check, after_running, after_step_of, begun, checkpoint_of, next_trailer, outcome, to_check, with_live, with_prepare, with_reply, with_running, with_trailer_block}
-use Rattle.df_model.specs.Commands.{Advance, Append, Begin, ReadBlock, ReadPrepare, ReadReply, Recent, Release, Reply, Scrub, WriteBlock, supplied_sum, supplied_sums, supplied_verdict}
+use Rattle.df_model.specs.Making.{block_of, group_of, needed_of, next_address, place_of_reply, prepare_of, reply_of}
+use Rattle.df_model.specs.Refusals.{append_refusals, begin_refusals, block_refusals, first_refusal, flush_refusals, release_refusals, reply_refusals, stage_refusals}
+use Rattle.df_model.specs.After.{after_check, after_running, after_step_of, begun, checkpoint_of, next_trailer, outcome, to_check, with_group, with_live, with_prepare, with_reply, with_running, with_staged, with_trailer_block}
+use Rattle.df_model.specs.Commands.{Advance, Append, Begin, Flush, ReadBlock, ReadPrepare, ReadReply, Recent, Release, Reply, Scrub, Stage, WriteBlock, supplied_sum, supplied_sums, supplied_verdict}
 use Rattle.df_model.specs.Sense.{AtEachOf, IsBacked, IsClear, IsSpare, RiseFrom, ShowsOwnBlock, ShowsWritten}
-use Rattle.df_model.specs.Laws.{CommandLaw, DoesAdvance, DoesAdvanceTo, DoesAppend, DoesBlock, DoesFinish, DoesReply, IsKeptBy, UnlessRefused}
+use Rattle.df_model.specs.Laws.{CommandLaw, DoesAdvance, DoesAdvanceTo, DoesAppend, DoesBlock, DoesFinish, DoesFlush, DoesReply, IsKeptBy, UnlessRefused}
 use Rattle.df_model.proofs.Entries.{entry_in}
 use Rattle.df_model.proofs.Blocks.{first_small, kind_some, next_free, release_keeps}
 use Rattle.df_model.proofs.Finishes.{finish_keeps, may_finish}
-use Rattle.df_model.proofs.Writing.{Both, SameBlocks, append_on, block_else, block_on, idle, own_same, put_at, reply_on, stay}
+use Rattle.df_model.proofs.Staging.{stage_keeps}
+use Rattle.df_model.proofs.Writing.{Both, SameBlocks, append_on, block_else, block_on, flush_on, idle, own_same, put_at, reply_on, stay}
 use Rattle.df_model.proofs.Keeps.{begin_keeps, check_keeps, check_live, check_running, check_view, trailer_keeps}
 
 -- ---- the steps of a checkpoint
@@ -176,6 +177,16 @@ command_law sh spell log w given (Append client request body) steps input keeps 
     let p = prepare_of (memory_of sh spell w) (supplied_sum given) client request body in
     outcome_does sh spell log (first_refusal (append_refusals (memory_of sh spell w) client request body)) w (with_prepare w p) (p.header.op, supplied_sum given) steps (DoesAppend sh (now log) w.view p steps) keeps
     (λ none done. append_on sh spell log w (supplied_sum given) client request body steps input.fields keeps none done) does
+command_law sh spell log w given (Stage client request body) steps input keeps does =
+    let m = memory_of sh spell w in
+    let u = with_staged w (record { client = client; request = request; body = body }) in
+    outcome_idle sh spell log (first_refusal (stage_refusals m client request body)) w u (m.head + length m.staged + 1) steps keeps
+    (λ none. idle sh spell log w u steps refl keeps (stage_keeps sh spell w client request body keeps.sense none input.fields) keeps.written (checked log w u refl refl refl) does) does
+command_law sh spell log w given Flush steps input keeps does =
+    let m = memory_of sh spell w in
+    let ps = group_of m (supplied_sums given) in
+    outcome_does sh spell log (first_refusal (flush_refusals m)) w (with_group w ps) (length m.staged) steps (DoesFlush sh (now log) w.view ps steps) keeps
+    (λ none done. flush_on sh spell log w (supplied_sums given) steps keeps none done) does
 command_law sh spell log w given (Reply op body) steps input keeps does =
     let place = place_of_reply (memory_of sh spell w) in
     let r = reply_of (memory_of sh spell w) (supplied_sum given) body in

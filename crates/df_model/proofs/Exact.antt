@@ -1,15 +1,20 @@
 -- What may be done isn't refused.
-use Rattle.std.proofs.Common.{◌≡◌, inl, inr, ℕ, ◌+◌, ◌<◌, ◌≤◌, ◌==◌, ◌&&◌, not, nat_le, Bool, true, false, if◌then◌else◌, List, [], ◌∷◌, length, Option, Some, None, refl, ap, arith, ne_eqb, le-ltb, eqb-true, eq-eqb}
+use Rattle.std.proofs.Common.{◌≡◌, inl, inr, ℕ, ◌+◌, ◌<◌, ◌≤◌, ◌==◌, ◌&&◌, not, nat_le, nat_lt, Bool, true, false, if◌then◌else◌, List, [], ◌∷◌, ◌++◌, length, Option, Some, None, refl, sym, ◌∙◌, ap, subst, arith, length-append, ne_eqb, le-ltb, eqb-true, eq-eqb}
+use Rattle.std.specs.Prelude.{◌^◌}
 use Rattle.std.proofs.lemmas.Bool.Decides.{nat_tests}
 use Rattle.std.proofs.lemmas.Bool.{or_from, eqb-false}
 use Rattle.df_theory.specs.Units.{Header, Session}
 use Rattle.df_theory.specs.Sessions.{MayAsk}
 use Rattle.df_theory.specs.View.{head, sessions}
-use Rattle.df_model.specs.Refusals.{append_refusals, first_refusal, is_last_request, is_new, last_op, next_request, reply_refusals, session_of_client}
-use Rattle.df_model.specs.Laws.{AppendExactLaw, ReplyExactLaw}
-use Rattle.df_model.proofs.Tests.{AllPass}
-use Rattle.df_model.specs.Memory.{memory_of}
-use Rattle.df_model.specs.Making.{prepare_of}
+use Rattle.df_model.specs.declared.errors.AppendError.TheVariants as append
+use Rattle.df_model.specs.Refusals.{counted, first_refusal, is_last_request, is_new, is_staged, last_op, next_request, reply_refusals, request_refusals, session_of_client}
+use Rattle.df_model.specs.Work.{Request}
+use Rattle.df_model.specs.After.{with_staged}
+use Rattle.df_model.specs.Laws.{AppendExactLaw, ReplyExactLaw, StageExactLaw}
+use Rattle.df_model.proofs.Tests.{AllPass, behind_decides}
+use Rattle.df_model.proofs.Groups.{alike_sessions, asks_behind, length_in}
+use Rattle.df_model.specs.Memory.{Memory, memory_of, message_room}
+use Rattle.df_model.specs.Making.{prepare_in, prepare_of}
 
 pass_one : {E : Type 0} (b : Bool) (e : E) (ts : List (Bool × E)) → b ≡ false → first_refusal ts ≡ None → (if b then Some e else first_refusal ts) ≡ None
 pass_one true e ts is rest = absurd (cc)
@@ -45,14 +50,37 @@ repeated_test : (o : Option Session) (request n : ℕ) → request ≡ next_requ
 repeated_test None request n next = refl
 repeated_test (Some s) request n next = grind (arith, nat_tests)
 
-pub append_exact_law : AppendExactLaw
-append_exact_law sh spell w sum client request body work named fits in_range may =
-    let v = w.view in
-    let asked = has_asked sh.layout.clients (prepare_of (memory_of sh spell w) sum client request body).header (sessions v) may.asks.0 in
-    pass_all (append_refusals (memory_of sh spell w) client request body) (
+-- a request whose client may ask, and for which slots and ops are left, passes all of its tests
+requests_pass : (m : Memory) (client request : ℕ) (body : List ℕ) (h : Header) → 0 < client → length body ≤ message_room m.layout → request ≤ 2 ^ 62 → h.client ≡ client → h.request ≡ request → h.mark ≡ m.replies → MayAsk m.layout.clients h m.sessions
+    → m.head + 1 ≤ m.content.op + m.layout.slots → m.head + 1 ≤ m.replies + 8 → m.head + 1 ≤ 2 ^ 62 → first_refusal (request_refusals m client request body) ≡ None
+requests_pass m client request body h named fits in_range of_client of_request of_mark may room pipeline unspent =
+    let asked : HasAsked m.layout.clients m.sessions h (session_of_client client m.sessions) = subst (λ (c : ℕ). HasAsked m.layout.clients m.sessions h (session_of_client c m.sessions)) of_client (has_asked m.layout.clients h m.sessions may) in
+    let next : request ≡ next_request (session_of_client client m.sessions) = sym of_request ∙ asked.next in
+    pass_all (request_refusals m client request body) (
       ne_eqb client 0 (λ same. omega arith),
-      (le-ltb _ _ fits, (new_test (session_of_client client (sessions v)) (length (sessions v)) sh.layout.clients asked.place, (repeated_test (session_of_client client (sessions v)) request v.replies asked.next, (le-ltb _ _ asked.answered, (ap not (eq-eqb _ _ asked.next), (ne_eqb _ _ (λ same. omega (arith, may.pipeline)), (le-ltb _ _ (omega (arith, may.room)), (or_from _ _ (ne_eqb _ _ (λ same. omega (arith, may.unspent))) (le-ltb _ _ in_range), tt)))))))),
+      (le-ltb _ _ fits, (new_test (session_of_client client m.sessions) (length m.sessions) m.layout.clients asked.place, (repeated_test (session_of_client client m.sessions) request m.replies next, (le-ltb _ _ (omega (arith, asked.answered, of_mark)), (ap not (eq-eqb _ _ next), (ne_eqb _ _ (λ same. omega (arith, pipeline)), (le-ltb _ _ room, (or_from _ _ (ne_eqb _ _ (λ same. omega (arith, unspent))) (le-ltb _ _ in_range), tt)))))))),
     )
+
+pub append_exact_law : AppendExactLaw
+append_exact_law sh spell w sum client request body work none named fits in_range may =
+    let m = memory_of sh spell w in
+    behind_decides (request_refusals m client request body) ((is_staged m, append.Staged (length m.staged)) ∷ [])
+    (requests_pass m client request body (prepare_of m sum client request body).header named fits in_range refl refl refl may.asks.0 (omega (arith, may.room)) may.pipeline may.unspent)
+    ∙ ap (λ (rs : List Request). if nat_lt 0 (length rs) then Some (append.Staged (length rs)) else None) none
+
+pub stage_exact_law : StageExactLaw
+stage_exact_law sh spell w client request body work named fits in_range may =
+    let m = memory_of sh spell w in
+    let top = head w.view in
+    let r : Request = record { client = client; request = request; body = body } in
+    let n = memory_of sh spell (with_staged w r) in
+    let many = length (w.staged ++ r ∷ []) in
+    let longer : many ≡ length w.staged + 1 = length-append w.staged (r ∷ []) in
+    let all = length_in n (top + 1) (top + many) (top + 1) n.head_checksum (w.staged ++ r ∷ []) [] in
+    let one = prepare_in n (top + 1) (top + many) 0 0 0 r in
+    let asks = asks_behind n (top + 1) (top + many) sh.layout.clients (top + 1) n.head_checksum w.staged r [] (sessions w.view) may.asks in
+    let same = alike_sessions n m (top + 1) (top + many) (top + 1) (top + length w.staged) (top + 1) (top + 1) n.head_checksum m.head_checksum w.staged [] [] (sessions w.view) refl in
+    requests_pass (counted m) client request body one.header named fits in_range refl refl refl (subst (MayAsk sh.layout.clients one.header) same asks) (omega (arith, may.room, all, longer)) (omega (arith, may.pipeline, all, longer)) (omega (arith, may.unspent, all, longer))
 
 pub reply_exact_law : ReplyExactLaw
 reply_exact_law sh spell w sum body fits may =

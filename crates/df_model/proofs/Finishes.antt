@@ -17,6 +17,7 @@ use Rattle.df_model.proofs.Knows.{finish_knows, one_fewer}
 use Rattle.df_model.specs.Laws.{FinishExactLaw, FinishMayLaw}
 use Rattle.df_model.specs.Memory.{block_room, last_address, last_sum, memory_of}
 use Rattle.df_model.proofs.Captures.{same_links}
+use Rattle.df_model.proofs.Groups.{staged_on}
 use Rattle.df_model.proofs.Recording.{IsRecordable, named_count, recordable, records_now}
 
 -- the last block of a chain that isn't empty
@@ -130,6 +131,7 @@ module _ (sh : Shape) (spell : Parts → List ℕ) (w : Work) (r : Running) (sum
 pub finish_keeps : (sh : Shape) (spell : Parts → List ℕ) (w : Work) (r : Running) (sum : ℕ) → IsWork sh spell w → w.running ≡ Some r → r.left ≡ [] → IsWork sh spell (finished sh spell w r sum)
 finish_keeps sh spell w r sum work at done =
     let is : IsCapture sh spell w.view r = work.running r at in
+    let u : Work = finished sh spell w r sum in
     let same : head (checkpointed w.view (checkpoint_of sh spell w r sum)) ≡ head w.view = head_same sh spell w r sum work is done in
     record {
       codec = work.codec;
@@ -145,6 +147,11 @@ finish_keeps sh spell w r sum work at done =
         each = λ i p there op. work.waiting.each i p (in_dropped (r.op - w.view.checkpoint.content.op) p w.view.tail there) op;
       };
       running = λ q none. absurd (cc);
+      staged =
+          let m = memory_of sh spell w in
+          let n = memory_of sh spell u in
+          staged_on sh w.view u.view m n (head w.view + 1) (head w.view + length w.staged) (head u.view + 1) (head u.view + length w.staged) (head w.view + 1) (head u.view + 1) m.head_checksum n.head_checksum w.staged [] []
+          (omega (arith, same)) (omega arith) (omega (arith, length-drop (r.op - w.view.checkpoint.content.op) w.view.tail)) same (omega arith) (same_sessions sh spell w r sum work is done) work.staged;
       one = one_fewer w (finished sh spell w r sum) (finish_knows sh spell w r sum at) work.one;
       sums = work.sums;
       few = work.few;

@@ -19,8 +19,8 @@ use Rattle.df_theory.specs.Next.{Append, Finish, Next, Reply, Same}
 use Rattle.df_theory.proofs.Laws.{chain_ops}
 use Rattle.df_model.specs.Work.{Running, Work, checksum_of, is_captured, is_in, is_known, is_of, opened, waiting_checksum}
 use Rattle.df_model.specs.Codec.{AreBytes, AreLawful, IsCodec, IsLawful}
-use Rattle.df_model.specs.Refusals.{append_refusals, begin_refusals, block_refusals, first_refusal, release_refusals, reply_refusals}
-use Rattle.df_model.specs.After.{newest, with_running, next_trailer, after_check, after_running, after_step_of, begun, checkpoint_of, outcome, to_check, with_live, with_prepare, with_reply, with_trailer_block}
+use Rattle.df_model.specs.Refusals.{append_refusals, begin_refusals, block_refusals, first_refusal, flush_refusals, release_refusals, reply_refusals, stage_refusals}
+use Rattle.df_model.specs.After.{newest, with_running, next_trailer, after_check, after_running, after_step_of, begun, checkpoint_of, outcome, to_check, with_group, with_live, with_prepare, with_reply, with_staged, with_trailer_block}
 use Rattle.df_model.specs.Sense.{AtEachOf, IsCapture, IsClear, IsWork}
 use Rattle.df_model.specs.declared.answers.Verdict.{Verdict}
 use Rattle.df_model.specs.declared.answers.Verdict.TheVariants.{Sound as IsFine, Failing}
@@ -28,14 +28,17 @@ use Rattle.df_model.specs.Laws.{HasFields, NextLaw, OpenedLaw, SenseLaw}
 use Rattle.df_model.proofs.Grid.{IsFree, are_free, each_take, each_weaker, in_each, nowhere}
 use Rattle.df_model.proofs.Knows.{begin_knows, one_fewer, one_more, opened_one, scrub_one, trailer_knows, trailer_new}
 use Rattle.df_model.proofs.Appends.{append_keeps, may_append}
+use Rattle.df_model.proofs.Groups.{nothing_staged}
+use Rattle.df_model.proofs.Staging.{stage_keeps}
+use Rattle.df_model.proofs.Flushing.{flush_keeps, may_flush}
 use Rattle.df_model.proofs.Replies.{may_reply, reply_keeps}
 use Rattle.df_model.proofs.Blocks.{first_small, live_keeps, next_free, release_keeps}
 use Rattle.df_model.proofs.Steps.{begin_capture, step_capture}
 use Rattle.df_model.proofs.Finishes.{finish_keeps, is_finish}
 use Rattle.df_model.proofs.Recording.{get_range}
 use Rattle.df_model.specs.Memory.{free_of, memory_of}
-use Rattle.df_model.specs.Making.{needed_of, next_address, place_of_reply, prepare_of, reply_of}
-use Rattle.df_model.specs.Commands.{Advance, Append as ToAppendOf, Begin, ReadBlock, ReadPrepare, ReadReply, Recent, Release, Reply as ToReplyOf, Scrub, WriteBlock, supplied_sum, supplied_sums, supplied_verdict}
+use Rattle.df_model.specs.Making.{group_of, needed_of, next_address, place_of_reply, prepare_of, reply_of}
+use Rattle.df_model.specs.Commands.{Advance, Append as ToAppendOf, Begin, Flush, ReadBlock, ReadPrepare, ReadReply, Recent, Release, Reply as ToReplyOf, Scrub, Stage, WriteBlock, supplied_sum, supplied_sums, supplied_verdict}
 
 -- ---- a begin
 
@@ -58,6 +61,7 @@ begin_keeps sh spell w root bytes work none =
         | inr old ↦ work.grid a old
       ];
       waiting = work.waiting;
+      staged = work.staged;
       running = λ r at. subst (IsCapture sh spell w.view) (let e : begun sh spell w root ≡ r = cc in e) (begin_capture sh spell w root bytes work none);
       one = one_fewer w (with_running w (Some (begun sh spell w root))) (begin_knows sh spell w root) work.one;
       sums = work.sums;
@@ -90,6 +94,7 @@ trailer_keeps sh spell w sum r a more work at left =
           ∙ step_case (is_known (w.live k)) (is_known (r.parts.references k)) (k == a) (is_of k r.written) (is_in k more) (is_known (w.view.checkpoint.parts.references k) || is_of k w.view.checkpoint.chain) held
           );
       waiting = work.waiting;
+      staged = work.staged;
       running = λ q is. subst (IsCapture sh spell w.view) (let e : u ≡ q = cc in e) (step_capture sh spell w r sum a more (work.running r at) left);
       one = one_more w (with_trailer_block w r a (next_trailer sh spell w r sum) more) a sum (trailer_knows w r a (next_trailer sh spell w r sum) more at) (trailer_new sh spell w r a more at left (work.running r at) (work.clear r at)) work.one;
       sums = work.sums;
@@ -104,9 +109,9 @@ pub newest_few : (fs : List Finding) → length (newest fs) ≤ 64
 newest_few fs = omega (arith, length-drop (length fs - 64) fs)
 
 pub check_keeps : (sh : Shape) (spell : Parts → List ℕ) (w : Work) (verdict : Verdict) (xs : List (ℕ × ℕ)) → IsWork sh spell w → IsWork sh spell (after_check w verdict xs).0
-check_keeps sh spell w verdict [] work = record { codec = work.codec; version = work.version; view = work.view; sessions = work.sessions; grid = work.grid; waiting = work.waiting; running = work.running; one = scrub_one w (after_check w verdict []).0 refl refl refl work.one; sums = work.sums; few = work.few; clear = work.clear }
-check_keeps sh spell w IsFine (a ∷ more) work = record { codec = work.codec; version = work.version; view = work.view; sessions = work.sessions; grid = work.grid; waiting = work.waiting; running = work.running; one = scrub_one w (after_check w IsFine (a ∷ more)).0 refl refl refl work.one; sums = work.sums; few = work.few; clear = work.clear }
-check_keeps sh spell w (Failing kind) (a ∷ more) work = record { codec = work.codec; version = work.version; view = work.view; sessions = work.sessions; grid = work.grid; waiting = work.waiting; running = work.running; one = scrub_one w (after_check w (Failing kind) (a ∷ more)).0 refl refl refl work.one; sums = work.sums; few = newest_few (w.findings ++ record { address = a.0; «class» = kind } ∷ []); clear = work.clear }
+check_keeps sh spell w verdict [] work = record { codec = work.codec; version = work.version; view = work.view; sessions = work.sessions; grid = work.grid; waiting = work.waiting; staged = work.staged; running = work.running; one = scrub_one w (after_check w verdict []).0 refl refl refl work.one; sums = work.sums; few = work.few; clear = work.clear }
+check_keeps sh spell w IsFine (a ∷ more) work = record { codec = work.codec; version = work.version; view = work.view; sessions = work.sessions; grid = work.grid; waiting = work.waiting; staged = work.staged; running = work.running; one = scrub_one w (after_check w IsFine (a ∷ more)).0 refl refl refl work.one; sums = work.sums; few = work.few; clear = work.clear }
+check_keeps sh spell w (Failing kind) (a ∷ more) work = record { codec = work.codec; version = work.version; view = work.view; sessions = work.sessions; grid = work.grid; waiting = work.waiting; staged = work.staged; running = work.running; one = scrub_one w (after_check w (Failing kind) (a ∷ more)).0 refl refl refl work.one; sums = work.sums; few = newest_few (w.findings ++ record { address = a.0; «class» = kind } ∷ []); clear = work.clear }
 
 pub check_view : (w : Work) (verdict : Verdict) (xs : List (ℕ × ℕ)) → (after_check w verdict xs).0.view ≡ w.view
 check_view w verdict [] = refl
@@ -149,6 +154,12 @@ pub sense_law : SenseLaw
 sense_law sh spell w given (ToAppendOf client request body) input work =
     let p = prepare_of (memory_of sh spell w) (supplied_sum given) client request body in
     outcome_has (IsWork sh spell) (first_refusal (append_refusals (memory_of sh spell w) client request body)) w (with_prepare w p) (p.header.op, supplied_sum given) work (λ none. append_keeps sh spell w (supplied_sum given) client request body work none input.fields)
+sense_law sh spell w given (Stage client request body) input work =
+    let m = memory_of sh spell w in
+    outcome_has (IsWork sh spell) (first_refusal (stage_refusals m client request body)) w (with_staged w (record { client = client; request = request; body = body })) (m.head + length m.staged + 1) work (λ none. stage_keeps sh spell w client request body work none input.fields)
+sense_law sh spell w given Flush input work =
+    let m = memory_of sh spell w in
+    outcome_has (IsWork sh spell) (first_refusal (flush_refusals m)) w (with_group w (group_of m (supplied_sums given))) (length m.staged) work (flush_keeps sh spell w (supplied_sums given) work)
 sense_law sh spell w given (ToReplyOf op body) input work =
     outcome_has (IsWork sh spell) (first_refusal (reply_refusals (memory_of sh spell w) op body)) w (with_reply w (place_of_reply (memory_of sh spell w)) (reply_of (memory_of sh spell w) (supplied_sum given) body)) (supplied_sum given) work (reply_keeps sh spell w (supplied_sum given) op body work)
 sense_law sh spell w given (WriteBlock kind body) input work =
@@ -169,6 +180,13 @@ pub next_law : NextLaw
 next_law sh spell w given (ToAppendOf client request body) work =
     let p = prepare_of (memory_of sh spell w) (supplied_sum given) client request body in
     outcome_has (λ u. Next w.view u.view) (first_refusal (append_refusals (memory_of sh spell w) client request body)) w (with_prepare w p) (p.header.op, supplied_sum given) Same (λ none. Append (p ∷ []) (may_append sh spell w (supplied_sum given) client request body work none).is)
+next_law sh spell w given (Stage client request body) work =
+    let m = memory_of sh spell w in
+    outcome_has (λ u. Next w.view u.view) (first_refusal (stage_refusals m client request body)) w (with_staged w (record { client = client; request = request; body = body })) (m.head + length m.staged + 1) Same (λ none. Same)
+next_law sh spell w given Flush work =
+    let m = memory_of sh spell w in
+    let ps = group_of m (supplied_sums given) in
+    outcome_has (λ u. Next w.view u.view) (first_refusal (flush_refusals m)) w (with_group w ps) (length m.staged) Same (λ none. Append ps (may_flush sh spell w (supplied_sums given) work none).is)
 next_law sh spell w given (ToReplyOf op body) work =
     outcome_has (λ u. Next w.view u.view) (first_refusal (reply_refusals (memory_of sh spell w) op body)) w (with_reply w (place_of_reply (memory_of sh spell w)) (reply_of (memory_of sh spell w) (supplied_sum given) body)) (supplied_sum given) Same (λ none. Reply (place_of_reply (memory_of sh spell w)) (reply_of (memory_of sh spell w) (supplied_sum given) body) (may_reply sh spell w (supplied_sum given) op body work none).is)
 next_law sh spell w given (WriteBlock kind body) work =
@@ -258,6 +276,7 @@ opened_law sh spell image v codec version sound fields shows = record {
         get_range (waiting_checksum sh image v) (v.replies + 1) (head v - v.replies) i p.header.op (omega (arith, ops.1)) op
         ∙ ap Some (if_below v.checkpoint.content.op p.header.op _ _ (omega (arith, ops.0)) ∙ ap checksum_of (chain_get sh.layout.clients (v.checkpoint.content.op + 1) v.checkpoint.content.op_checksum 0 v.checkpoint.parts.sessions v.tail p (p.header.op - v.checkpoint.content.op - 1) sound.chain at (omega (arith, ops.0))));
   };
+  staged = nothing_staged sh v sound (sessions_lawful sh spell v codec sound fields);
   running = λ r none. absurd (cc);
   one = opened_one sh v (opened sh image v) sound (λ a b c first second. let both : Some (BlockUnit b) ≡ Some (BlockUnit c) = sym (shows a b first) ∙ shows a c second in cc) refl refl refl;
   sums = λ a c is. (parts.references a c is).1;

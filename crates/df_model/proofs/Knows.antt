@@ -5,8 +5,8 @@ use Rattle.df_theory.specs.Trailer.{InChain}
 use Rattle.df_theory.specs.Shape.{Shape}
 use Rattle.df_theory.specs.View.{View}
 use Rattle.df_theory.specs.Holds.{Sound}
-use Rattle.df_model.specs.Work.{Running, Work}
-use Rattle.df_model.specs.After.{with_running, begun, finished, with_live, with_prepare, with_reply, with_trailer_block}
+use Rattle.df_model.specs.Work.{Request, Running, Work}
+use Rattle.df_model.specs.After.{with_running, begun, finished, with_group, with_live, with_prepare, with_reply, with_staged, with_trailer_block}
 use Rattle.df_model.specs.Sense.{AreOne, AtEachOf, Captured, Chained, Durable, IsCapture, IsClear, IsKnown, IsSpare, Live, RiseFrom, Written}
 use Rattle.df_model.proofs.Grid.{IsNowhere}
 use Rattle.df_model.specs.Blocks.{addresses, entries, sum_at}
@@ -48,6 +48,20 @@ append_knows w p a c (Captured r at is) = Captured r at is
 append_knows w p a c (Written r b at is sum) = Written r b at is sum
 append_knows w p a c (Durable is) = Durable is
 append_knows w p a c (Chained b is sum) = Chained b is sum
+
+pub stage_knows : (w : Work) (r : Request) → KnowsNoMore w (with_staged w r)
+stage_knows w q a c (Live is) = Live is
+stage_knows w q a c (Captured r at is) = Captured r at is
+stage_knows w q a c (Written r b at is sum) = Written r b at is sum
+stage_knows w q a c (Durable is) = Durable is
+stage_knows w q a c (Chained b is sum) = Chained b is sum
+
+pub group_knows : (w : Work) (ps : List Message) → KnowsNoMore w (with_group w ps)
+group_knows w ps a c (Live is) = Live is
+group_knows w ps a c (Captured r at is) = Captured r at is
+group_knows w ps a c (Written r b at is sum) = Written r b at is sum
+group_knows w ps a c (Durable is) = Durable is
+group_knows w ps a c (Chained b is sum) = Chained b is sum
 
 pub reply_knows : (w : Work) (place : ℕ) (r : Message) → KnowsNoMore w (with_reply w place r)
 reply_knows w place m a c (Live is) = Live is

@@ -3,7 +3,10 @@ pub mod Recording
 pub mod Captures
 pub mod Entries
 pub mod Sessions
+pub mod Groups
 pub mod Appends
+pub mod Staging
+pub mod Flushing
 pub mod Replies
 pub mod Grid
 pub mod Knows

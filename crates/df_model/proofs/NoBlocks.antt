@@ -1,6 +1,7 @@
 -- Steps that write no block: of copies and of headers. They leave each block as it was.
-use Rattle.std.proofs.Common.{◌≡◌, ℕ, List, [], ◌∷◌, ◌++◌, Option, Some, None, refl, ◌∙◌, ap}
-use Rattle.df_theory.specs.Units.{AnyUnit, BlockPlace, Content, CopyPlace, CopyUnit, Header, Units, or_else}
+use Rattle.std.proofs.Common.{◌≡◌, ℕ, ◌%◌, List, [], ◌∷◌, ◌++◌, Option, Some, None, refl, ◌∙◌, ap}
+use Rattle.df_theory.specs.Units.{AnyUnit, BlockPlace, Content, CopyPlace, CopyUnit, Header, Message, PreparePlace, PrepareUnit, Units, or_else}
+use Rattle.df_theory.specs.Shape.{Shape, slots}
 use Rattle.df_theory.specs.View.{View}
 use Rattle.df_theory.specs.UnitLog.{PutsOne, Synced, UnitLog, add, now, wrote}
 use Rattle.df_theory.specs.Runs.{Puts, Step, Syncs, after_steps}
@@ -8,6 +9,7 @@ use Rattle.df_theory.specs.CopyPuts.{PutsCopies, update_steps}
 use Rattle.df_theory.specs.MakingLaws.{all_puts}
 use Rattle.df_theory.specs.MendLaws.{AllPutCopy, AllPutTable, PutsTable, copy_steps, header_steps, mend_steps}
 use Rattle.df_theory.specs.WholeLaws.{AllSpare}
+use Rattle.df_theory.specs.WriterLaws.{AllPutPrepare, flush_steps}
 
 abbrev pub PutsNoBlock : Units → Type 0
 PutsNoBlock put = (a : ℕ) → put (BlockPlace a) ≡ None
@@ -47,6 +49,19 @@ copy_no_block put n c one a = go (put (BlockPlace a)) refl
 pub update_no_blocks : (c : Content) (puts : PutsCopies c) → NoBlocks (update_steps puts)
 update_no_blocks c puts = (copy_no_block puts.put0 0 c puts.one0, (copy_no_block puts.put1 1 c puts.one1, (copy_no_block puts.put2 2 c puts.one2, (copy_no_block puts.put3 3 c puts.one3, tt))))
 
+prepare_no_block : (put : Units) (slot : ℕ) (p : Message) → PutsOne put (PreparePlace slot) (PrepareUnit p) → PutsNoBlock put
+prepare_no_block put slot p one a = go (put (BlockPlace a)) refl
+  where
+    go : (o : Option AnyUnit) → put (BlockPlace a) ≡ o → put (BlockPlace a) ≡ None
+    go None none = none
+    go (Some y) some = absurd (let at : BlockPlace a ≡ PreparePlace slot = (one.only (BlockPlace a) y some).0 in cc)
+
+prepares_no_blocks : (sh : Shape) (ps : List Message) (puts : List Units) → AllPutPrepare sh ps puts → NoBlocks (all_puts puts)
+prepares_no_blocks sh [] [] all = tt
+prepares_no_blocks sh [] (put ∷ puts) all = absurd all
+prepares_no_blocks sh (p ∷ ps) [] all = absurd all
+prepares_no_blocks sh (p ∷ ps) (put ∷ puts) all = (prepare_no_block put (p.header.op % slots sh) p all.0, prepares_no_blocks sh ps puts all.1)
+
 sector_no_block : (table : ℕ → Header) (put : Units) → PutsTable table put → PutsNoBlock put
 sector_no_block table put all a = go (put (BlockPlace a)) refl
   where
@@ -65,6 +80,10 @@ headers_no_blocks table (put ∷ puts) all = no_blocks_both (all_puts (put ∷ p
 copies_no_blocks : (c : Content) (m n : ℕ) (copies : List (ℕ × Units)) → AllPutCopy c m n copies → NoBlocks (copy_steps copies)
 copies_no_blocks c m n [] all = tt
 copies_no_blocks c m n (k ∷ ks) all = (copy_no_block k.1 k.0 c all.0, copies_no_blocks c m n ks all.3)
+
+pub flush_no_blocks : (sh : Shape) (ps : List Message) (prepares : List Units) (table : ℕ → Header) (headers : List Units) → AllPutPrepare sh ps prepares → AllPutTable table headers → NoBlocks (flush_steps prepares headers)
+flush_no_blocks sh ps prepares table headers puts sectors =
+    no_blocks_both (all_puts prepares) (Syncs ∷ (all_puts headers ++ Syncs ∷ [])) (prepares_no_blocks sh ps prepares puts) (no_blocks_both (all_puts headers) (Syncs ∷ []) (puts_no_blocks table headers sectors) tt)
 
 pub mend_no_blocks : (table : ℕ → Header) (headers : List Units) (c : Content) (m n : ℕ) (copies : List (ℕ × Units)) → AllPutTable table headers → AllPutCopy c m n copies → NoBlocks (mend_steps headers copies)
 mend_no_blocks table headers c m n copies puts_headers puts_copies = no_blocks_both (header_steps headers) (copy_steps copies) (headers_no_blocks table headers puts_headers) (copies_no_blocks c m n copies puts_copies)

@@ -13,7 +13,7 @@ use Rattle.df_theory.specs.MendLaws.{copy_steps, header_steps, mend_steps}
 use Rattle.df_theory.specs.Upgrades.{raise_steps}
 use Rattle.df_theory.specs.Device.{units_log}
 use Rattle.df_theory.proofs.Laws.{after_append, dry_copies, dry_headers, dry_quiet, each_append, each_weaker as each_moment, mend_law, mends_whole_law, stands_law}
-use Rattle.df_model.specs.Work.{Work, kept, raised}
+use Rattle.df_model.specs.Work.{Work, raised}
 use Rattle.df_model.specs.Memory.{memory_of}
 use Rattle.df_model.specs.Making.{boot_content}
 use Rattle.df_model.specs.Sense.{IsBacked}

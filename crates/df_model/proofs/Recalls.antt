@@ -1,30 +1,32 @@
 -- How commands change what is in memory, the grid aside.
-use Rattle.std.proofs.Common.{◌≡◌, ℕ, zero, suc, ◌+◌, ◌-◌, ◌<◌, ◌≤◌, ◌==◌, nat_lt, Bool, true, false, if◌then◌else◌, List, [], ◌∷◌, ◌++◌, length, drop, map, Option, Some, None, refl, sym, ◌∙◌, ap, arith, length-append}
+use Rattle.std.proofs.Common.{◌≡◌, inl, inr, ℕ, zero, suc, ◌+◌, ◌-◌, ◌<◌, ◌≤◌, ◌==◌, nat_lt, Bool, true, false, if◌then◌else◌, List, [], ◌∷◌, ◌++◌, length, drop, map, Option, Some, None, refl, sym, ◌∙◌, ap, arith, length-append}
 use Rattle.std.specs.Prelude.{slice_set}
 use Rattle.std.specs.List.{range_with_len, slice_get}
 use Rattle.std.proofs.lemmas.Bool.Decides.{nat_tests}
+use Rattle.std.proofs.lemmas.Bool.{cases_lt}
 use Rattle.std.proofs.lemmas.List.{drop-map, map-append}
 use Rattle.df_theory.specs.Units.{Header, Message, Parts, Session}
-use Rattle.df_theory.specs.Sessions.{noted, session_of}
+use Rattle.df_theory.specs.Sessions.{noted, session_of, sessions_after}
 use Rattle.df_theory.specs.Tails.{last_checksum}
 use Rattle.df_theory.specs.Shape.{Shape}
 use Rattle.df_theory.specs.View.{View, head, sessions}
-use Rattle.df_theory.specs.Next.{appended, checkpointed, kept as kept_at}
-use Rattle.df_theory.proofs.Laws.{sessions-append, tracks}
-use Rattle.df_model.specs.Work.{Running, Work}
+use Rattle.df_theory.specs.Next.{AreInTurn, appended, checkpointed, kept as kept_at}
+use Rattle.df_theory.proofs.Laws.{noted_get, sessions-append, tracks}
+use Rattle.df_model.specs.Work.{Request, Running, Work}
 use Rattle.df_model.specs.Blocks.{Blocks, blocks_of}
 use Rattle.df_model.specs.Memory.{Memory, course, course_of, memory_of, stored_sum, sum_of_message}
-use Rattle.df_model.specs.Refusals.{append_refusals, begin_refusals, block_refusals, first_refusal, release_refusals, reply_refusals}
-use Rattle.df_model.specs.Making.{needed_of, next_address, place_of_reply, prepare_of, reply_of}
-use Rattle.df_model.specs.After.{after_check, after_running, after_step_of, begun, checkpoint_of, finished, next_trailer, outcome, to_check, with_live, with_prepare, with_reply, with_running, with_trailer_block}
-use Rattle.df_model.specs.Commands.{Advance, Append, Begin, Command, Given, ReadBlock, ReadPrepare, ReadReply, Recent, Release, Reply, Scrub, WriteBlock, after, supplied_sum, supplied_verdict}
+use Rattle.df_model.specs.Refusals.{append_refusals, begin_refusals, block_refusals, first_refusal, flush_refusals, release_refusals, reply_refusals, stage_refusals}
+use Rattle.df_model.specs.Making.{group_of, needed_of, next_address, place_of_reply, prepare_of, reply_of}
+use Rattle.df_model.specs.After.{after_check, after_running, after_step_of, begun, checkpoint_of, finished, next_trailer, outcome, to_check, with_group, with_live, with_prepare, with_reply, with_running, with_staged, with_trailer_block}
+use Rattle.df_model.specs.Commands.{Advance, Append, Begin, Command, Flush, Given, ReadBlock, ReadPrepare, ReadReply, Recent, Release, Reply, Scrub, Stage, WriteBlock, after, supplied_sum, supplied_sums, supplied_verdict}
 use Rattle.df_model.proofs.Recording.{last_split}
-use Rattle.df_model.specs.Changing.{ChangeLaw, ListsLaw, appended_in, blocks_after, checked_in, course_on, memory_after, replied_in, step_in, unless_refused, unstored}
+use Rattle.df_model.specs.Changing.{ChangeLaw, ListsLaw, appended_in, blocks_after, checked_in, course_on, flushed_in, memory_after, replied_in, staged_in, step_in, unless_refused, unstored, unstored_all}
 use Rattle.df_model.specs.Sense.{IsWork}
 use Rattle.df_model.specs.declared.answers.Verdict.{Verdict}
 use Rattle.df_model.specs.declared.answers.Verdict.TheVariants.{Sound, Failing}
 use Rattle.df_model.proofs.Changing.{blocks_law}
 use Rattle.df_model.proofs.Entries.{held_is, reference_is}
+use Rattle.df_model.proofs.Groups.{in_turn}
 use Rattle.df_model.proofs.Finishes.{head_same, same_sessions}
 
 pub lists_law : ListsLaw
@@ -103,7 +105,56 @@ module _ (h : Header) (top : ℕ) (above : top < h.op) (st : ℕ → Option Mess
   noted_is get [] i gets low = ap (λ (x : Option ℕ). x ∷ []) (one_new get i [] gets)
   noted_is get (s ∷ ss) i gets low = noted_case get s ss i (s.client == h.client) gets low (λ rest. noted_is get ss (i + 1) rest (λ k t at. low (suc k) t at))
 
+-- ---- stored replies after a group
+
+-- a session of an earlier op stood there before
+earlier_get : (op parent : ℕ) (ps : List Message) (ss : List Session) (k : ℕ) (s : Session) → AreInTurn op parent ps → s.op < op → slice_get (sessions_after ss ps) k ≡ Some s → slice_get ss k ≡ Some s
+earlier_get op parent [] ss k s turn low at = at
+earlier_get op parent (p ∷ ps) ss k s turn low at = elim (noted_get p.header ss k s (earlier_get (op + 1) p.header.checksum ps (noted p.header ss) k s turn.2 (omega (arith, low)) at)) [
+  | inl new ↦ absurd (omega (arith, low, turn.0, ap (λ (x : Session). x.op) new))
+  | inr old ↦ old
+]
+
+-- what a group keeps is what its first prepare keeps, and the others of that
+kept_twice : (op parent : ℕ) (ps : List Message) (ss : List Session) (top k : ℕ) (old : Option Message) → top ≤ op → AreInTurn (op + 1) parent ps
+    → kept_at (slice_get (sessions_after ss ps) k) top old ≡ kept_at (slice_get (sessions_after ss ps) k) op (kept_at (slice_get ss k) top old)
+kept_twice op parent ps ss top k old above turn = go (slice_get (sessions_after ss ps) k) refl
+  where
+    before : Option Message
+    before = kept_at (slice_get ss k) top old
+
+    go : (o : Option Session) → slice_get (sessions_after ss ps) k ≡ o → kept_at o top old ≡ kept_at o op before
+    go None at = refl
+    go (Some s) at = elim (cases_lt op s.op) [
+      | inl high ↦ kept_new top (Some s) s old refl (omega (arith, high, above)) ∙ sym (kept_new op (Some s) s before refl high)
+      | inr low ↦ ap (λ (o : Option Session). kept_at o top old) (sym (earlier_get (op + 1) parent ps ss k s turn (omega (arith, low)) at)) ∙ sym (kept_old op (Some s) s before refl low)
+    ]
+
+group_is : (top parent : ℕ) (ps : List Message) (ss : List Session) (st : ℕ → Option Message) → AreInTurn (top + 1) parent ps → ((k : ℕ) (s : Session) → slice_get ss k ≡ Some s → s.op ≤ top)
+    → map (λ k. stored_sum (kept_at (slice_get (sessions_after ss ps) k) top (st k))) (range_with_len 0 (length (sessions_after ss ps))) ≡ unstored_all ss ps (map (λ k. stored_sum (st k)) (range_with_len 0 (length ss)))
+group_is top parent [] ss st turn low = all_kept ss 0 (λ j. ap (slice_get ss) (let e : 0 + j ≡ j = omega arith in e)) low
+  where
+    -- nothing is later than the head
+    all_kept : (rest : List Session) (i : ℕ) → ((j : ℕ) → slice_get ss (i + j) ≡ slice_get rest j) → ((k : ℕ) (s : Session) → slice_get rest k ≡ Some s → s.op ≤ top)
+        → map (λ k. stored_sum (kept_at (slice_get ss k) top (st k))) (range_with_len i (length rest)) ≡ map (λ k. stored_sum (st k)) (range_with_len i (length rest))
+    all_kept [] i gets under = refl
+    all_kept (s ∷ rest) i gets under =
+        let here : slice_get ss i ≡ Some s = ap (slice_get ss) (let e : i ≡ i + 0 = omega arith in e) ∙ gets 0 in
+        ap (λ (x : Option ℕ). x ∷ map (λ k. stored_sum (kept_at (slice_get ss k) top (st k))) (range_with_len (i + 1) (length rest))) (ap stored_sum (kept_old top (slice_get ss i) s (st i) here (under 0 s refl)))
+        ∙ ap (λ (l : List (Option ℕ)). stored_sum (st i) ∷ l) (all_kept rest (i + 1) (λ j. ap (slice_get ss) (let e : i + 1 + j ≡ i + suc j = omega arith in e) ∙ gets (suc j)) (λ k t at. under (suc k) t at))
+group_is top parent (p ∷ ps) ss st turn low =
+    let one = noted p.header ss in
+    let kept_one : ℕ → Option Message = λ k. kept_at (slice_get one k) top (st k) in
+    let last = sessions_after one ps in
+    map_same (λ k. stored_sum (kept_at (slice_get last k) top (st k))) (λ k. stored_sum (kept_at (slice_get last k) (top + 1) (kept_one k))) 0 (length last) (λ k from. ap stored_sum (kept_twice (top + 1) p.header.checksum ps one top k (st k) (omega arith) turn.2))
+    ∙ group_is (top + 1) p.header.checksum ps one kept_one turn.2 (λ k s at. elim (noted_get p.header ss k s at) [ inl new ↦ omega (arith, turn.0, ap (λ (x : Session). x.op) new) | inr old ↦ omega (arith, low k s old) ])
+    ∙ ap (unstored_all one ps) (noted_is p.header top (omega (arith, turn.0)) st (slice_get one) ss 0 (λ j. ap (slice_get one) (let e : 0 + j ≡ j = omega arith in e)) low)
+
 -- ---- the tail
+
+last_both : (c : ℕ) (ps qs : List Message) → last_checksum c (ps ++ qs) ≡ last_checksum (last_checksum c ps) qs
+last_both c [] qs = refl
+last_both c (x ∷ ps) qs = last_both x.header.checksum ps qs
 
 last_more : (c : ℕ) (ps : List Message) (p : Message) → last_checksum c (ps ++ p ∷ []) ≡ p.header.checksum
 last_more c [] p = refl
@@ -143,6 +194,25 @@ module _ (sh : Shape) (spell : Parts → List ℕ) (w : Work) (given : Given) (w
       ∙ ap (λ (st : List (Option ℕ)). T (head v + 1) (supplied_sum given) (noted p.header (sessions v)) (map sum_of_message v.tail ++ (supplied_sum given) ∷ []) st) (
       ap (λ (n : ℕ). map (λ k. stored_sum (u.stored k)) (range_with_len 0 n)) (ap length noted_now)
       ∙ noted_is p.header (head v) (omega arith) v.stored (slice_get (sessions u)) (sessions v) 0 (λ j. ap (slice_get (sessions u)) (let e : 0 + j ≡ j = omega arith in e) ∙ ap (λ (ss : List Session). slice_get ss j) noted_now) (tracks sh v work.view).below
+      )
+
+  flushed_memory : (sums : List ℕ) (b : Blocks) → record (memory_of sh spell (with_group w (group_of m sums))) { blocks = b } ≡ record (flushed_in m (group_of m sums)) { blocks = b }
+  flushed_memory sums b =
+      let ps = group_of m sums in
+      let u = appended v ps in
+      let stored = map (λ k. stored_sum (u.stored k)) (range_with_len 0 (length (sessions u))) in
+      let noted_now : sessions u ≡ sessions_after (sessions v) ps = sessions-append v.checkpoint.parts.sessions v.tail ps in
+      let T : ℕ → ℕ → List Session → List ℕ → List (Option ℕ) → Memory = λ h c ss qs st. record m { blocks = b; head = h; head_checksum = c; sessions = ss; prepares = qs; stored = st; waiting = w.waiting ++ map sum_of_message ps; staged = [] } in
+      let all = map sum_of_message (v.tail ++ ps) in
+      let last = last_checksum v.checkpoint.content.op_checksum (v.tail ++ ps) in
+      let turn = in_turn m (head v + 1) (head v + length w.staged) (head v + 1) m.head_checksum w.staged sums in
+      ap (λ (h : ℕ). T h last (sessions u) all stored) (let e : head u ≡ head v + length ps = omega (arith, length-append v.tail ps) in e)
+      ∙ ap (λ (c : ℕ). T (head v + length ps) c (sessions u) all stored) (last_both v.checkpoint.content.op_checksum v.tail ps)
+      ∙ ap (λ (ss : List Session). T (head v + length ps) (last_checksum m.head_checksum ps) ss all stored) noted_now
+      ∙ ap (λ (qs : List ℕ). T (head v + length ps) (last_checksum m.head_checksum ps) (sessions_after (sessions v) ps) qs stored) (map-append sum_of_message v.tail ps)
+      ∙ ap (λ (st : List (Option ℕ)). T (head v + length ps) (last_checksum m.head_checksum ps) (sessions_after (sessions v) ps) (map sum_of_message v.tail ++ map sum_of_message ps) st) (
+      ap (λ (ss : List Session). map (λ k. stored_sum (kept_at (slice_get ss k) (head v) (v.stored k))) (range_with_len 0 (length ss))) noted_now
+      ∙ group_is (head v) m.head_checksum ps (sessions v) v.stored turn (tracks sh v work.view).below
       )
 
   replied_memory : (body : List ℕ) (b : Blocks) → record (memory_of sh spell (with_reply w (place_of_reply m) (reply_of m (supplied_sum given) body))) { blocks = b } ≡ record (replied_in m (supplied_sum given)) { blocks = b }
@@ -206,6 +276,14 @@ module _ (sh : Shape) (spell : Parts → List ℕ) (w : Work) (given : Given) (w
       let p = prepare_of m (supplied_sum given) client request body in
       let b = blocks_after spell m given (Append client request body) in
       outcome_memory sh spell (first_refusal (append_refusals m client request body)) w (with_prepare w p) (p.header.op, supplied_sum given) (appended_in m p) b (blocks_law sh spell w given (Append client request body)) (λ none. appended_memory client request body b)
+  change_is (Stage client request body) =
+      let b = blocks_after spell m given (Stage client request body) in
+      let r : Request = record { client = client; request = request; body = body } in
+      outcome_memory sh spell (first_refusal (stage_refusals m client request body)) w (with_staged w r) (m.head + length m.staged + 1) (staged_in m r) b (blocks_law sh spell w given (Stage client request body)) (λ none. refl)
+  change_is Flush =
+      let b = blocks_after spell m given Flush in
+      let ps = group_of m (supplied_sums given) in
+      outcome_memory sh spell (first_refusal (flush_refusals m)) w (with_group w ps) (length m.staged) (flushed_in m ps) b (blocks_law sh spell w given Flush) (λ none. flushed_memory (supplied_sums given) b)
   change_is (Reply op body) =
       let b = blocks_after spell m given (Reply op body) in
       outcome_memory sh spell (first_refusal (reply_refusals m op body)) w (with_reply w (place_of_reply m) (reply_of m (supplied_sum given) body)) (supplied_sum given) (replied_in m (supplied_sum given)) b (blocks_law sh spell w given (Reply op body)) (λ none. replied_memory body b)

@@ -1,5 +1,5 @@
 -- A reply.
-use Rattle.std.proofs.Common.{◌≡◌, ℕ, suc, ◌+◌, ◌<◌, List, [], ◌∷◌, drop, None, refl, sym, ap, arith}
+use Rattle.std.proofs.Common.{◌≡◌, ℕ, suc, ◌+◌, ◌<◌, List, [], ◌∷◌, drop, length, None, refl, sym, ap, arith}
 use Rattle.std.proofs.lemmas.Bool.{eqb-false}
 use Rattle.df_theory.specs.Units.{Message, Parts}
 use Rattle.df_theory.specs.Shape.{Shape}
@@ -9,14 +9,15 @@ use Rattle.df_theory.proofs.Laws.{reply_sound, tracks}
 use Rattle.df_model.specs.Work.{Work}
 use Rattle.df_model.specs.Refusals.{first_refusal, reply_refusals}
 use Rattle.df_model.specs.After.{with_reply}
-use Rattle.df_model.specs.Sense.{AreWaiting, IsWork}
+use Rattle.df_model.specs.Sense.{AreStaged, AreWaiting, IsWork}
 use Rattle.df_model.specs.Laws.{ReplyMayLaw}
 use Rattle.df_model.proofs.Captures.{capture_on}
 use Rattle.df_model.proofs.Tests.{all_pass}
+use Rattle.df_model.proofs.Groups.{staged_on}
 use Rattle.df_model.proofs.Knows.{one_fewer, reply_knows}
 use Rattle.df_model.proofs.Sessions.{IsAtOp, op_found}
 use Rattle.df_model.specs.Memory.{memory_of}
-use Rattle.df_model.specs.Making.{client_of, place_of_reply, reply_of, request_of}
+use Rattle.df_model.specs.Making.{client_of, group_of, place_of_reply, reply_of, request_of}
 
 module _ (sh : Shape) (spell : Parts → List ℕ) (w : Work) (sum op : ℕ) (body : List ℕ) (work : IsWork sh spell w) (none : first_refusal (reply_refusals (memory_of sh spell w) op body) ≡ None) where
   abbrev v : View
@@ -54,6 +55,16 @@ module _ (sh : Shape) (spell : Parts → List ℕ) (w : Work) (sum op : ℕ) (bo
     each = λ i p at is. old.each (suc i) p at (omega (arith, is));
   }
 
+  -- what is staged has a later mark
+  abbrev u : Work
+  u = with_reply w (place_of_reply (memory_of sh spell w)) r
+
+  staged : AreStaged sh u.view (group_of (memory_of sh spell u) [])
+  staged =
+      let m = memory_of sh spell w in
+      let n = memory_of sh spell u in
+      staged_on sh v u.view m n (head v + 1) (head v + length w.staged) (head v + 1) (head v + length w.staged) (head v + 1) (head v + 1) m.head_checksum n.head_checksum w.staged [] [] refl (omega arith) (omega arith) refl (omega arith) refl work.staged
+
   pub reply_keeps : IsWork sh spell (with_reply w (place_of_reply (memory_of sh spell w)) r)
   reply_keeps = record {
     codec = work.codec;
@@ -62,6 +73,7 @@ module _ (sh : Shape) (spell : Parts → List ℕ) (w : Work) (sum op : ℕ) (bo
     sessions = work.sessions;
     grid = work.grid;
     waiting = waiting_of w.waiting work.waiting;
+    staged = staged;
     running = λ q at.
         let old = work.running q at in
         capture_on sh spell v q old v.tail (v.replies + 1) (replied v (place_of_reply (memory_of sh spell w)) r).stored refl old.ends old.op_to;

@@ -1,22 +1,24 @@
 -- Calls over a device answer the fold of the machine.
-use Rattle.std.proofs.Common.{◌≡◌, ℕ, ◌+◌, ◌%◌, List, [], ◌∷◌, Option, Some, None, refl, sym, ◌∙◌, ap, subst}
+use Rattle.std.proofs.Common.{◌≡◌, ℕ, ◌+◌, ◌%◌, List, [], ◌∷◌, ◌++◌, Option, Some, None, refl, sym, ◌∙◌, ap, subst}
 use Rattle.df_layout.specs.declared.damage.Class.{Class}
-use Rattle.df_theory.specs.Units.{AnyUnit, Block, BlockPlace, BlockUnit, Content, CopyPlace, CopyUnit, HeaderPlace, Message, Parts, Place, PreparePlace, PrepareUnit, ReplyPlace, ReplyUnit, Units, or_else, overlay}
+use Rattle.df_theory.specs.Units.{AnyUnit, Block, BlockPlace, BlockUnit, Content, CopyPlace, CopyUnit, Header, HeaderPlace, Message, Parts, Place, PreparePlace, PrepareUnit, ReplyPlace, ReplyUnit, Units, or_else, overlay}
 use Rattle.df_theory.specs.Shape.{Shape}
 use Rattle.df_theory.specs.View.{View}
-use Rattle.df_theory.specs.UnitLog.{PutsOne, UnitLog, now, put_one}
-use Rattle.df_theory.specs.Runs.{Step, after_steps}
-use Rattle.df_theory.specs.WriterLaws.{IsHeaderSector}
-use Rattle.df_theory.proofs.Laws.{put_else, put_one_law}
+use Rattle.df_theory.specs.UnitLog.{PutsOne, Synced, UnitLog, add, now, put_one, wrote}
+use Rattle.df_theory.specs.Runs.{Step, Syncs, after_steps}
+use Rattle.df_theory.specs.MakingLaws.{all_puts}
+use Rattle.df_theory.specs.MendLaws.{AllPutTable, PutsTable}
+use Rattle.df_theory.specs.WriterLaws.{AllPutPrepare, IsHeaderSector}
+use Rattle.df_theory.proofs.Laws.{after_append, put_else, put_one_law}
 use Rattle.df_model.specs.Work.{Running, Work}
 use Rattle.df_model.specs.Memory.{Memory, course, course_of, memory_of, prepare_sum, reply_sum}
 use Rattle.df_model.specs.Blocks.{sum_at}
-use Rattle.df_model.specs.Refusals.{append_refusals, block_refusals, first_refusal, reply_refusals}
-use Rattle.df_model.specs.Making.{block_of, next_address, place_of_reply, prepare_of, reply_of}
+use Rattle.df_model.specs.Refusals.{append_refusals, block_refusals, first_refusal, flush_refusals, reply_refusals}
+use Rattle.df_model.specs.Making.{block_of, group_of, next_address, place_of_reply, prepare_of, reply_of}
 use Rattle.df_model.specs.After.{checkpoint_of, next_trailer, place_of_client, to_check}
-use Rattle.df_model.specs.Commands.{Advance, Answer, Append, Begin, Command, ForReadBlock, ForReadPrepare, ForReadReply, ForScrub, Given, ReadBlock, ReadPrepare, ReadReply, Recent, Release, Reply, Scrub, WriteBlock, after, supplied_sum}
-use Rattle.df_model.specs.Supply.{Codec, Shown, block_at, block_given, block_read, checksum_given, class_or, copies_of, first_check, message_given, next, no_trailer, nothing, prepare_at, prepare_given, puts_of, reply_at, reply_given, result, step_puts, supplied, trailer_puts, unless, verdict_of}
-use Rattle.df_model.specs.Laws.{Does, DoesAdvance, DoesAdvanceTo, DoesAppend, DoesBlock, DoesFinish, DoesReply, UnlessRefused}
+use Rattle.df_model.specs.Commands.{Advance, Answer, Append, Begin, Command, Flush, ForReadBlock, ForReadPrepare, ForReadReply, ForScrub, Given, ReadBlock, ReadPrepare, ReadReply, Recent, Release, Reply, Scrub, Stage, WriteBlock, after, supplied_sum, supplied_sums}
+use Rattle.df_model.specs.Supply.{Codec, Shown, block_at, block_given, block_read, checksums_given, class_or, copies_of, first_check, group_puts, message_given, next, no_trailer, nothing, prepare_at, prepare_given, puts_of, reply_at, reply_given, result, step_puts, supplied, trailer_puts, unless, verdict_of}
+use Rattle.df_model.specs.Laws.{Does, DoesAdvance, DoesAdvanceTo, DoesAppend, DoesBlock, DoesFinish, DoesFlush, DoesReply, UnlessRefused}
 use Rattle.df_model.specs.Runs.{Act, answers_of}
 use Rattle.df_model.specs.Result.{AgreeReads, AreServed, ResultLaw, WritesLaw, commands_of}
 
@@ -54,6 +56,8 @@ module _ (codec : Codec) (m : Memory) (image other : Units) (damage : Place → 
   -- what makes a unit is supplied with a checksum that isn't of what is shown
   pub supplied_same : (c : Command) → supplied codec s m c ≡ supplied codec t m c
   supplied_same (Append client request body) = refl
+  supplied_same (Stage client request body) = refl
+  supplied_same Flush = refl
   supplied_same (Reply op body) = refl
   supplied_same (WriteBlock kind body) = refl
   supplied_same (Release address) = refl
@@ -65,9 +69,11 @@ module _ (codec : Codec) (m : Memory) (image other : Units) (damage : Place → 
   supplied_same Scrub = ap ForScrub (check_same (to_check m))
   supplied_same Recent = refl
 
--- the checksum that is supplied is the codec's
-supplied_by : (codec : Codec) (shown : Shown) (m : Memory) (c : Command) → supplied_sum (supplied codec shown m c) ≡ checksum_given codec m c
+-- the checksums that are supplied are the codec's
+supplied_by : (codec : Codec) (shown : Shown) (m : Memory) (c : Command) → supplied_sums (supplied codec shown m c) ≡ checksums_given codec m c
 supplied_by codec shown m (Append client request body) = refl
+supplied_by codec shown m (Stage client request body) = refl
+supplied_by codec shown m Flush = refl
 supplied_by codec shown m (Reply op body) = refl
 supplied_by codec shown m (WriteBlock kind body) = refl
 supplied_by codec shown m (Release address) = refl
@@ -132,6 +138,40 @@ agree_under image under put prepares replies blocks agree = record {
   block = λ a. agree.block a ∙ sym (ap (λ (o : Option AnyUnit). or_else o (under (BlockPlace a))) (blocks a));
 }
 
+-- ---- a group
+
+-- each prepare is put over what the ones before it left
+prepares_agree : (sh : Shape) (ps : List Message) (puts : List Units) (log : UnitLog) (under : Units) → AllPutPrepare sh ps puts → AgreeReads (now log) under → AgreeReads (now (after_steps (all_puts puts) log)) (overlay (group_puts sh.layout.slots ps) under)
+prepares_agree sh [] [] log under all agree = record { prepare = agree.prepare; reply = agree.reply; block = agree.block }
+prepares_agree sh [] (put ∷ puts) log under all agree = absurd all
+prepares_agree sh (p ∷ ps) [] log under all agree = absurd all
+prepares_agree sh (p ∷ ps) (put ∷ puts) log under all agree =
+    let own = put_one (PreparePlace (p.header.op % sh.layout.slots)) (PrepareUnit p) in
+    let rest = group_puts sh.layout.slots ps in
+    let one = agree_one put (now log) under (PreparePlace (p.header.op % sh.layout.slots)) (PrepareUnit p) all.0 agree in
+    let more = prepares_agree sh ps puts (wrote put log) (overlay own under) all.1 one in
+    let both : (place : Place) → overlay rest (overlay own under) place ≡ overlay (overlay rest own) under place = λ place. over_both (rest place) (own place) (under place) in
+    record { prepare = λ s. more.prepare s ∙ both (PreparePlace s); reply = λ k. more.reply k ∙ both (ReplyPlace k); block = λ a. more.block a ∙ both (BlockPlace a) }
+  where
+    over_both : (x y z : Option AnyUnit) → or_else x (or_else y z) ≡ or_else (or_else x y) z
+    over_both None y z = refl
+    over_both (Some x) y z = refl
+
+table_aside : (table : ℕ → Header) (put image : Units) → PutsTable table put → AgreeReads (overlay put image) image
+table_aside table put image all = record { prepare = λ s. go (PreparePlace s) (λ k same. cc (same)); reply = λ k. go (ReplyPlace k) (λ i same. cc (same)); block = λ a. go (BlockPlace a) (λ k same. cc (same)) }
+  where
+    at : (place : Place) → ((k : ℕ) → place ≡ HeaderPlace k → ⊥) → (o : Option AnyUnit) → put place ≡ o → or_else o (image place) ≡ image place
+    at place apart None is = refl
+    at place apart (Some y) is = absurd (let one = all place y is in apart one.0 one.1)
+
+    go : (place : Place) → ((k : ℕ) → place ≡ HeaderPlace k → ⊥) → overlay put image place ≡ image place
+    go place apart = at place apart (put place) refl
+
+-- header sectors are aside
+headers_agree : (table : ℕ → Header) (puts : List Units) (log : UnitLog) (under : Units) → AllPutTable table puts → AgreeReads (now log) under → AgreeReads (now (after_steps (all_puts puts) log)) under
+headers_agree table [] log under all agree = agree
+headers_agree table (put ∷ puts) log under all agree = headers_agree table puts (wrote put log) under all.1 (agree_aside put (now log) under (table_aside table put (now log) all.0) agree)
+
 -- ---- the calls
 
 -- after these steps the device shows what the fold has
@@ -160,6 +200,13 @@ module _ (sh : Shape) (spell : Parts → List ℕ) (log : UnitLog) (w : Work) (g
       (agree_aside does.headers (overlay does.prepare (now log)) (overlay (put_one (PreparePlace ((m.head + 1) % sh.layout.slots)) (PrepareUnit p)) under) (headers_aside sh does.headers (overlay does.prepare (now log)) (now log) p does.sector)
       (agree_one does.prepare (now log) under (PreparePlace ((m.head + 1) % sh.layout.slots)) (PrepareUnit p) does.one agree))
 
+  flush_writes : (ps : List Message) → DoesFlush sh (now log) w.view ps steps → Shows log steps (group_puts sh.layout.slots ps) under
+  flush_writes ps does =
+      let mid = after_steps (all_puts does.prepares) log in
+      subst (λ (ss : List Step). Shows log ss (group_puts sh.layout.slots ps) under) (sym does.are)
+      (subst (λ (l : UnitLog). AgreeReads (now l) (overlay (group_puts sh.layout.slots ps) under)) (sym (after_append (all_puts does.prepares) (Syncs ∷ (all_puts does.headers ++ Syncs ∷ [])) log ∙ after_append (all_puts does.headers) (Syncs ∷ []) (add Synced mid)))
+      (headers_agree does.table does.headers (add Synced mid) (overlay (group_puts sh.layout.slots ps) under) does.sectors (prepares_agree sh ps does.prepares log under does.puts agree)))
+
   finish_writes : (c : Content) → (r : Running) → (c ≡ (checkpoint_of sh spell w r (supplied_sum given)).content) → DoesFinish w.view (checkpoint_of sh spell w r (supplied_sum given)) steps → Shows log steps (copies_of c) under
   finish_writes c r is does =
       let d = (checkpoint_of sh spell w r (supplied_sum given)).content in
@@ -181,8 +228,10 @@ module _ (sh : Shape) (spell : Parts → List ℕ) (log : UnitLog) (w : Work) (g
   advances None is does = subst (λ (o : Option Running). Shows log steps (step_puts m (course_of spell o) (supplied_sum given)) under) (sym is) (idle log steps under does agree)
   advances (Some r) is does = subst (λ (o : Option Running). Shows log steps (step_puts m (course_of spell o) (supplied_sum given)) under) (sym is) (advance_to r r.left does)
 
-  pub shows_next : (c : Command) → Does sh spell (now log) w given c steps → Shows log steps (puts_of m (supplied_sum given) c) under
+  pub shows_next : (c : Command) → Does sh spell (now log) w given c steps → Shows log steps (puts_of m (supplied_sums given) c) under
   shows_next (Append client request body) does = unless_refused log (first_refusal (append_refusals m client request body)) steps _ _ under agree (append_writes client request body) does
+  shows_next (Stage client request body) does = idle log steps under does agree
+  shows_next Flush does = unless_refused log (first_refusal (flush_refusals m)) steps _ _ under agree (flush_writes (group_of m (supplied_sums given))) does
   shows_next (Reply op body) does =
       let place = place_of_reply m in
       let r = reply_of m (supplied_sum given) body in
@@ -213,10 +262,10 @@ folds sh codec damage log under w (act ∷ acts) agree served =
     let m = memory_of sh codec.spell w in
     let s : Shown = record { units = under; damage = damage } in
     let given : act.given ≡ supplied codec s m act.command = served.0 ∙ supplied_same codec m (now log) under damage agree act.command in
-    let later : AgreeReads (now (after_steps act.steps log)) (overlay (puts_of m (supplied_sum act.given) act.command) under) = shows_next sh codec.spell log w act.given act.steps under agree act.command served.1 in
-    ap (λ (rest : List Answer). (after sh codec.spell w act.given act.command).1 ∷ rest) (folds sh codec damage (after_steps act.steps log) (overlay (puts_of m (supplied_sum act.given) act.command) under) (after sh codec.spell w act.given act.command).0 acts later served.2)
-    ∙ ap (λ (g : Given). (after sh codec.spell w g act.command).1 ∷ result sh codec (record { units = overlay (puts_of m (supplied_sum g) act.command) under; damage = damage }) (after sh codec.spell w g act.command).0 (commands_of acts)) given
-    ∙ ap (λ (sum : ℕ). (next sh codec s w act.command).1 ∷ result sh codec (record { units = overlay (puts_of m sum act.command) under; damage = damage }) (next sh codec s w act.command).0 (commands_of acts)) (supplied_by codec s m act.command)
+    let later : AgreeReads (now (after_steps act.steps log)) (overlay (puts_of m (supplied_sums act.given) act.command) under) = shows_next sh codec.spell log w act.given act.steps under agree act.command served.1 in
+    ap (λ (rest : List Answer). (after sh codec.spell w act.given act.command).1 ∷ rest) (folds sh codec damage (after_steps act.steps log) (overlay (puts_of m (supplied_sums act.given) act.command) under) (after sh codec.spell w act.given act.command).0 acts later served.2)
+    ∙ ap (λ (g : Given). (after sh codec.spell w g act.command).1 ∷ result sh codec (record { units = overlay (puts_of m (supplied_sums g) act.command) under; damage = damage }) (after sh codec.spell w g act.command).0 (commands_of acts)) given
+    ∙ ap (λ (sums : List ℕ). (next sh codec s w act.command).1 ∷ result sh codec (record { units = overlay (puts_of m sums act.command) under; damage = damage }) (next sh codec s w act.command).0 (commands_of acts)) (supplied_by codec s m act.command)
 
 pub result_law : ResultLaw
 result_law sh codec damage log w acts served = folds sh codec damage log (now log) w acts (agree_self (now log)) served

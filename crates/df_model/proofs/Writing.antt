@@ -6,21 +6,23 @@ use Rattle.df_theory.specs.Trailer.{InChain}
 use Rattle.df_theory.specs.Shape.{Shape}
 use Rattle.df_theory.specs.View.{View}
 use Rattle.df_theory.specs.UnitLog.{PutsOne, UnitLog, now}
-use Rattle.df_theory.specs.Runs.{Step}
-use Rattle.df_theory.specs.WriterLaws.{IsHeaderSector}
+use Rattle.df_theory.specs.Runs.{Step, after_steps}
+use Rattle.df_theory.specs.WriterLaws.{IsHeaderSector, flush_steps}
 use Rattle.df_theory.specs.TidyLaws.{IsTidy, KeepsStanding, LeadsTidily}
-use Rattle.df_theory.proofs.Laws.{put_else, tidy_append_law, tidy_block_law, tidy_idle_law, tidy_reply_law}
+use Rattle.df_theory.proofs.Laws.{put_else, tidy_append_law, tidy_block_law, tidy_flush_law, tidy_idle_law, tidy_reply_law}
 use Rattle.df_model.specs.Work.{Work}
 use Rattle.df_model.specs.Codec.{IsChecksum}
 use Rattle.df_model.specs.Memory.{memory_of}
-use Rattle.df_model.specs.Making.{place_of_reply, prepare_of, reply_of}
-use Rattle.df_model.specs.Refusals.{append_refusals, first_refusal, reply_refusals}
-use Rattle.df_model.specs.After.{with_live, with_prepare, with_reply}
+use Rattle.df_model.specs.Making.{group_of, place_of_reply, prepare_of, reply_of}
+use Rattle.df_model.specs.Refusals.{append_refusals, first_refusal, flush_refusals, reply_refusals}
+use Rattle.df_model.specs.After.{with_group, with_live, with_prepare, with_reply}
 use Rattle.df_model.specs.Sense.{IsBacked, IsWork, ShowsOwnBlock, ShowsWritten}
-use Rattle.df_model.specs.Laws.{BacksOn, DoesAppend, DoesBlock, DoesReply, IsKeptBy, LeadsOn}
+use Rattle.df_model.specs.Laws.{BacksOn, DoesAppend, DoesBlock, DoesFlush, DoesReply, IsKeptBy, LeadsOn}
 use Rattle.df_model.proofs.Grid.{IsFree, nowhere}
 use Rattle.df_model.proofs.Appends.{append_keeps, may_append}
+use Rattle.df_model.proofs.NoBlocks.{blocks_stay, flush_no_blocks}
 use Rattle.df_model.proofs.Replies.{may_reply, reply_keeps}
+use Rattle.df_model.proofs.Flushing.{flush_keeps, may_flush}
 use Rattle.df_model.proofs.Blocks.{live_keeps}
 
 -- a command leads on, and where the blocks are shown, keeps them so
@@ -92,6 +94,26 @@ append_on sh spell log w sum client request body steps fits keeps none does =
           standing = (on.1 backed.standing).standing;
           live = λ a c is. own_same (now log) later a c (same a) (backed.live a c is);
           captured = λ r at a c is. own_same (now log) later a c (same a) (backed.captured r at a c is);
+        };
+      },
+    )
+
+pub flush_on : (sh : Shape) (spell : Parts → List ℕ) (log : UnitLog) (w : Work) (sums : List ℕ) (steps : List Step) → IsKeptBy sh spell log w → first_refusal (flush_refusals (memory_of sh spell w)) ≡ None
+    → DoesFlush sh (now log) w.view (group_of (memory_of sh spell w) sums) steps → Both sh spell log w (with_group w (group_of (memory_of sh spell w) sums)) steps
+flush_on sh spell log w sums steps keeps none does =
+    let ps = group_of (memory_of sh spell w) sums in
+    let u = with_group w ps in
+    let own = flush_steps does.prepares does.headers in
+    let on = tidy_flush_law sh log w.view ps ps does.prepares does.table does.headers keeps.tidy (may_flush sh spell w sums keeps.sense none) does.booted (record { there = λ p at. at; back = λ p at. at }) does.puts does.sectors does.is_table in
+    let same : SameBlocks (now log) (now (after_steps own log)) = blocks_stay own log (flush_no_blocks sh ps does.prepares does.table does.headers does.puts does.sectors) in
+    subst (λ (ss : List Step). Both sh spell log w u ss) (sym does.are) (
+      record { leads = on.0; keeps = record { sense = flush_keeps sh spell w sums keeps.sense none; tidy = on.0.tidy; written = same_written (now log) (now (after_steps own log)) w u same refl keeps.written } },
+      λ backed. record {
+        stands = on.1 backed.standing;
+        backed = record {
+          standing = (on.1 backed.standing).standing;
+          live = λ a c is. own_same (now log) (now (after_steps own log)) a c (same a) (backed.live a c is);
+          captured = λ r at a c is. own_same (now log) (now (after_steps own log)) a c (same a) (backed.captured r at a c is);
         };
       },
     )

@@ -1,5 +1,5 @@
 -- What each call answers, and the state that it leads to.
-use Rattle.std.specs.Prelude.{ℕ, suc, ◌+◌, ◌-◌, ◌%◌, ◌==◌, nat_lt, if◌then◌else◌, List, [], ◌∷◌, ◌++◌, length, take, drop, Option, Some, None, Result, Ok, Err}
+use Rattle.std.specs.Prelude.{ℕ, suc, ◌+◌, ◌-◌, ◌%◌, ◌==◌, nat_lt, if◌then◌else◌, List, [], ◌∷◌, ◌++◌, length, map, take, drop, Option, Some, None, Result, Ok, Err}
 use Rattle.std.specs.List.{filter}
 use Rattle.df_layout.specs.declared.damage.Class.{Class}
 use Rattle.df_layout.specs.declared.damage.Finding.{Finding}
@@ -8,11 +8,12 @@ use Rattle.df_theory.specs.Units.{Block, Message, Parts, Session}
 use Rattle.df_theory.specs.Shape.{Shape}
 use Rattle.df_theory.specs.View.{Checkpoint, sequence}
 use Rattle.df_theory.specs.Next.{appended, checkpointed, replied}
-use Rattle.df_model.specs.Work.{Running, Work, first_tour}
-use Rattle.df_model.specs.Memory.{Memory, free_of, referenced_of, course, memory_of}
-use Rattle.df_model.specs.Refusals.{append_refusals, begin_refusals, block_refusals, first_refusal, lookup_refusals, prepare_refusals, read_refusals, release_refusals, reply_refusals}
-use Rattle.df_model.specs.Making.{content_of, needed_of, next_address, parts_of, place_of_reply, prepare_of, reply_of, trailer_block}
+use Rattle.df_model.specs.Work.{Request, Running, Work, first_tour}
+use Rattle.df_model.specs.Memory.{Memory, free_of, referenced_of, course, memory_of, sum_of_message}
+use Rattle.df_model.specs.Refusals.{append_refusals, begin_refusals, block_refusals, first_refusal, flush_refusals, lookup_refusals, prepare_refusals, read_refusals, release_refusals, reply_refusals, stage_refusals}
+use Rattle.df_model.specs.Making.{content_of, group_of, needed_of, next_address, parts_of, place_of_reply, prepare_of, reply_of, trailer_block}
 use Rattle.df_model.specs.declared.errors.AppendError.{AppendError}
+use Rattle.df_model.specs.declared.errors.FlushError.{FlushError}
 use Rattle.df_model.specs.declared.errors.ReplyError.{ReplyError}
 use Rattle.df_model.specs.declared.errors.BlockError.{BlockError}
 use Rattle.df_model.specs.declared.errors.NotLive.{NotLive}
@@ -47,6 +48,25 @@ abbrev pub after_append : Shape → (Parts → List ℕ) → Work → (sum clien
 after_append sh spell w sum client request body =
     let p = prepare_of (memory_of sh spell w) sum client request body in
     outcome (first_refusal (append_refusals (memory_of sh spell w) client request body)) w (with_prepare w p) (p.header.op, sum)
+
+abbrev pub with_staged : Work → Request → Work
+with_staged w r = record w { staged = w.staged ++ r ∷ [] }
+
+-- the op that the request is to get
+abbrev pub after_stage : Shape → (Parts → List ℕ) → Work → (client request : ℕ) → List ℕ → Work × Result ℕ AppendError
+after_stage sh spell w client request body =
+    let m = memory_of sh spell w in
+    outcome (first_refusal (stage_refusals m client request body)) w (with_staged w (record { client = client; request = request; body = body })) (m.head + length m.staged + 1)
+
+-- with a group of prepares more, and nothing staged
+abbrev pub with_group : Work → List Message → Work
+with_group w ps = record w { view = appended w.view ps; waiting = w.waiting ++ map sum_of_message ps; staged = [] }
+
+-- how many prepares were appended
+abbrev pub after_flush : Shape → (Parts → List ℕ) → Work → (sums : List ℕ) → Work × Result ℕ FlushError
+after_flush sh spell w sums =
+    let m = memory_of sh spell w in
+    outcome (first_refusal (flush_refusals m)) w (with_group w (group_of m sums)) (length m.staged)
 
 abbrev pub with_reply : Work → ℕ → Message → Work
 with_reply w place r = record w { view = replied w.view place r; waiting = drop 1 w.waiting }

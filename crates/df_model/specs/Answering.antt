@@ -9,11 +9,13 @@ use Rattle.df_theory.specs.Next.{MayFinish}
 use Rattle.df_model.specs.Work.{Work, is_held, kept}
 use Rattle.df_model.specs.Codec.{AreBytes}
 use Rattle.df_model.specs.Memory.{Course, Memory, memory_of, message_room}
-use Rattle.df_model.specs.Refusals.{append_refusals, begin_refusals, block_refusals, first_refusal, lookup_refusals, reply_refusals, session_of_client}
+use Rattle.df_model.specs.Refusals.{append_refusals, begin_refusals, block_refusals, first_refusal, flush_refusals, lookup_refusals, reply_refusals, request_refusals, session_of_client}
 use Rattle.df_model.specs.Making.{needed_of, parts_of, reply_of}
 use Rattle.df_model.specs.Commands.{Command, Given, after}
 use Rattle.df_model.specs.Sense.{IsWork}
+use Rattle.df_model.specs.declared.errors.AppendError.{AppendError}
 use Rattle.df_model.specs.declared.errors.AppendError.TheVariants as append
+use Rattle.df_model.specs.declared.errors.FlushError.TheVariants as flush
 use Rattle.df_model.specs.declared.errors.ReplyError.TheVariants as reply
 use Rattle.df_model.specs.declared.errors.BlockError.TheVariants as block
 use Rattle.df_model.specs.declared.errors.BeginError.TheVariants as begin
@@ -26,7 +28,7 @@ MemoryLaw =
 
 -- ---- the order of refusals
 
--- of an append: the client's number, the body's length, a place for a new client, its last request, and only then the number of this one
+-- of an append: the client's number, the body's length, a place for a new client, its last request, and only then the number of this one; and last what is staged
 pub record AppendsInOrder (m : Memory) (client request : ℕ) (body : List ℕ) : Type 0 where
   pub zero : client ≡ 0 → first_refusal (append_refusals m client request body) ≡ Some append.ClientZero
   pub long : 0 < client → message_room m.layout < length body → first_refusal (append_refusals m client request body) ≡ Some (append.BodyTooLong (message_room m.layout))
@@ -34,9 +36,12 @@ pub record AppendsInOrder (m : Memory) (client request : ℕ) (body : List ℕ) 
   pub repeated : (s : Session) → 0 < client → length body ≤ message_room m.layout → session_of_client client m.sessions ≡ Some s → request ≡ s.request → s.op ≤ m.replies → first_refusal (append_refusals m client request body) ≡ Some (append.Repeated s.op)
   pub pending : (s : Session) → 0 < client → length body ≤ message_room m.layout → session_of_client client m.sessions ≡ Some s → m.replies < s.op → first_refusal (append_refusals m client request body) ≡ Some (append.ReplyPending s.op)
   pub number : (s : Session) → 0 < client → length body ≤ message_room m.layout → session_of_client client m.sessions ≡ Some s → s.op ≤ m.replies → s.request + 1 < request → first_refusal (append_refusals m client request body) ≡ Some (append.RequestOrder (s.request + 1))
+  pub first : (e : AppendError) → first_refusal (request_refusals m client request body) ≡ Some e → first_refusal (append_refusals m client request body) ≡ Some e
+  pub staged : first_refusal (request_refusals m client request body) ≡ None → 0 < length m.staged → first_refusal (append_refusals m client request body) ≡ Some (append.Staged (length m.staged))
 
--- of the other calls that have more than one: what there is to reply to comes before the op, a kind of 0 before the length, a running checkpoint before the root
+-- of the other calls: a flush wants something staged, what there is to reply to comes before the op, a kind of 0 before the length, a running checkpoint before the root
 pub record OthersInOrder (m : Memory) (number : ℕ) (bytes : List ℕ) : Type 0 where
+  pub unstaged : m.staged ≡ [] → first_refusal (flush_refusals m) ≡ Some flush.NothingStaged
   pub nothing : m.replies ≡ m.head → first_refusal (reply_refusals m number bytes) ≡ Some (reply.NothingPending m.head)
   pub kind : number ≡ 0 → first_refusal (block_refusals m number bytes) ≡ Some block.KindZero
   pub running : (r : Course) → m.running ≡ Some r → first_refusal (begin_refusals m number bytes) ≡ Some (begin.Running (length r.left + 1))

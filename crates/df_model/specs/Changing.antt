@@ -1,19 +1,20 @@
 -- How a command changes what is in memory: a function of it.
-use Rattle.std.specs.Prelude.{◌≡◌, ℕ, ◌+◌, ◌-◌, ◌==◌, if◌then◌else◌, List, [], ◌∷◌, ◌++◌, take, drop, slice_set, Option, Some, None}
+use Rattle.std.specs.Prelude.{◌≡◌, ℕ, ◌+◌, ◌-◌, ◌==◌, if◌then◌else◌, List, [], ◌∷◌, ◌++◌, length, map, take, drop, slice_set, Option, Some, None}
 use Rattle.df_theory.specs.Units.{Message, Parts, Session}
-use Rattle.df_theory.specs.Sessions.{noted}
+use Rattle.df_theory.specs.Sessions.{noted, sessions_after}
+use Rattle.df_theory.specs.Tails.{last_checksum}
 use Rattle.df_theory.specs.Shape.{Shape}
-use Rattle.df_model.specs.Work.{Work, first_tour, is_held, reference_of}
+use Rattle.df_model.specs.Work.{Request, Work, first_tour, is_held, reference_of}
 use Rattle.df_model.specs.Blocks.{Blocks, block_released, block_written, blocks_captured, blocks_of, capture_finished, is_held_in, reference_in, trailer_written}
-use Rattle.df_model.specs.Memory.{Course, Memory, free_of, memory_of}
-use Rattle.df_model.specs.Refusals.{append_refusals, begin_refusals, block_refusals, first_refusal, release_refusals, reply_refusals}
-use Rattle.df_model.specs.Making.{content_of, needed_of, next_address, parts_of, place_of_reply, prepare_of}
+use Rattle.df_model.specs.Memory.{Course, Memory, free_of, memory_of, sum_of_message}
+use Rattle.df_model.specs.Refusals.{append_refusals, begin_refusals, block_refusals, first_refusal, flush_refusals, release_refusals, reply_refusals, stage_refusals}
+use Rattle.df_model.specs.Making.{content_of, group_of, needed_of, next_address, parts_of, place_of_reply, prepare_of}
 use Rattle.df_model.specs.After.{newest, to_check}
 use Rattle.df_model.specs.Codec.{InGrid}
 use Rattle.df_model.specs.Sense.{IsWork}
 use Rattle.df_model.specs.declared.answers.Verdict.{Verdict}
 use Rattle.df_model.specs.declared.answers.Verdict.TheVariants.{Sound, Failing}
-use Rattle.df_model.specs.Commands.{Advance, Append, Begin, Command, Given, Release, Reply, Scrub, WriteBlock, after, supplied_sum, supplied_verdict}
+use Rattle.df_model.specs.Commands.{Advance, Append, Begin, Command, Flush, Given, Release, Reply, Scrub, Stage, WriteBlock, after, supplied_sum, supplied_sums, supplied_verdict}
 
 -- ---- what is kept of the grid
 
@@ -62,6 +63,25 @@ appended_in m p = record m {
   waiting = m.waiting ++ p.header.checksum ∷ [];
 }
 
+abbrev pub staged_in : Memory → Request → Memory
+staged_in m r = record m { staged = m.staged ++ r ∷ [] }
+
+-- one after the other
+abbrev pub unstored_all : List Session → List Message → List (Option ℕ) → List (Option ℕ)
+unstored_all ss [] sums = sums
+unstored_all ss (p ∷ ps) sums = unstored_all (noted p.header ss) ps (unstored p.header.client ss sums)
+
+abbrev pub flushed_in : Memory → List Message → Memory
+flushed_in m ps = record m {
+  head = m.head + length ps;
+  head_checksum = last_checksum m.head_checksum ps;
+  sessions = sessions_after m.sessions ps;
+  prepares = m.prepares ++ map sum_of_message ps;
+  stored = unstored_all m.sessions ps m.stored;
+  waiting = m.waiting ++ map sum_of_message ps;
+  staged = [];
+}
+
 abbrev pub replied_in : Memory → (sum : ℕ) → Memory
 replied_in m sum = record m { replies = m.replies + 1; stored = slice_set m.stored (place_of_reply m) (Some sum); waiting = drop 1 m.waiting }
 
@@ -84,6 +104,8 @@ checked_in m (Failing class) (x ∷ more) = record m { tour = record { last = x.
 
 abbrev pub rest_after : (Parts → List ℕ) → Memory → Given → Command → Memory
 rest_after spell m given (Append client request body) = unless_refused (first_refusal (append_refusals m client request body)) m (appended_in m (prepare_of m (supplied_sum given) client request body))
+rest_after spell m given (Stage client request body) = unless_refused (first_refusal (stage_refusals m client request body)) m (staged_in m (record { client = client; request = request; body = body }))
+rest_after spell m given Flush = unless_refused (first_refusal (flush_refusals m)) m (flushed_in m (group_of m (supplied_sums given)))
 rest_after spell m given (Reply op body) = unless_refused (first_refusal (reply_refusals m op body)) m (replied_in m (supplied_sum given))
 rest_after spell m given (Begin root) = unless_refused (first_refusal (begin_refusals m (needed_of spell m root) root)) m (record m { running = Some (begun_in spell m root) })
 rest_after spell m given Advance = step_in m (supplied_sum given) m.running

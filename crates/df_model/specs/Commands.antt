@@ -9,8 +9,9 @@ use Rattle.df_model.specs.Work.{Work}
 use Rattle.df_model.specs.Memory.{memory_of}
 use Rattle.df_model.specs.Codec.{AreBytes, AreChecksums}
 use Rattle.df_model.specs.Making.{first_of}
-use Rattle.df_model.specs.After.{after_advance, after_append, after_begin, after_block, after_release, after_reply, after_scrub, lookup_answer, prepare_answer, read_answer}
+use Rattle.df_model.specs.After.{after_advance, after_append, after_begin, after_block, after_flush, after_release, after_reply, after_scrub, after_stage, lookup_answer, prepare_answer, read_answer}
 use Rattle.df_model.specs.declared.errors.AppendError.{AppendError}
+use Rattle.df_model.specs.declared.errors.FlushError.{FlushError}
 use Rattle.df_model.specs.declared.errors.ReplyError.{ReplyError}
 use Rattle.df_model.specs.declared.errors.BlockError.{BlockError}
 use Rattle.df_model.specs.declared.errors.NotLive.{NotLive}
@@ -26,6 +27,8 @@ use Rattle.df_model.specs.declared.answers.Scrubbed.{Scrubbed}
 
 pub data Command : Type 0 where
   Append : (client request : ℕ) (body : List ℕ) → Command
+  Stage : (client request : ℕ) (body : List ℕ) → Command
+  Flush : Command
   Reply : (op : ℕ) (body : List ℕ) → Command
   WriteBlock : (kind : ℕ) (body : List ℕ) → Command
   Release : (address : ℕ) → Command
@@ -37,9 +40,11 @@ pub data Command : Type 0 where
   Scrub : Command
   Recent : Command
 
--- what the device and the codecs supply, a case for each command: the checksums of the units that it makes, in their order (one today); or the unit that is wanted at the place that it reads, or the class of what is shown there
+-- what the device and the codecs supply, a case for each command: the checksums of the units that it makes, in their order, of a flush as many as it appends, else one; or the unit that is wanted at the place that it reads, or the class of what is shown there
 pub data Given : Type 0 where
   ForAppend : (checksums : List ℕ) → Given
+  ForStage : Given
+  ForFlush : (checksums : List ℕ) → Given
   ForReply : (checksums : List ℕ) → Given
   ForWriteBlock : (checksums : List ℕ) → Given
   ForRelease : Given
@@ -54,6 +59,7 @@ pub data Given : Type 0 where
 -- what is supplied of each kind: no checksums, a blank place and a sound block where the case has none
 abbrev pub supplied_sums : Given → List ℕ
 supplied_sums (ForAppend checksums) = checksums
+supplied_sums (ForFlush checksums) = checksums
 supplied_sums (ForReply checksums) = checksums
 supplied_sums (ForWriteBlock checksums) = checksums
 supplied_sums (ForAdvance checksums) = checksums
@@ -72,13 +78,15 @@ abbrev pub supplied_verdict : Given → Verdict
 supplied_verdict (ForScrub verdict) = verdict
 supplied_verdict given = Sound
 
--- the checksum of the one unit that a command makes
+-- the checksum of the one unit that a command makes, or of the first
 abbrev pub supplied_sum : Given → ℕ
 supplied_sum given = first_of (supplied_sums given)
 
 -- the fields are in the range of their types
 abbrev pub IsInRange : Command → Type 0
 IsInRange (Append client request body) = client < 2 ^ 128
+IsInRange (Stage client request body) = client < 2 ^ 128
+IsInRange Flush = Unit {0}
 IsInRange (Reply op body) = Unit {0}
 IsInRange (WriteBlock kind body) = Unit {0}
 IsInRange (Release address) = Unit {0}
@@ -97,6 +105,8 @@ pub record IsInput (given : Given) (command : Command) : Type 0 where
 
 pub data Answer : Type 0 where
   ToAppend : (answer : Result (ℕ × ℕ) AppendError) → Answer
+  ToStage : (answer : Result ℕ AppendError) → Answer
+  ToFlush : (answer : Result ℕ FlushError) → Answer
   ToReply : (answer : Result ℕ ReplyError) → Answer
   ToWriteBlock : (answer : Result (ℕ × ℕ) BlockError) → Answer
   ToRelease : (answer : Result (Unit {0}) NotLive) → Answer
@@ -114,6 +124,8 @@ as_answer answer pair = (pair.0, answer pair.1)
 -- the state after a command, and its answer
 abbrev pub after : Shape → (Parts → List ℕ) → Work → Given → Command → Work × Answer
 after sh spell w given (Append client request body) = as_answer ToAppend (after_append sh spell w (supplied_sum given) client request body)
+after sh spell w given (Stage client request body) = as_answer ToStage (after_stage sh spell w client request body)
+after sh spell w given Flush = as_answer ToFlush (after_flush sh spell w (supplied_sums given))
 after sh spell w given (Reply op body) = as_answer ToReply (after_reply sh spell w (supplied_sum given) op body)
 after sh spell w given (WriteBlock kind body) = as_answer ToWriteBlock (after_block sh spell w (supplied_sum given) kind body)
 after sh spell w given (Release address) = as_answer ToRelease (after_release sh spell w address)

@@ -8,6 +8,8 @@ use Rattle.df_model.specs.declared.errors.MendError.{MendError}
 use Rattle.df_model.specs.declared.errors.MendError.TheVariants as mend
 use Rattle.df_model.specs.declared.errors.AppendError.{AppendError}
 use Rattle.df_model.specs.declared.errors.AppendError.TheVariants as append
+use Rattle.df_model.specs.declared.errors.FlushError.{FlushError}
+use Rattle.df_model.specs.declared.errors.FlushError.TheVariants as flush
 use Rattle.df_model.specs.declared.errors.ReplyError.{ReplyError}
 use Rattle.df_model.specs.declared.errors.ReplyError.TheVariants as reply
 use Rattle.df_model.specs.declared.errors.BlockError.{BlockError}
@@ -36,6 +38,10 @@ is_mend_fault e = false
 abbrev pub is_append_fault : AppendError → Bool
 is_append_fault append.DiskFault = true
 is_append_fault e = false
+
+abbrev pub is_flush_fault : FlushError → Bool
+is_flush_fault flush.DiskFault = true
+is_flush_fault e = false
 
 abbrev pub is_reply_fault : ReplyError → Bool
 is_reply_fault reply.DiskFault = true

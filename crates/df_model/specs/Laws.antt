@@ -1,28 +1,30 @@
 -- The laws of the machine: it keeps its sense, and what a call does to the device leads from the view before to the view after.
 use Rattle.std.specs.Prelude.{◌≡◌, ◌+◌, ◌^◌, ◌%◌, ◌<◌, ◌≤◌, ℕ, length, true, false, List, [], ◌∷◌, Option, Some, None}
-use Rattle.df_theory.specs.Units.{Block, BlockPlace, BlockUnit, HeaderPlace, HeaderUnit, Message, PreparePlace, PrepareUnit, ReplyPlace, ReplyUnit, Units, Parts, overlay}
+use Rattle.df_theory.specs.Units.{Block, BlockPlace, BlockUnit, Header, HeaderPlace, HeaderUnit, Message, PreparePlace, PrepareUnit, ReplyPlace, ReplyUnit, Units, Parts, overlay}
 use Rattle.df_theory.specs.Sessions.{session_of}
 use Rattle.df_theory.specs.Tails.{In}
 use Rattle.df_theory.specs.Trailer.{InChain, text_of}
 use Rattle.df_theory.specs.Shape.{Shape, slots}
-use Rattle.df_theory.specs.View.{Checkpoint, View}
+use Rattle.df_theory.specs.View.{Checkpoint, View, boot_of}
 use Rattle.df_theory.specs.Found.{AreOfPlaces, IsFound}
 use Rattle.df_theory.specs.Holds.{Holds, Sound, Stands}
 use Rattle.df_theory.specs.Next.{MayAppend, MayFinish, MayReply, Next}
 use Rattle.df_theory.specs.UnitLog.{PutsOne, UnitLog, now}
 use Rattle.df_theory.specs.Runs.{Step, after_steps}
-use Rattle.df_theory.specs.WriterLaws.{IsHeaderSector}
+use Rattle.df_theory.specs.WriterLaws.{AllPutPrepare, IsHeaderSector}
+use Rattle.df_theory.specs.MendLaws.{AllPutTable}
+use Rattle.df_theory.specs.GroupLaws.{IsGroupTable, flush_command}
 use Rattle.df_theory.specs.TidyLaws.{IsTidy, KeepsStanding, LeadsTidily}
 use Rattle.df_theory.specs.Commands.{append_command, block_command, finish_command, reply_command}
 use Rattle.df_theory.specs.CopyPuts.{PutsCopies}
 use Rattle.df_model.specs.Work.{Running, Work, is_held, kept, opened}
 use Rattle.df_model.specs.Codec.{AreBytes, InGrid, IsCodec, IsLawfulSession}
-use Rattle.df_model.specs.Refusals.{append_refusals, block_refusals, first_refusal, reply_refusals}
-use Rattle.df_model.specs.After.{next_trailer, checkpoint_of}
+use Rattle.df_model.specs.Refusals.{append_refusals, block_refusals, first_refusal, flush_refusals, reply_refusals, stage_refusals}
+use Rattle.df_model.specs.After.{next_trailer, checkpoint_of, with_staged}
 use Rattle.df_model.specs.Sense.{IsBacked, IsVersionTwo, IsWork, ShowsWritten}
 use Rattle.df_model.specs.Memory.{memory_of, message_room}
-use Rattle.df_model.specs.Making.{block_of, next_address, place_of_reply, prepare_of, reply_of}
-use Rattle.df_model.specs.Commands.{Advance, Append, Begin, Command, Given, IsInput, ReadBlock, ReadPrepare, ReadReply, Recent, Release, Reply, Scrub, WriteBlock, after, supplied_sum}
+use Rattle.df_model.specs.Making.{block_of, group_of, next_address, place_of_reply, prepare_of, reply_of}
+use Rattle.df_model.specs.Commands.{Advance, Append, Begin, Command, Flush, Given, IsInput, ReadBlock, ReadPrepare, ReadReply, Recent, Release, Reply, Scrub, Stage, WriteBlock, after, supplied_sum, supplied_sums}
 
 -- ---- the state keeps its sense
 
@@ -58,6 +60,10 @@ AppendMayLaw =
     (sh : Shape) (spell : Parts → List ℕ) (w : Work) (sum client request : ℕ) (body : List ℕ) → IsWork sh spell w → first_refusal (append_refusals (memory_of sh spell w) client request body) ≡ None
     → MayAppend sh (kept w) (prepare_of (memory_of sh spell w) sum client request body ∷ [])
 
+-- all that is staged may be appended as one group, with whatever checksums
+abbrev pub FlushMayLaw : Type 0
+FlushMayLaw = (sh : Shape) (spell : Parts → List ℕ) (w : Work) (sums : List ℕ) → IsWork sh spell w → first_refusal (flush_refusals (memory_of sh spell w)) ≡ None → MayAppend sh (kept w) (group_of (memory_of sh spell w) sums)
+
 abbrev pub ReplyMayLaw : Type 0
 ReplyMayLaw =
     (sh : Shape) (spell : Parts → List ℕ) (w : Work) (sum op : ℕ) (body : List ℕ) → IsWork sh spell w → first_refusal (reply_refusals (memory_of sh spell w) op body) ≡ None
@@ -72,8 +78,14 @@ pub record IsLeastFree (sh : Shape) (w : Work) (a : ℕ) : Type 0 where
 -- what may be done isn't refused, where its fields are in range
 abbrev pub AppendExactLaw : Type 0
 AppendExactLaw =
-    (sh : Shape) (spell : Parts → List ℕ) (w : Work) (sum client request : ℕ) (body : List ℕ) → IsWork sh spell w → 0 < client → length body ≤ message_room sh.layout → request ≤ 2 ^ 62
+    (sh : Shape) (spell : Parts → List ℕ) (w : Work) (sum client request : ℕ) (body : List ℕ) → IsWork sh spell w → w.staged ≡ [] → 0 < client → length body ≤ message_room sh.layout → request ≤ 2 ^ 62
     → MayAppend sh (kept w) (prepare_of (memory_of sh spell w) sum client request body ∷ []) → first_refusal (append_refusals (memory_of sh spell w) client request body) ≡ None
+
+-- a request is staged where it could be appended behind those that are staged
+abbrev pub StageExactLaw : Type 0
+StageExactLaw =
+    (sh : Shape) (spell : Parts → List ℕ) (w : Work) (client request : ℕ) (body : List ℕ) → IsWork sh spell w → 0 < client → length body ≤ message_room sh.layout → request ≤ 2 ^ 62
+    → MayAppend sh (kept w) (group_of (memory_of sh spell (with_staged w (record { client = client; request = request; body = body }))) []) → first_refusal (stage_refusals (memory_of sh spell w) client request body) ≡ None
 
 abbrev pub ReplyExactLaw : Type 0
 ReplyExactLaw =
@@ -111,6 +123,17 @@ pub record DoesAppend (sh : Shape) (image : Units) (v : View) (p : Message) (ste
   pub there : headers (HeaderPlace (p.header.op % slots sh)) ≡ Some (HeaderUnit p.header)
   pub are : steps ≡ (append_command v p prepare headers).steps
 
+-- a flush writes the prepares of its group, syncs, and then writes their header sectors, of one table, and syncs; a group of several is one of a file with boots
+pub record DoesFlush (sh : Shape) (image : Units) (v : View) (ps : List Message) (steps : List Step) : Type 0 where
+  pub prepares : List Units
+  pub table : ℕ → Header
+  pub headers : List Units
+  pub puts : AllPutPrepare sh ps prepares
+  pub sectors : AllPutTable table headers
+  pub is_table : IsGroupTable sh image ps table headers
+  pub booted : 1 < length ps → 0 < boot_of v
+  pub are : steps ≡ (flush_command v ps prepares headers).steps
+
 pub record DoesReply (v : View) (place : ℕ) (r : Message) (steps : List Step) : Type 0 where
   pub put : Units
   pub one : PutsOne put (ReplyPlace place) (ReplyUnit r)
@@ -146,6 +169,8 @@ DoesAdvance sh spell w sum (Some r) steps = DoesAdvanceTo sh spell w sum r r.lef
 -- the steps of a command, over the image that is shown at its start
 abbrev pub Does : Shape → (Parts → List ℕ) → Units → Work → Given → Command → List Step → Type 0
 Does sh spell image w given (Append client request body) steps = UnlessRefused (first_refusal (append_refusals (memory_of sh spell w) client request body)) steps (DoesAppend sh image w.view (prepare_of (memory_of sh spell w) (supplied_sum given) client request body) steps)
+Does sh spell image w given (Stage client request body) steps = DoesNothing steps
+Does sh spell image w given Flush steps = UnlessRefused (first_refusal (flush_refusals (memory_of sh spell w))) steps (DoesFlush sh image w.view (group_of (memory_of sh spell w) (supplied_sums given)) steps)
 Does sh spell image w given (Reply op body) steps = UnlessRefused (first_refusal (reply_refusals (memory_of sh spell w) op body)) steps (DoesReply w.view (place_of_reply (memory_of sh spell w)) (reply_of (memory_of sh spell w) (supplied_sum given) body) steps)
 Does sh spell image w given (WriteBlock kind body) steps = UnlessRefused (first_refusal (block_refusals (memory_of sh spell w) kind body)) steps (DoesBlock w.view (next_address (memory_of sh spell w)) (block_of (memory_of sh spell w).content.boot (supplied_sum given) kind body) steps)
 Does sh spell image w given Advance steps = DoesAdvance sh spell w (supplied_sum given) w.running steps

@@ -2,26 +2,48 @@
 use Rattle.std.specs.Prelude.{ℕ, suc, ◌+◌, ◌-◌, ◌*◌, ◌/◌, ◌==◌, if◌then◌else◌, List, [], ◌∷◌, length, map, take, drop, Option, Some, None}
 use Rattle.std.specs.List.{range_with_len, slice_get}
 use Rattle.df_theory.specs.Units.{Block, Content, Message, Parts, Session}
+use Rattle.df_model.specs.Work.{Request}
 use Rattle.df_model.specs.Memory.{Course, Memory, block_room, free_of, reply_sum}
 use Rattle.df_model.specs.Blocks.{sum_at}
 
--- the next prepare, with this checksum: a group of its own
-abbrev pub prepare_of : Memory → (sum client request : ℕ) → List ℕ → Message
-prepare_of m sum client request body = record {
+abbrev pub first_of : List ℕ → ℕ
+first_of [] = 0
+first_of (x ∷ xs) = x
+
+-- ---- prepares
+
+-- a request as the prepare with this op and this checksum, behind the prepare with the checksum `parent`, of the group of the ops from `first` to `last`
+abbrev pub prepare_in : Memory → (first last op parent sum : ℕ) → Request → Message
+prepare_in m first last op parent sum r = record {
   header = record {
     checksum = sum;
-    parent = m.head_checksum;
-    client = client;
-    op = m.head + 1;
-    request = request;
+    parent = parent;
+    client = r.client;
+    op = op;
+    request = r.request;
     mark = m.replies;
     checkpoint = m.content.sequence;
     boot = m.content.boot;
-    group = m.head + 1;
-    group_last = m.head + 1;
+    group = first;
+    group_last = last;
   };
-  body = body;
+  body = r.body;
 }
+
+-- the next prepare, with this checksum: a group of its own
+abbrev pub prepare_of : Memory → (sum client request : ℕ) → List ℕ → Message
+prepare_of m sum client request body = prepare_in m (m.head + 1) (m.head + 1) (m.head + 1) m.head_checksum sum (record { client = client; request = request; body = body })
+
+-- requests as prepares of one group, one after the other from this op on, with these checksums
+abbrev pub prepares_in : Memory → (first last op parent : ℕ) → List Request → List ℕ → List Message
+prepares_in m first last op parent [] sums = []
+prepares_in m first last op parent (r ∷ rs) sums = prepare_in m first last op parent (first_of sums) r ∷ prepares_in m first last (op + 1) (first_of sums) rs (drop 1 sums)
+
+-- the next group: all that is staged, in order, with these checksums
+abbrev pub group_of : Memory → List ℕ → List Message
+group_of m sums = prepares_in m (m.head + 1) (m.head + length m.staged) (m.head + 1) m.head_checksum m.staged sums
+
+-- ---- replies
 
 -- the place of the session whose last request has this op
 abbrev pub place_of_op : ℕ → List Session → ℕ
@@ -35,10 +57,6 @@ client_of (Some s) = s.client
 abbrev pub request_of : Option Session → ℕ
 request_of None = 0
 request_of (Some s) = s.request
-
-abbrev pub first_of : List ℕ → ℕ
-first_of [] = 0
-first_of (x ∷ xs) = x
 
 -- the place of the next reply
 abbrev pub place_of_reply : Memory → ℕ
@@ -63,6 +81,8 @@ reply_of m sum body =
       };
       body = body;
     }
+
+-- ---- blocks
 
 -- a block, made in this boot
 abbrev pub block_of : (boot sum kind : ℕ) → List ℕ → Block

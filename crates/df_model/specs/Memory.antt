@@ -6,7 +6,7 @@ use Rattle.df_theory.specs.Units.{Block, Content, Layout, Message, Parts, Sessio
 use Rattle.df_theory.specs.Shape.{Shape}
 use Rattle.df_theory.specs.Tails.{last_checksum}
 use Rattle.df_theory.specs.View.{head, sessions}
-use Rattle.df_model.specs.Work.{Running, Tour, Work}
+use Rattle.df_model.specs.Work.{Request, Running, Tour, Work}
 use Rattle.df_model.specs.Blocks.{Blocks, blocks_of, free_in, referenced_in}
 
 -- the running checkpoint: what it captured, its trailer's text, and of the trailer's blocks those that are written, the last one first, and the addresses of those to come
@@ -31,6 +31,7 @@ pub record Memory : Type 0 where
   pub prepares : List ℕ  -- the checksums of the tail's prepares, in order of op
   pub stored : List (Option ℕ)  -- by place that of each session's reply, where it is stored
   pub waiting : List ℕ  -- those of the prepares that wait for their replies, in order of op
+  pub staged : List Request
   pub blocks : Blocks
   pub running : Option Course
   pub tour : Tour
@@ -82,6 +83,7 @@ memory_of sh spell w = record {
   prepares = map sum_of_message w.view.tail;
   stored = map (λ k. stored_sum (w.view.stored k)) (range_with_len 0 (length (sessions w.view)));
   waiting = w.waiting;
+  staged = w.staged;
   blocks = blocks_of sh w;
   running = course_of spell w.running;
   tour = w.tour;

@@ -1,11 +1,15 @@
 -- Why a call is refused: its tests in their order, each with its answer, over what is in memory. The first that holds is answered.
-use Rattle.std.specs.Prelude.{ℕ, ◌+◌, ◌-◌, ◌^◌, ◌==◌, Bool, true, false, ◌&&◌, ◌||◌, nat_lt, nat_le, not, if◌then◌else◌, List, [], ◌∷◌, length, Option, Some, None}
+use Rattle.std.specs.Prelude.{ℕ, ◌+◌, ◌-◌, ◌^◌, ◌==◌, Bool, true, false, ◌&&◌, ◌||◌, nat_lt, nat_le, not, if◌then◌else◌, List, [], ◌∷◌, ◌++◌, length, Option, Some, None}
 use Rattle.df_theory.specs.Units.{Session}
+use Rattle.df_theory.specs.Sessions.{sessions_after}
 use Rattle.df_model.specs.Work.{is_known}
 use Rattle.df_model.specs.Memory.{Course, Memory, block_room, free_of, message_room}
 use Rattle.df_model.specs.Blocks.{sum_at}
+use Rattle.df_model.specs.Making.{group_of}
 use Rattle.df_model.specs.declared.errors.AppendError.{AppendError}
 use Rattle.df_model.specs.declared.errors.AppendError.TheVariants as append
+use Rattle.df_model.specs.declared.errors.FlushError.{FlushError}
+use Rattle.df_model.specs.declared.errors.FlushError.TheVariants as flush
 use Rattle.df_model.specs.declared.errors.ReplyError.{ReplyError}
 use Rattle.df_model.specs.declared.errors.ReplyError.TheVariants as reply
 use Rattle.df_model.specs.declared.errors.BlockError.{BlockError}
@@ -53,8 +57,9 @@ next_request (Some s) = s.request + 1
 
 -- ---- the calls
 
-abbrev pub append_refusals : Memory → (client request : ℕ) → List ℕ → List (Bool × AppendError)
-append_refusals m client request body =
+-- of a request, whether it is appended or staged
+abbrev pub request_refusals : Memory → (client request : ℕ) → List ℕ → List (Bool × AppendError)
+request_refusals m client request body =
     let session = session_of_client client m.sessions in
     (client == 0, append.ClientZero)
     ∷ (nat_lt (message_room m.layout) (length body), append.BodyTooLong (message_room m.layout))
@@ -66,6 +71,23 @@ append_refusals m client request body =
     ∷ (nat_lt (m.content.op + m.layout.slots) (m.head + 1), append.WalFull (m.head + 1) m.content.op)
     ∷ ((m.head == 2 ^ 62) || nat_lt (2 ^ 62) request, append.OpsSpent)
     ∷ []
+
+-- as if what is staged were appended, and no reply were stored yet
+abbrev pub counted : Memory → Memory
+counted m = record m { head = m.head + length m.staged; sessions = sessions_after m.sessions (group_of m []) }
+
+abbrev pub stage_refusals : Memory → (client request : ℕ) → List ℕ → List (Bool × AppendError)
+stage_refusals m client request body = request_refusals (counted m) client request body
+
+abbrev pub is_staged : Memory → Bool
+is_staged m = nat_lt 0 (length m.staged)
+
+-- what is staged comes before what is appended
+abbrev pub append_refusals : Memory → (client request : ℕ) → List ℕ → List (Bool × AppendError)
+append_refusals m client request body = request_refusals m client request body ++ (is_staged m, append.Staged (length m.staged)) ∷ []
+
+abbrev pub flush_refusals : Memory → List (Bool × FlushError)
+flush_refusals m = (not (is_staged m), flush.NothingStaged) ∷ []
 
 abbrev pub reply_refusals : Memory → (op : ℕ) → List ℕ → List (Bool × ReplyError)
 reply_refusals m op body =

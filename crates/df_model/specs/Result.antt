@@ -7,7 +7,7 @@ use Rattle.df_theory.specs.UnitLog.{UnitLog, now}
 use Rattle.df_theory.specs.Runs.{Step, after_steps}
 use Rattle.df_model.specs.Work.{Work}
 use Rattle.df_model.specs.Memory.{memory_of}
-use Rattle.df_model.specs.Commands.{Command, Given, after, supplied_sum}
+use Rattle.df_model.specs.Commands.{Command, Given, after, supplied_sums}
 use Rattle.df_model.specs.Supply.{Codec, result, supplied, puts_of}
 use Rattle.df_model.specs.Laws.{Does}
 use Rattle.df_model.specs.Reading.{shown_by}
@@ -23,7 +23,7 @@ pub record AgreeReads (image other : Units) : Type 0 where
 abbrev pub WritesLaw : Type 0
 WritesLaw =
     (sh : Shape) (spell : Parts → List ℕ) (log : UnitLog) (w : Work) (given : Given) (command : Command) (steps : List Step) → Does sh spell (now log) w given command steps
-    → AgreeReads (now (after_steps steps log)) (overlay (puts_of (memory_of sh spell w) (supplied_sum given) command) (now log))
+    → AgreeReads (now (after_steps steps log)) (overlay (puts_of (memory_of sh spell w) (supplied_sums given) command) (now log))
 
 abbrev pub commands_of : List Act → List Command
 commands_of [] = []

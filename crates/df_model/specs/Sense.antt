@@ -5,15 +5,16 @@ use Rattle.df_theory.specs.Units.{Block, BlockPlace, BlockUnit, Content, Message
 use Rattle.df_theory.specs.Sessions.{sessions_after}
 use Rattle.df_theory.specs.Tails.{EndsAt, In, last_checksum}
 use Rattle.df_theory.specs.Trailer.{InChain, IsCount, Links, text_of}
-use Rattle.df_theory.specs.Shape.{Shape, clients}
+use Rattle.df_theory.specs.Shape.{Shape, clients, slots}
 use Rattle.df_theory.specs.View.{Checkpoint, View, head, sequence, sessions}
 use Rattle.df_theory.specs.Holds.{Sound}
+use Rattle.df_theory.specs.Next.{MayAskInTurn}
 use Rattle.df_theory.specs.UnitLog.{UnitLog, now}
 use Rattle.df_theory.specs.WholeLaws.{IsStanding}
 use Rattle.df_model.specs.Work.{Running, Work, is_held}
 use Rattle.df_model.specs.Codec.{AreLawful, InGrid, IsChecksum, IsCodec, IsLawful}
-use Rattle.df_model.specs.Memory.{block_room, last_address, last_sum}
-use Rattle.df_model.specs.Making.{named_places}
+use Rattle.df_model.specs.Memory.{block_room, last_address, last_sum, memory_of}
+use Rattle.df_model.specs.Making.{group_of, named_places}
 
 -- addresses that rise, from this one on
 abbrev pub RiseFrom : ℕ → List ℕ → Type 0
@@ -29,6 +30,14 @@ AtEachOf P (x ∷ xs) = P x × AtEachOf P xs
 pub record AreWaiting (v : View) (sums : List ℕ) : Type 0 where
   pub count : v.replies + length sums ≡ head v
   pub each : (i : ℕ) (p : Message) → In p v.tail → p.header.op ≡ v.replies + 1 + i → slice_get sums i ≡ Some p.header.checksum
+
+-- these prepares may be appended as one group: slots and ops are left for them, no more than 8 would wait, and each client may ask in turn
+pub record AreStaged (sh : Shape) (v : View) (ps : List Message) : Type 0 where
+  pub room : length v.tail + length ps ≤ slots sh
+  pub pipeline : head v + length ps ≤ v.replies + 8
+  pub unspent : head v + length ps ≤ 2 ^ 62
+  pub asks : MayAskInTurn (clients sh) (sessions v) ps
+  pub sessions : AreLawful (clients sh) (sessions_after (sessions v) ps)
 
 -- the superblock that the running checkpoint leads to, as far as its trailer's blocks name it
 abbrev pub draft : Shape → (Parts → List ℕ) → View → Running → Content
@@ -86,6 +95,7 @@ pub record IsWork (sh : Shape) (spell : Parts → List ℕ) (w : Work) : Type 0 
   pub sessions : AreLawful (clients sh) (sessions w.view)
   pub grid : (a : ℕ) → is_held w a ≡ true → InGrid sh.layout a
   pub waiting : AreWaiting w.view w.waiting
+  pub staged : AreStaged sh w.view (group_of (memory_of sh spell w) [])
   pub running : (r : Running) → w.running ≡ Some r → IsCapture sh spell w.view r
   pub one : AreOne w
   pub sums : (a c : ℕ) → w.live a ≡ Some c → IsChecksum c

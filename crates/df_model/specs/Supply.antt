@@ -1,17 +1,17 @@
 -- What the device and the codecs supply to a command: a function of what is in memory and of what is shown. So a session is a list of commands, and its result a fold.
-use Rattle.std.specs.Prelude.{ℕ, ◌+◌, ◌%◌, ◌==◌, nat_lt, Bool, true, false, not, if◌then◌else◌, List, [], ◌∷◌, Option, Some, None, Result, Ok, Err}
+use Rattle.std.specs.Prelude.{ℕ, ◌+◌, ◌%◌, ◌==◌, nat_lt, Bool, true, false, not, if◌then◌else◌, List, [], ◌∷◌, length, Option, Some, None, Result, Ok, Err}
 use Rattle.df_layout.specs.declared.damage.Class.{Class}
 use Rattle.df_layout.specs.declared.damage.Class.TheVariants.{Blank, Stale}
 use Rattle.df_theory.specs.Units.{AnyUnit, Block, BlockPlace, BlockUnit, Content, CopyPlace, CopyUnit, Message, Parts, Place, PreparePlace, PrepareUnit, ReplyPlace, ReplyUnit, Units, overlay}
 use Rattle.df_theory.specs.Shape.{Shape}
 use Rattle.df_theory.specs.UnitLog.{put_one}
-use Rattle.df_model.specs.Work.{Work, raised}
+use Rattle.df_model.specs.Work.{Request, Work, raised}
 use Rattle.df_model.specs.Memory.{Course, Memory, memory_of, prepare_sum, reply_sum}
 use Rattle.df_model.specs.Blocks.{sum_at}
-use Rattle.df_model.specs.Refusals.{append_refusals, block_refusals, first_refusal, reply_refusals}
-use Rattle.df_model.specs.Making.{block_of, boot_content, content_of, next_address, place_of_reply, prepare_of, reply_of, trailer_block}
+use Rattle.df_model.specs.Refusals.{append_refusals, block_refusals, first_refusal, flush_refusals, reply_refusals}
+use Rattle.df_model.specs.Making.{block_of, boot_content, content_of, first_of, group_of, next_address, place_of_reply, prepare_in, prepare_of, reply_of, trailer_block}
 use Rattle.df_model.specs.After.{place_of_client, to_check}
-use Rattle.df_model.specs.Commands.{Advance, Answer, Append, Begin, Command, ForAdvance, ForAppend, ForBegin, ForReadBlock, ForReadPrepare, ForReadReply, ForRecent, ForRelease, ForReply, ForScrub, ForWriteBlock, Given, ReadBlock, ReadPrepare, ReadReply, Recent, Release, Reply, Scrub, WriteBlock, after}
+use Rattle.df_model.specs.Commands.{Advance, Answer, Append, Begin, Command, Flush, ForAdvance, ForAppend, ForBegin, ForFlush, ForReadBlock, ForReadPrepare, ForReadReply, ForRecent, ForRelease, ForReply, ForScrub, ForStage, ForWriteBlock, Given, ReadBlock, ReadPrepare, ReadReply, Recent, Release, Reply, Scrub, Stage, WriteBlock, after}
 use Rattle.df_model.specs.declared.answers.Verdict.{Verdict}
 use Rattle.df_model.specs.declared.answers.Verdict.TheVariants.{Sound, Failing}
 
@@ -38,13 +38,25 @@ abbrev pub step_sum : Codec → Memory → Option Course → ℕ
 step_sum codec m None = 0
 step_sum codec m (Some r) = trailer_sum codec m r r.left
 
--- the checksum of the unit that the command makes
+-- those of requests that are made prepares of one group: each has the one before it as its parent
+abbrev pub group_sums : Codec → Memory → (first last op parent : ℕ) → List Request → List ℕ
+group_sums codec m first last op parent [] = []
+group_sums codec m first last op parent (r ∷ rs) =
+    let sum = codec.prepare (prepare_in m first last op parent 0 r) in
+    sum ∷ group_sums codec m first last (op + 1) sum rs
+
+-- the checksums of the units that the command makes, in their order
+abbrev pub checksums_given : Codec → Memory → Command → List ℕ
+checksums_given codec m (Append client request body) = codec.prepare (prepare_of m 0 client request body) ∷ []
+checksums_given codec m Flush = group_sums codec m (m.head + 1) (m.head + length m.staged) (m.head + 1) m.head_checksum m.staged
+checksums_given codec m (Reply op body) = codec.reply (place_of_reply m) (reply_of m 0 body) ∷ []
+checksums_given codec m (WriteBlock kind body) = codec.block (next_address m) (block_of m.content.boot 0 kind body) ∷ []
+checksums_given codec m Advance = step_sum codec m m.running ∷ []
+checksums_given codec m command = []
+
+-- that of the one unit which it makes, or of the first
 abbrev pub checksum_given : Codec → Memory → Command → ℕ
-checksum_given codec m (Append client request body) = codec.prepare (prepare_of m 0 client request body)
-checksum_given codec m (Reply op body) = codec.reply (place_of_reply m) (reply_of m 0 body)
-checksum_given codec m (WriteBlock kind body) = codec.block (next_address m) (block_of m.content.boot 0 kind body)
-checksum_given codec m Advance = step_sum codec m m.running
-checksum_given codec m command = 0
+checksum_given codec m command = first_of (checksums_given codec m command)
 
 -- ---- what is shown
 
@@ -112,14 +124,16 @@ abbrev pub first_check : Shown → List (ℕ × ℕ) → Verdict
 first_check shown [] = Sound
 first_check shown (x ∷ more) = check_of shown x
 
--- what is supplied to a command: the checksum of the one unit that it makes, or what is shown where it looks
+-- what is supplied to a command: the checksums of the units that it makes, or what is shown where it looks
 abbrev pub supplied : Codec → Shown → Memory → Command → Given
-supplied codec shown m (Append client request body) = ForAppend (checksum_given codec m (Append client request body) ∷ [])
-supplied codec shown m (Reply op body) = ForReply (checksum_given codec m (Reply op body) ∷ [])
-supplied codec shown m (WriteBlock kind body) = ForWriteBlock (checksum_given codec m (WriteBlock kind body) ∷ [])
+supplied codec shown m (Append client request body) = ForAppend (checksums_given codec m (Append client request body))
+supplied codec shown m (Stage client request body) = ForStage
+supplied codec shown m Flush = ForFlush (checksums_given codec m Flush)
+supplied codec shown m (Reply op body) = ForReply (checksums_given codec m (Reply op body))
+supplied codec shown m (WriteBlock kind body) = ForWriteBlock (checksums_given codec m (WriteBlock kind body))
 supplied codec shown m (Release address) = ForRelease
 supplied codec shown m (Begin root) = ForBegin
-supplied codec shown m Advance = ForAdvance (checksum_given codec m Advance ∷ [])
+supplied codec shown m Advance = ForAdvance (checksums_given codec m Advance)
 supplied codec shown m (ReadPrepare op) = ForReadPrepare (message_given shown m (ReadPrepare op))
 supplied codec shown m (ReadReply client) = ForReadReply (message_given shown m (ReadReply client))
 supplied codec shown m (ReadBlock address) = ForReadBlock (block_read shown m (ReadBlock address))
@@ -149,16 +163,22 @@ abbrev pub step_puts : Memory → Option Course → (sum : ℕ) → Units
 step_puts m None sum = nothing
 step_puts m (Some r) sum = trailer_puts m r sum r.left
 
+-- prepares, each in its slot
+abbrev pub group_puts : (slots : ℕ) → List Message → Units
+group_puts n [] = nothing
+group_puts n (p ∷ ps) = overlay (group_puts n ps) (put_one (PreparePlace (p.header.op % n)) (PrepareUnit p))
+
 -- the units that a command writes, headers aside: no command reads them
-abbrev pub puts_of : Memory → (sum : ℕ) → Command → Units
-puts_of m sum (Append client request body) = unless (first_refusal (append_refusals m client request body)) (put_one (PreparePlace ((m.head + 1) % m.layout.slots)) (PrepareUnit (prepare_of m sum client request body)))
-puts_of m sum (Reply op body) = unless (first_refusal (reply_refusals m op body)) (put_one (ReplyPlace (place_of_reply m)) (ReplyUnit (reply_of m sum body)))
-puts_of m sum (WriteBlock kind body) = unless (first_refusal (block_refusals m kind body)) (put_one (BlockPlace (next_address m)) (BlockUnit (block_of m.content.boot sum kind body)))
-puts_of m sum Advance = step_puts m m.running sum
-puts_of m sum command = nothing
+abbrev pub puts_of : Memory → (sums : List ℕ) → Command → Units
+puts_of m sums (Append client request body) = unless (first_refusal (append_refusals m client request body)) (put_one (PreparePlace ((m.head + 1) % m.layout.slots)) (PrepareUnit (prepare_of m (first_of sums) client request body)))
+puts_of m sums Flush = unless (first_refusal (flush_refusals m)) (group_puts m.layout.slots (group_of m sums))
+puts_of m sums (Reply op body) = unless (first_refusal (reply_refusals m op body)) (put_one (ReplyPlace (place_of_reply m)) (ReplyUnit (reply_of m (first_of sums) body)))
+puts_of m sums (WriteBlock kind body) = unless (first_refusal (block_refusals m kind body)) (put_one (BlockPlace (next_address m)) (BlockUnit (block_of m.content.boot (first_of sums) kind body)))
+puts_of m sums Advance = step_puts m m.running (first_of sums)
+puts_of m sums command = nothing
 
 abbrev pub shown_after : Codec → Shown → Memory → Command → Shown
-shown_after codec shown m command = record { units = overlay (puts_of m (checksum_given codec m command) command) shown.units; damage = shown.damage }
+shown_after codec shown m command = record { units = overlay (puts_of m (checksums_given codec m command) command) shown.units; damage = shown.damage }
 
 -- ---- an open
 

@@ -15,6 +15,12 @@ pub record Running : Type 0 where
   pub written : List (ℕ × Block)
   pub left : List ℕ
 
+-- a request that is staged: it is in memory alone
+pub record Request : Type 0 where
+  pub client : ℕ
+  pub request : ℕ  -- its number among its client's
+  pub body : List ℕ
+
 -- how far the scrubber came: the last address, and how many blocks it checked and found failing
 pub record Tour : Type 0 where
   pub last : ℕ
@@ -26,6 +32,7 @@ pub record Work : Type 0 where
   pub live : ℕ → Option ℕ  -- the checksum of each live block, by address
   pub running : Option Running
   pub waiting : List ℕ  -- the checksums of the prepares that wait for their replies, in order of op
+  pub staged : List Request  -- the requests that the next flush appends as one group, in order
   pub tour : Tour
   pub findings : List Finding
 
@@ -96,13 +103,14 @@ waiting_checksum sh image v op = if nat_lt v.checkpoint.content.op op then check
 abbrev pub first_tour : Tour
 first_tour = record { last = 0; checked = 0; failing = 0 }
 
--- the state after an open that found this view in this image
+-- the state after an open that found this view in this image: nothing is staged
 abbrev pub opened : Shape → Units → View → Work
 opened sh image v = record {
   view = v;
   live = v.checkpoint.parts.references;
   running = None;
   waiting = map (waiting_checksum sh image v) (range_with_len (v.replies + 1) (head v - v.replies));
+  staged = [];
   tour = first_tour;
   findings = [];
 }

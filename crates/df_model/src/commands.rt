@@ -1,7 +1,7 @@
 // The calls of a replica as plain data: what is asked, and what is answered.
 use crate::{
-    AppendError, BeginError, BlockError, LookupError, NotLive, PrepareError, Progress, ReadError,
-    Receipt, ReplyError, Scrubbed, StepError,
+    AppendError, BeginError, BlockError, FlushError, LookupError, NotLive, PrepareError, Progress,
+    ReadError, Receipt, ReplyError, Scrubbed, StepError,
 };
 use df_base::Check;
 use df_format::Reference;
@@ -15,6 +15,14 @@ pub enum Command<'a> {
         request: u64,
         body: &'a [u8],
     },
+    /// Stages a client's next request, to be appended with the next flush.
+    Stage {
+        client: u128,
+        request: u64,
+        body: &'a [u8],
+    },
+    /// Appends all that is staged as one group of prepares.
+    Flush,
     /// Stores the reply to this op.
     Reply {
         op: u64,
@@ -57,6 +65,10 @@ pub enum Command<'a> {
 #[derive(Clone, Copy, Debug, PartialEq, Eq)]
 pub enum Answer {
     Append(Result<Receipt, AppendError>),
+    /// The op that the request is to get.
+    Stage(Result<u64, AppendError>),
+    /// How many prepares were appended.
+    Flush(Result<u64, FlushError>),
     /// The checksum of the reply's header.
     Reply(Result<Check, ReplyError>),
     WriteBlock(Result<Reference, BlockError>),

@@ -65,6 +65,18 @@ pub enum AppendError {
     OpsSpent,
     /// The disk failed; the prepare may be kept or not.
     DiskFault,
+    /// So many requests are staged: they are to be flushed first. It comes after all others but for the disk's, and never of a
+    /// request that is staged itself.
+    Staged { count: u64 },
+}
+
+/// Why what is staged isn't appended; the first of these that applies.
+#[derive(Clone, Copy, Debug, PartialEq, Eq)]
+pub enum FlushError {
+    /// Nothing is staged.
+    NothingStaged,
+    /// The disk failed; all that was staged may be kept, or nothing of it.
+    DiskFault,
 }
 
 /// Why a reply isn't stored; the first of these that applies.

@@ -1,10 +1,10 @@
 // Which error of each call blames the device.
 ghost use Rattle.std.specs.Prelude.{◌≡◌};
-ghost use Rattle.df_model.specs.Faults.{is_format_fault, is_open_fault, is_mend_fault, is_append_fault, is_reply_fault, is_block_fault, is_step_fault, is_prepare_fault, is_lookup_fault, is_read_fault};
+ghost use Rattle.df_model.specs.Faults.{is_format_fault, is_open_fault, is_mend_fault, is_append_fault, is_flush_fault, is_reply_fault, is_block_fault, is_step_fault, is_prepare_fault, is_lookup_fault, is_read_fault};
 
 use crate::{
-    AppendError, BlockError, FormatError, LookupError, MendError, OpenError, PrepareError,
-    ReadError, ReplyError, StepError,
+    AppendError, BlockError, FlushError, FormatError, LookupError, MendError, OpenError,
+    PrepareError, ReadError, ReplyError, StepError,
 };
 use df_base::BlamesDisk;
 
@@ -45,6 +45,16 @@ impl BlamesDisk for AppendError {
         ensures { result ≡ is_append_fault self.now }
     {
         *self == AppendError::DiskFault
+    }
+}
+
+impl BlamesDisk for FlushError {
+    ghost is_fault = { is_flush_fault };
+
+    fn is_fault(&self) -> bool
+        ensures { result ≡ is_flush_fault self.now }
+    {
+        *self == FlushError::DiskFault
     }
 }
 

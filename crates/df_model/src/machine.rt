@@ -1,6 +1,6 @@
 // What the machine keeps, and what a call that is not refused may do.
 
-ghost use Rattle.df_model.specs.Laws.{AppendExactLaw, AppendMayLaw, BlockAsideLaw, BlockMayLaw, CommandLaw, FinishExactLaw, FinishMayLaw, FoundLaw, NextLaw, OpenedLaw, ReplyExactLaw, ReplyMayLaw, SenseLaw};
+ghost use Rattle.df_model.specs.Laws.{AppendExactLaw, AppendMayLaw, BlockAsideLaw, BlockMayLaw, CommandLaw, FinishExactLaw, FinishMayLaw, FlushMayLaw, FoundLaw, NextLaw, OpenedLaw, ReplyExactLaw, ReplyMayLaw, SenseLaw, StageExactLaw};
 ghost use Rattle.df_model.specs.Answering.{BeginExactLaw, MemoryLaw, OrderLaw, ReplyParentLaw};
 ghost use Rattle.df_model.specs.Changing.{BlocksLaw, ChangeLaw, ListsLaw};
 ghost use Rattle.df_model.specs.Runs.{FirstKeptLaw, OpenedKeptLaw, RunLaw};
@@ -24,10 +24,16 @@ pub fn commands_go_on()
     ensures { NextLaw }
 {}
 
-/// An append that is not refused may be made, and no other one is refused.
+/// An append that is not refused may be made, and while nothing is staged no other one is refused.
 pub fn append_may_be_made()
     ensures may { AppendMayLaw }
     ensures exact { AppendExactLaw }
+{}
+
+/// All that is staged may be appended as one group, and a request that could go on the group is staged.
+pub fn group_may_be_flushed()
+    ensures may { FlushMayLaw }
+    ensures exact { StageExactLaw }
 {}
 
 /// A reply that is not refused may be stored, and no other one is refused. Its parent is its prepare.

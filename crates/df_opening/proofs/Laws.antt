@@ -16,4 +16,4 @@ pub use Rattle.df_opening.proofs.NotRefused.{safe_is_not_refused}
 pub use Rattle.df_opening.proofs.Followed.{begun_may_open, stopped_may_open}
 pub use Rattle.df_opening.proofs.FirstSuper.{first_is_super}
 pub use Rattle.df_damage.proofs.Laws.{added_is_told, answer_is_of_hurt, begun_goes_on, first_goes_on, found_is_usable, found_was_since, had_is_written, headers_may_be_hurt, honest_stays, lived_layout, probe_is_of_hurt, raised_goes_on, same_goes_on, stopped_goes_on, stops_alike, two_copies_are_enough}
-pub use Rattle.df_damage.proofs.Laws.{asked_noted, boot_made, boot_may_record, course_on, filter_more, level_beyond, numbered_by, recorded_content, recorded_is_super, one_super, same_file, second_as}
+pub use Rattle.df_damage.proofs.Laws.{asked_noted, boot_made, boot_may_record, course_on, filter_more, level_beyond, numbered_by, recorded_content, recorded_is_super, one_super, same_file, second_as, staging_none, staging_on}

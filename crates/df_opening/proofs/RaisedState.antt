@@ -28,6 +28,7 @@ raised_sense s is usable = record {
   booted = λ live. record { boot = refl; some = omega arith };
   ends = is.ends;
   awaits = is.awaits;
+  staging = is.staging;
   captured = is.captured;
   course = course_raised s s.running is.course;
 }

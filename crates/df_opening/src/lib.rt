@@ -12,14 +12,14 @@ mod surveying;
 
 pub use completeness::what_is_safe_is_not_refused;
 pub use df_damage::{
-    DataFile, Found, LogRooms, Parts, Rooms, RunningCheckpoint, file_is_read, found_is_answer,
-    one_answer, probe, read_superblock, state_is_opened, stored_is_kept, super_is_written,
-    survey_superblock,
+    DataFile, Found, LogRooms, Parts, Rooms, RunningCheckpoint, Staging, file_is_read,
+    found_is_answer, one_answer, probe, read_superblock, state_is_opened, stored_is_kept,
+    super_is_written, survey_superblock,
 };
 pub use df_model::{FormatError, MendError, OpenError};
 pub use df_quorum::Chosen;
 pub use following::what_is_left_may_be_opened;
-pub use making::format;
+pub use making::{format, test_blank, write_headers, write_synced};
 pub use mended::mend_file;
 pub use mending::write_mends;
 pub use opened::{open_file, refusal_of};

@@ -15,8 +15,8 @@ use df_headers::HeaderTable;
 use df_layout::{Layout, SECTOR_HEADERS};
 use df_superblock::{first_written, read_all, write_copy};
 
-// Whether the sectors of the copies hold zeros alone.
-fn test_blank<D: Disk>(disk: &mut D, room: &mut ProbeRoom) -> Result<(), FormatError>
+/// Tests whether the sectors of the copies hold zeros alone, and refuses with the first that doesn't. Nothing is written.
+pub fn test_blank<D: Disk>(disk: &mut D, room: &mut ProbeRoom) -> Result<(), FormatError>
     ensures blank { TellsBlank (D.told disk.old) result }
     ensures cluster { RefusesCluster 1 result }
     ensures same { D.told disk.new ≡ D.told disk.old }
@@ -42,8 +42,8 @@ fn write_copies<D: Disk>(disk: &mut D, room: &mut ProbeRoom, content: &Super) ->
     write_copy(disk, room, content, 3)
 }
 
-// Writes each sector of the header ring from the table, in order and without a sync.
-fn write_headers<D: Disk>(
+/// Writes each sector of the header ring from the table, in order and without a sync: until the next one a stop may leave anything in them.
+pub fn write_headers<D: Disk>(
     disk: &mut D,
     layout: &Layout,
     headers: &HeaderTable,
@@ -66,8 +66,9 @@ fn write_headers<D: Disk>(
     Ok(())
 }
 
-// Syncs, and then writes the four copies.
-fn write_synced<D: Disk>(
+/// Syncs, so that all that was written before is durable, and then writes the copies 0, 1, 2 and 3, each durable before the next one is
+/// written. After an error some of the copies, from copy 0 on, may have been written.
+pub fn write_synced<D: Disk>(
     disk: &mut D,
     superblock: &mut ProbeRoom,
     content: &Super,

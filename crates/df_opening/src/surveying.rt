@@ -32,7 +32,7 @@ fn root_fits(root: &ArrayVec<u8, ROOT>)
     let _bytes = root.as_slice();
 }
 
-// The parts of a file of version 2 whose state was found, with the tour at its start.
+// The parts of a file of version 2 whose state was found, with nothing staged and the tour at its start.
 fn parts_of(surveyed: Surveyed) -> SurveyedFile
     requires found { IsWellFound surveyed }
     requires version { surveyed.scanned.file.version ≡ 2 }
@@ -52,10 +52,12 @@ fn parts_of(surveyed: Surveyed) -> SurveyedFile
         grid,
         trailer,
         scrub,
+        mut staging,
         root,
         sessions,
     } = scanned;
     let scrub = scrub.cleared();
+    staging.clear();
     let content = copies.found.content;
     let chosen = copies.found.chosen;
     let _fields = content.fields();
@@ -76,6 +78,7 @@ fn parts_of(surveyed: Surveyed) -> SurveyedFile
         running: None,
         trailer,
         scrub,
+        staging,
     };
     SurveyedFile { parts, chosen }
 }

@@ -4,18 +4,20 @@ use Rattle.std.proofs.lemmas.Bool.Decides.{nat_tests}
 use Rattle.df_theory.specs.Units.{Message, Parts}
 use Rattle.df_theory.specs.Shape.{Shape}
 use Rattle.df_theory.specs.View.{View, head}
-use Rattle.df_model.specs.Work.{Running, Work}
+use Rattle.df_model.specs.Work.{Request, Running, Work}
 use Rattle.df_model.specs.Memory.{Course, course_of, memory_of}
-use Rattle.df_model.specs.Refusals.{append_refusals, begin_refusals, block_refusals, first_refusal, is_running, release_refusals, reply_refusals, steps_left}
-use Rattle.df_model.specs.Making.{needed_of, next_address, place_of_reply, prepare_of, reply_of}
-use Rattle.df_model.specs.After.{after_check, after_running, after_step_of, begun, outcome, to_check, with_live, with_prepare, with_reply, with_running}
-use Rattle.df_model.specs.Commands.{Advance, Answer, Append, Begin, Command, ReadBlock, ReadPrepare, ReadReply, Recent, Release, Reply, Scrub, ToAdvance, ToAppend, ToBegin, WriteBlock, supplied_sum, supplied_verdict}
+use Rattle.df_model.specs.Refusals.{append_refusals, begin_refusals, block_refusals, first_refusal, flush_refusals, is_running, release_refusals, reply_refusals, stage_refusals, steps_left}
+use Rattle.df_model.specs.Making.{group_of, needed_of, next_address, place_of_reply, prepare_of, reply_of}
+use Rattle.df_model.specs.After.{after_check, after_running, after_step_of, begun, outcome, to_check, with_group, with_live, with_prepare, with_reply, with_running, with_staged}
+use Rattle.df_model.specs.Commands.{Advance, Answer, Append, Begin, Command, Flush, ReadBlock, ReadPrepare, ReadReply, Recent, Release, Reply, Scrub, Stage, ToAdvance, ToAppend, ToBegin, ToFlush, ToStage, WriteBlock, supplied_sum, supplied_sums, supplied_verdict}
 use Rattle.df_model.specs.Sense.{IsWork}
 use Rattle.df_model.specs.Supply.{Codec, supplied}
 use Rattle.df_model.specs.declared.answers.Verdict.{Verdict}
 use Rattle.df_model.specs.declared.answers.Verdict.TheVariants.{Sound, Failing}
 use Rattle.df_model.specs.declared.errors.AppendError.{AppendError}
 use Rattle.df_model.specs.declared.errors.BeginError.{BeginError}
+use Rattle.df_model.specs.declared.errors.FlushError.{FlushError}
+use Rattle.df_model.proofs.Laws.{length_in}
 use Rattle.df_pace.specs.declared.beat.Piece.{Piece}
 use Rattle.df_pace.specs.declared.beat.Piece.TheVariants as piece
 use Rattle.df_pace.specs.declared.pace.Due.{Due}
@@ -170,6 +172,14 @@ append_counts : (o : Option AppendError) (w u : Work) (answer : ℕ × ℕ) (n s
 append_counts (Some e) w u answer n since is longer = is
 append_counts None w u answer n since is longer = omega (arith, is, longer)
 
+flush_counts : (o : Option FlushError) (w u : Work) (count n since : ℕ) → n + since ≡ head w.view → head u.view ≡ head w.view + count → counted n (ToFlush (outcome o w u count).1) + since ≡ head (outcome o w u count).0.view
+flush_counts (Some e) w u count n since is longer = is
+flush_counts None w u count n since is longer = omega (arith, is, longer)
+
+stage_counts : (o : Option AppendError) (w : Work) (r : Request) (op n since : ℕ) → n + since ≡ head w.view → counted n (ToStage (outcome o w (with_staged w r) op).1) + since ≡ head (outcome o w (with_staged w r) op).0.view
+stage_counts (Some e) w r op n since is = is
+stage_counts None w r op n since is = is
+
 begin_counts : (o : Option BeginError) (w u : Work) (blocks n since : ℕ) → n + since ≡ head w.view
     → let answer = ToBegin (outcome o w u blocks).1 in
     let v = (outcome o w u blocks).0.view in
@@ -195,6 +205,9 @@ module _ (sh : Shape) (codec : Codec) (x : Stand) (sense : IsWork sh codec.spell
     abbrev sum_for : Command → ℕ
     sum_for c = supplied_sum (supplied codec x.shown (memory_of sh codec.spell x.work) c)
 
+    abbrev sums_for : Command → List ℕ
+    sums_for c = supplied_sums (supplied codec x.shown (memory_of sh codec.spell x.work) c)
+
     abbrev verdict_now : Verdict
     verdict_now = supplied_verdict (supplied codec x.shown (memory_of sh codec.spell x.work) Scrub)
 
@@ -211,6 +224,14 @@ module _ (sh : Shape) (codec : Codec) (x : Stand) (sense : IsWork sh codec.spell
         let p : Message = prepare_of m sum client request body in
         let longer : head (with_prepare x.work p).view ≡ head x.work.view + 1 = omega (arith, length-append x.work.view.tail (p ∷ [])) in
         append_counts (first_refusal (append_refusals m client request body)) x.work (with_prepare x.work p) (p.header.op, sum) x.appended since is longer
+    line (Stage client request body) =
+        let m = memory_of sh codec.spell x.work in
+        stage_counts (first_refusal (stage_refusals m client request body)) x.work (record { client = client; request = request; body = body }) (m.head + length x.work.staged + 1) x.appended since is
+    line Flush =
+        let m = memory_of sh codec.spell x.work in
+        let ps = group_of m (sums_for Flush) in
+        let longer : head (with_group x.work ps).view ≡ head x.work.view + length x.work.staged = omega (arith, length-append x.work.view.tail ps, length_in m (m.head + 1) (m.head + length m.staged) (m.head + 1) m.head_checksum m.staged (sums_for Flush)) in
+        flush_counts (first_refusal (flush_refusals m)) x.work (with_group x.work ps) (length x.work.staged) x.appended since is longer
     line (Reply op body) =
         let m = memory_of sh codec.spell x.work in
         let sum = sum_for (Reply op body) in

@@ -2,7 +2,7 @@
 use Rattle.std.proofs.Common.{refl}
 use Rattle.std.specs.Fmt.{digits}
 use Rattle.hex.specs.Hex.{encode_with}
-use Rattle.df_pace.specs.Worked.{FullRing, LongSession, OwnCheckpoint, RefusedBegin}
+use Rattle.df_pace.specs.Worked.{FullRing, GroupsCount, LongSession, OwnCheckpoint, RefusedBegin}
 
 pub long_session : LongSession
 unfolding digits encode_with
@@ -19,3 +19,7 @@ refused_begin named some = (refl, refl)
 pub own_checkpoint : OwnCheckpoint
 unfolding digits encode_with
 own_checkpoint named some = (refl, refl)
+
+pub groups_count : GroupsCount
+unfolding digits encode_with
+groups_count named some = (refl, refl, refl)

@@ -5,32 +5,35 @@ use Rattle.std.proofs.lemmas.List.{take-append-le}
 use Rattle.std.proofs.lemmas.Bool.Decides.{nat_tests}
 use Rattle.df_layout.specs.declared.damage.Class.{Class}
 use Rattle.df_layout.specs.declared.places.Zone.TheVariants.{ClientReplies}
-use Rattle.df_theory.specs.Units.{Message, PreparePlace, PrepareUnit, ReplyPlace, ReplyUnit, Session, Units, overlay}
+use Rattle.df_theory.specs.Units.{AnyUnit, Message, PreparePlace, PrepareUnit, ReplyPlace, ReplyUnit, Session, Units, or_else, overlay}
 use Rattle.df_theory.specs.Sessions.{session_of, sessions_after}
 use Rattle.df_theory.specs.Shape.{Shape}
 use Rattle.df_theory.specs.View.{View, head, sessions}
 use Rattle.df_theory.specs.Next.{appended, kept, replied}
 use Rattle.df_theory.specs.UnitLog.{put_one}
-use Rattle.df_model.specs.Work.{Running, Work}
+use Rattle.df_model.specs.Work.{Request, Running, Work}
 use Rattle.df_model.specs.Memory.{Memory, joined, memory_of, message_room, reply_sum, stored_sum}
-use Rattle.df_model.specs.Refusals.{append_refusals, first_refusal, is_last_request, is_new, last_op, next_request, reply_refusals, session_of_client}
-use Rattle.df_model.specs.Making.{client_of, place_of_op, place_of_reply, prepare_of, reply_of, request_of}
-use Rattle.df_model.specs.After.{outcome, place_of_client, shown_or, with_prepare, with_reply}
-use Rattle.df_model.specs.Commands.{Advance, Append, Begin, Command, ReadBlock, ReadPrepare, ReadReply, Recent, Release, Reply, Scrub, ToAppend, ToReadReply, ToReply, WriteBlock}
-use Rattle.df_model.specs.Supply.{Codec, Shown, reply_at, unless}
+use Rattle.df_model.specs.Refusals.{append_refusals, first_refusal, flush_refusals, is_last_request, is_new, last_op, next_request, reply_refusals, session_of_client, stage_refusals}
+use Rattle.df_model.specs.Making.{client_of, group_of, place_of_op, place_of_reply, prepare_of, reply_of, request_of}
+use Rattle.df_model.specs.After.{outcome, place_of_client, shown_or, with_group, with_prepare, with_reply, with_staged}
+use Rattle.df_model.specs.Commands.{Advance, Append, Begin, Command, Flush, ReadBlock, ReadPrepare, ReadReply, Recent, Release, Reply, Scrub, Stage, ToAppend, ToFlush, ToReadReply, ToReply, ToStage, WriteBlock}
+use Rattle.df_model.specs.Supply.{Codec, Shown, checksums_given, class_or, group_puts, reply_at, reply_given, unless}
 use Rattle.df_model.specs.declared.errors.AppendError.{AppendError}
 use Rattle.df_model.specs.declared.errors.AppendError.TheVariants as append
+use Rattle.df_model.specs.declared.errors.FlushError.{FlushError}
+use Rattle.df_model.specs.declared.errors.FlushError.TheVariants as flush
 use Rattle.df_model.specs.declared.errors.ReplyError.{ReplyError}
 use Rattle.df_model.specs.declared.errors.ReplyError.TheVariants as reply
 use Rattle.df_model.specs.declared.reading.LookupError.{LookupError}
 use Rattle.df_model.specs.declared.reading.LookupError.TheVariants as lookup
+use Rattle.df_model.proofs.Laws.{length_in}
 use Rattle.df_script_model.specs.Script.{answer_text}
-use Rattle.df_script_model.specs.Texts.{append_refusal, line_of, lookup_refusal, message_text, numbered, reply_refusal, text_or}
+use Rattle.df_script_model.specs.Texts.{append_refusal, flush_refusal, line_of, lookup_refusal, message_text, numbered, reply_refusal, text_or}
 use Rattle.df_pace.specs.declared.pace.Pace.{Pace}
 use Rattle.df_pace.specs.Loop.{Stand, answer_at, answered, by_script, ended, passed}
 use Rattle.df_pace.specs.Laws.{EachOf, IsNotFull, IsOfLog, PacingLaw, bare_texts, is_full, is_ring_full, unnumbered}
 use Rattle.df_pace.proofs.Told.{Goes, IsOnItsWay, Told, behind_stays, plainly, read_of, told, told_at}
-use Rattle.df_pace.proofs.Replies.{get_mapped, kept_read, place_known, put_session, read_kept, read_new, sessions_more}
+use Rattle.df_pace.proofs.Replies.{asked_all, get_mapped, kept_read, place_known, put_session, puts_aside, read_kept, read_new, sessions_all, sessions_group, sessions_more}
 
 -- ---- refusals
 
@@ -38,7 +41,7 @@ abbrev told_or : {E : Type 0} → Option E → Told → Told → Told
 told_or (Some e) t u = t
 told_or None t u = u
 
--- the tests of an append before that of the ring, and that behind it
+-- the tests of a request before that of the ring, and that behind it
 abbrev tests_before : Shape → Told → (client request : ℕ) → List ℕ → List (Bool × AppendError)
 tests_before sh t client request body =
     let session = session_of_client client t.sessions in
@@ -54,8 +57,25 @@ tests_before sh t client request body =
 abbrev tests_behind : Told → (request : ℕ) → List (Bool × AppendError)
 tests_behind t request = ((t.head == 2 ^ 62) || nat_lt (2 ^ 62) request, append.OpsSpent) ∷ []
 
+abbrev is_staged : Told → Bool
+is_staged t = nat_lt 0 (length t.staged)
+
+-- and what is staged comes before what is appended
 abbrev told_append_refusal : Shape → Told → (client request : ℕ) → List ℕ → Option AppendError
-told_append_refusal sh t client request body = first_refusal (tests_before sh t client request body ++ tests_behind t request)
+told_append_refusal sh t client request body = first_refusal (tests_before sh t client request body ++ (tests_behind t request ++ (is_staged t, append.Staged (length t.staged)) ∷ []))
+
+-- with these sessions, as if what is staged were appended
+abbrev counted_with : Told → List Session → Told
+counted_with t ss = record t { head = t.head + length t.staged; sessions = ss }
+
+abbrev told_stage_refusal_with : Shape → Told → (client request : ℕ) → List ℕ → List Session → Option AppendError
+told_stage_refusal_with sh t client request body ss = first_refusal (tests_before sh (counted_with t ss) client request body ++ tests_behind (counted_with t ss) request)
+
+abbrev told_stage_refusal : Shape → Told → (client request : ℕ) → List ℕ → Option AppendError
+told_stage_refusal sh t client request body = told_stage_refusal_with sh t client request body (asked_all (t.head + 1) t.staged t.sessions)
+
+abbrev told_flush_refusal : Told → Option FlushError
+told_flush_refusal t = first_refusal ((not (is_staged t), flush.NothingStaged) ∷ [])
 
 abbrev says_full : Option AppendError → Bool
 says_full None = false
@@ -72,6 +92,10 @@ full_is : (o : Option AppendError) (w u : Work) (answer : ℕ × ℕ) → is_ful
 full_is (Some e) w u answer = refl
 full_is None w u answer = refl
 
+stage_full_is : (o : Option AppendError) (w u : Work) (op : ℕ) → is_full (ToStage (outcome o w u op).1) ≡ says_full o
+stage_full_is (Some e) w u op = refl
+stage_full_is None w u op = refl
+
 abbrev told_reply_refusal : Shape → Told → (op : ℕ) → List ℕ → Option ReplyError
 told_reply_refusal sh t op body = first_refusal ((t.replies == t.head, reply.NothingPending t.head) ∷ (not (op == t.replies + 1), reply.ReplyOrder (t.replies + 1)) ∷ (nat_lt (message_room sh.layout) (length body), reply.BodyTooLong (message_room sh.layout)) ∷ [])
 
@@ -83,7 +107,15 @@ told_lookup_refusal t client = let session = session_of_client client t.sessions
 abbrev told_append : Told → (client request : ℕ) → Told
 told_append t client request =
     let ss = put_session (record { client = client; request = request; op = t.head + 1 }) t.sessions in
-    record { head = t.head + 1; replies = t.replies; sessions = ss; reads = λ k. kept_read (slice_get ss k) t.head (t.reads k) }
+    record { head = t.head + 1; replies = t.replies; sessions = ss; staged = t.staged; reads = λ k. kept_read (slice_get ss k) t.head (t.reads k) }
+
+abbrev told_stage : Told → Request → Told
+told_stage t r = record t { staged = t.staged ++ r ∷ [] }
+
+abbrev told_flush : Told → Told
+told_flush t =
+    let ss = asked_all (t.head + 1) t.staged t.sessions in
+    record { head = t.head + length t.staged; replies = t.replies; sessions = ss; staged = []; reads = λ k. kept_read (slice_get ss k) t.head (t.reads k) }
 
 abbrev told_next_reply : Told → List ℕ → Message
 told_next_reply t body =
@@ -94,10 +126,12 @@ told_next_reply t body =
     }
 
 abbrev told_reply : Told → List ℕ → Told
-told_reply t body = record { head = t.head; replies = t.replies + 1; sessions = t.sessions; reads = λ k. if k == place_of_op (t.replies + 1) t.sessions then Ok (told_next_reply t body) else t.reads k }
+told_reply t body = record { head = t.head; replies = t.replies + 1; sessions = t.sessions; staged = t.staged; reads = λ k. if k == place_of_op (t.replies + 1) t.sessions then Ok (told_next_reply t body) else t.reads k }
 
 abbrev told_after : Shape → Told → Command → Told
 told_after sh t (Append client request body) = told_or (told_append_refusal sh t client request body) t (told_append t client request)
+told_after sh t (Stage client request body) = told_or (told_stage_refusal sh t client request body) t (told_stage t (record { client = client; request = request; body = body }))
+told_after sh t Flush = told_or (told_flush_refusal t) t (told_flush t)
 told_after sh t (Reply op body) = told_or (told_reply_refusal sh t op body) t (told_reply t body)
 told_after sh t c = t
 
@@ -106,6 +140,14 @@ told_after sh t c = t
 abbrev append_text : Option AppendError → (op : ℕ) → List ℕ
 append_text (Some e) op = append_refusal e
 append_text None op = line_of (numbered (codes "appended") op)
+
+abbrev stage_text : Option AppendError → (op : ℕ) → List ℕ
+stage_text (Some e) op = append_refusal e
+stage_text None op = line_of (numbered (codes "staged") op)
+
+abbrev flush_text : Option FlushError → (count : ℕ) → List ℕ
+flush_text (Some e) count = flush_refusal e
+flush_text None count = line_of (numbered (codes "flushed") count)
 
 abbrev reply_text : Option ReplyError → (op : ℕ) → List ℕ
 reply_text (Some e) op = reply_refusal e
@@ -116,6 +158,8 @@ lookup_text o place read = text_or lookup_refusal (message_text (codes "reply"))
 
 abbrev told_text : Shape → Told → Command → List ℕ
 told_text sh t (Append client request body) = append_text (told_append_refusal sh t client request body) (t.head + 1)
+told_text sh t (Stage client request body) = stage_text (told_stage_refusal sh t client request body) (t.head + length t.staged + 1)
+told_text sh t Flush = flush_text (told_flush_refusal t) (length t.staged)
 told_text sh t (Reply op body) = reply_text (told_reply_refusal sh t op body) op
 told_text sh t (ReadReply client) = let place = place_of_client client t.sessions in lookup_text (told_lookup_refusal t client) place (t.reads place)
 told_text sh t c = []
@@ -132,6 +176,10 @@ told_outcome : {E A : Type 0} (o : Option E) (shown : Shown) (put : Units) (w u 
 told_outcome (Some e) shown put w u answer = refl
 told_outcome None shown put w u answer = refl
 
+stage_outcome : {E A : Type 0} (o : Option E) (shown : Shown) (w u : Work) (answer : A) → told shown (outcome o w u answer).0 ≡ told_or o (told shown w) (told shown u)
+stage_outcome (Some e) shown w u answer = refl
+stage_outcome None shown w u answer = refl
+
 goes_outcome : {E A : Type 0} (o : Option E) (w u : Work) (answer : A) → Goes w → Goes u → Goes (outcome o w u answer).0
 goes_outcome (Some e) w u answer before later = before
 goes_outcome None w u answer before later = later
@@ -140,17 +188,25 @@ append_printed : (c : Command) (o : Option AppendError) (w u : Work) (op sum : �
 append_printed c (Some e) w u op sum = refl
 append_printed c None w u op sum = refl
 
+stage_printed : (c : Command) (o : Option AppendError) (w u : Work) (op : ℕ) → answer_text c (unnumbered (ToStage (outcome o w u op).1)) ≡ stage_text o op
+stage_printed c (Some e) w u op = refl
+stage_printed c None w u op = refl
+
+flush_printed : (c : Command) (o : Option FlushError) (w u : Work) (count : ℕ) → answer_text c (unnumbered (ToFlush (outcome o w u count).1)) ≡ flush_text o count
+flush_printed c (Some e) w u count = refl
+flush_printed c None w u count = refl
+
 reply_printed : (op : ℕ) (body : List ℕ) (o : Option ReplyError) (w u : Work) (sum : ℕ) → answer_text (Reply op body) (unnumbered (ToReply (outcome o w u sum).1)) ≡ reply_text o op
 reply_printed op body (Some e) w u sum = refl
 reply_printed op body None w u sum = refl
 
 -- the running checkpoint captured nothing of a later prepare or reply
-way_appended : (v : View) (p : Message) (o : Option Running) → IsOnItsWay v o → IsOnItsWay (appended v (p ∷ [])) o
-way_appended v p None way = tt
-way_appended v p (Some r) way = record {
+way_appended : (v : View) (ps : List Message) (o : Option Running) → IsOnItsWay v o → IsOnItsWay (appended v ps) o
+way_appended v ps None way = tt
+way_appended v ps (Some r) way = record {
   from = way.from;
-  to = omega (arith, way.to, length-append v.tail (p ∷ []));
-  sessions = way.sessions ∙ ap (sessions_after v.checkpoint.parts.sessions) (sym (take-append-le (r.op - v.checkpoint.content.op) v.tail (p ∷ []) (omega (arith, way.to))));
+  to = omega (arith, way.to, length-append v.tail ps);
+  sessions = way.sessions ∙ ap (sessions_after v.checkpoint.parts.sessions) (sym (take-append-le (r.op - v.checkpoint.content.op) v.tail ps (omega (arith, way.to))));
 }
 
 way_replied : (v : View) (place : ℕ) (r : Message) (o : Option Running) → IsOnItsWay v o → IsOnItsWay (replied v place r) o
@@ -180,7 +236,7 @@ module _ (sh : Shape) (codec : Codec) (x : Stand) (goes : Goes x.work) where
       let longer : v.checkpoint.content.op + length (v.tail ++ p ∷ []) ≡ head v + 1 = omega (arith, length-append v.tail (p ∷ [])) in
       let reads : (k : ℕ) → plainly (read_of (kept (slice_get (sessions_after v.checkpoint.parts.sessions (v.tail ++ p ∷ [])) k) (head v) (v.stored k)) x.shown k) ≡ kept_read (slice_get (put_session (session_of p.header) (sessions v)) k) (head v) (t.reads k) =
       λ k. read_kept (slice_get (sessions_after v.checkpoint.parts.sessions (v.tail ++ p ∷ [])) k) (head v) (v.stored k) (x.shown.units (ReplyPlace k)) (x.shown.damage (ReplyPlace k)) ∙ ap (λ (ss : List Session). kept_read (slice_get ss k) (head v) (t.reads k)) more in
-      λ i. record { head = longer i; replies = v.replies; sessions = more i; reads = λ k. reads k i }
+      λ i. record { head = longer i; replies = v.replies; sessions = more i; staged = w.staged; reads = λ k. reads k i }
 
   append_tells : (client request : ℕ) (body : List ℕ) → IsNotFull (answer_at sh codec x (Append client request body)) → Tells sh codec x (Append client request body)
   append_tells client request body free =
@@ -189,11 +245,53 @@ module _ (sh : Shape) (codec : Codec) (x : Stand) (goes : Goes x.work) where
       let p = prepare_of m sum client request body in
       let slot = (head v + 1) % sh.layout.slots in
       let same : o ≡ told_append_refusal sh t client request body =
-      without_ring (tests_before sh t client request body) (nat_lt (v.checkpoint.content.op + sh.layout.slots) (head v + 1)) (head v + 1) v.checkpoint.content.op (tests_behind t request) (sym (full_is o w (with_prepare w p) (p.header.op, sum)) ∙ free) in
+      without_ring (tests_before sh t client request body) (nat_lt (v.checkpoint.content.op + sh.layout.slots) (head v + 1)) (head v + 1) v.checkpoint.content.op (tests_behind t request ++ (is_staged t, append.Staged (length t.staged)) ∷ []) (sym (full_is o w (with_prepare w p) (p.header.op, sum)) ∙ free) in
       record {
         told = told_outcome o x.shown (put_one (PreparePlace slot) (PrepareUnit p)) w (with_prepare w p) (p.header.op, sum) ∙ (λ i. told_or (same i) t (append_told slot sum client request body i));
         text = append_printed (Append client request body) o w (with_prepare w p) p.header.op sum ∙ ap (λ (e : Option AppendError). append_text e (head v + 1)) same;
-        goes = goes_outcome o w (with_prepare w p) (p.header.op, sum) goes (way_appended v p w.running goes);
+        goes = goes_outcome o w (with_prepare w p) (p.header.op, sum) goes (way_appended v (p ∷ []) w.running goes);
+      }
+
+  -- ---- a request is staged
+
+  stage_tells : (client request : ℕ) (body : List ℕ) → IsNotFull (answer_at sh codec x (Stage client request body)) → Tells sh codec x (Stage client request body)
+  stage_tells client request body free =
+      let o = first_refusal (stage_refusals m client request body) in
+      let u = with_staged w (record { client = client; request = request; body = body }) in
+      let op = head v + length w.staged + 1 in
+      let ss = sessions_after (sessions v) (group_of m []) in
+      let same : o ≡ told_stage_refusal sh t client request body =
+      without_ring (tests_before sh (counted_with t ss) client request body) (nat_lt (v.checkpoint.content.op + sh.layout.slots) op) op v.checkpoint.content.op (tests_behind (counted_with t ss) request) (sym (stage_full_is o w u op) ∙ free)
+      ∙ ap (told_stage_refusal_with sh t client request body) (sessions_all m (head v + 1) (head v + length w.staged) (head v + 1) m.head_checksum w.staged [] (sessions v)) in
+      record {
+        told = stage_outcome o x.shown w u op ∙ ap (λ (e : Option AppendError). told_or e t (told x.shown u)) same;
+        text = stage_printed (Stage client request body) o w u op ∙ ap (λ (e : Option AppendError). stage_text e op) same;
+        goes = goes_outcome o w u op goes goes;
+      }
+
+  -- ---- a flush
+
+  flush_told : (sums : List ℕ) → let ps = group_of m sums in told (record { units = overlay (group_puts sh.layout.slots ps) x.shown.units; damage = x.shown.damage }) (with_group w ps) ≡ told_flush t
+  flush_told sums =
+      let ps = group_of m sums in
+      let more = sessions_group m sums v.checkpoint.parts.sessions v.tail in
+      let longer : v.checkpoint.content.op + length (v.tail ++ ps) ≡ head v + length w.staged = omega (arith, length-append v.tail ps, length_in m (head v + 1) (head v + length w.staged) (head v + 1) m.head_checksum w.staged sums) in
+      let left : ℕ → Option Message = λ k. kept (slice_get (sessions_after v.checkpoint.parts.sessions (v.tail ++ ps)) k) (head v) (v.stored k) in
+      let reads : (k : ℕ) → plainly (read_of (left k) (record { units = overlay (group_puts sh.layout.slots ps) x.shown.units; damage = x.shown.damage }) k) ≡ kept_read (slice_get (asked_all (head v + 1) w.staged (sessions v)) k) (head v) (t.reads k) =
+      λ k. ap (λ (o : Option AnyUnit). let u = or_else o (x.shown.units (ReplyPlace k)) in plainly (reply_given (stored_sum (left k)) u (class_or u (x.shown.damage (ReplyPlace k))))) (puts_aside sh.layout.slots ps k)
+      ∙ read_kept (slice_get (sessions_after v.checkpoint.parts.sessions (v.tail ++ ps)) k) (head v) (v.stored k) (x.shown.units (ReplyPlace k)) (x.shown.damage (ReplyPlace k))
+      ∙ ap (λ (ss : List Session). kept_read (slice_get ss k) (head v) (t.reads k)) more in
+      λ i. record { head = longer i; replies = v.replies; sessions = more i; staged = []; reads = λ k. reads k i }
+
+  flush_tells : Tells sh codec x Flush
+  flush_tells =
+      let o = first_refusal (flush_refusals m) in
+      let ps = group_of m (checksums_given codec m Flush) in
+      let count = length w.staged in
+      record {
+        told = told_outcome o x.shown (group_puts sh.layout.slots ps) w (with_group w ps) count ∙ ap (told_or o t) (flush_told (checksums_given codec m Flush));
+        text = flush_printed Flush o w (with_group w ps) count;
+        goes = goes_outcome o w (with_group w ps) count goes (way_appended v ps w.running goes);
       }
 
   -- ---- a reply
@@ -204,7 +302,7 @@ module _ (sh : Shape) (codec : Codec) (x : Stand) (goes : Goes x.work) where
       let place = place_of_reply m in
       let reads : (k : ℕ) → plainly (read_of (if k == place then Some (reply_of m sum body) else v.stored k) (record { units = overlay (put_one (ReplyPlace place) (ReplyUnit (reply_of m sum body))) x.shown.units; damage = x.shown.damage }) k) ≡ (if k == place then Ok (told_next_reply t body) else t.reads k) =
       λ k. read_new (k == place) (place == k) (same_test place k) (reply_of m sum body) (v.stored k) (x.shown.units (ReplyPlace k)) (x.shown.damage (ReplyPlace k)) in
-      λ i. record { head = head v; replies = v.replies + 1; sessions = sessions v; reads = λ k. reads k i }
+      λ i. record { head = head v; replies = v.replies + 1; sessions = sessions v; staged = w.staged; reads = λ k. reads k i }
     where
       same_test : (a b : ℕ) → (a == b) ≡ (b == a)
       same_test a b = grind (arith, nat_tests)
@@ -251,6 +349,8 @@ module _ (sh : Shape) (codec : Codec) (x : Stand) (goes : Goes x.work) where
 
   line_tells : (c : Command) → IsOfLog c → IsNotFull (answer_at sh codec x c) → Tells sh codec x c
   line_tells (Append client request body) of free = append_tells client request body free
+  line_tells (Stage client request body) of free = stage_tells client request body free
+  line_tells Flush of free = flush_tells
   line_tells (Reply op body) of free = reply_tells op body
   line_tells (ReadReply client) of free = lookup_tells client
   line_tells (WriteBlock kind body) of free = absurd of

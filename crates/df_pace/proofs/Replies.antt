@@ -1,16 +1,18 @@
 -- What is read at the places of the replies, and the table of sessions, after a prepare or a reply more.
-use Rattle.std.proofs.Common.{◌≡◌, ℕ, zero, suc, ◌+◌, ◌<◌, ◌==◌, nat_lt, Bool, true, false, if◌then◌else◌, List, [], ◌∷◌, ◌++◌, map, length, Option, Some, None, Result, Ok, Err, refl, ◌∙◌, ap, arith, eq-eqb}
+use Rattle.std.proofs.Common.{◌≡◌, ℕ, zero, suc, ◌+◌, ◌<◌, ◌==◌, nat_lt, Bool, true, false, if◌then◌else◌, List, [], ◌∷◌, ◌++◌, drop, map, length, Option, Some, None, Result, Ok, Err, refl, ◌∙◌, ap, arith, eq-eqb}
 use Rattle.std.specs.List.{range_with_len, slice_get}
 use Rattle.df_layout.specs.declared.damage.Class.{Class}
 use Rattle.df_layout.specs.declared.damage.Class.TheVariants.{Stale}
-use Rattle.df_theory.specs.Units.{AnyUnit, BlockUnit, CopyUnit, Header, HeaderUnit, Message, PrepareUnit, ReplyUnit, Session, or_else}
+use Rattle.df_theory.specs.Units.{AnyUnit, BlockUnit, CopyUnit, Header, HeaderUnit, Message, PrepareUnit, ReplyPlace, ReplyUnit, Session, or_else}
 use Rattle.df_theory.specs.Sessions.{noted, session_of, sessions_after}
 use Rattle.df_theory.specs.Next.{kept}
 use Rattle.df_theory.proofs.Laws.{sessions-append}
-use Rattle.df_model.specs.Memory.{stored_sum}
+use Rattle.df_model.specs.Work.{Request}
+use Rattle.df_model.specs.Memory.{Memory, stored_sum}
+use Rattle.df_model.specs.Making.{first_of, group_of, prepare_in, prepares_in}
 use Rattle.df_model.specs.Refusals.{is_new, session_of_client}
 use Rattle.df_model.specs.After.{place_of_client}
-use Rattle.df_model.specs.Supply.{class_or, given_if, is_sum, reply_given}
+use Rattle.df_model.specs.Supply.{class_or, given_if, group_puts, is_sum, reply_given}
 use Rattle.df_pace.proofs.Told.{plain, plainly}
 
 -- ---- the table of sessions, by sessions
@@ -26,7 +28,26 @@ noted_is h (s ∷ ss) = ap (λ (rest : List Session). if s.client == h.client th
 pub sessions_more : (ss : List Session) (ps : List Message) (p : Message) → sessions_after ss (ps ++ p ∷ []) ≡ put_session (session_of p.header) (sessions_after ss ps)
 sessions_more ss ps p = sessions-append ss ps (p ∷ []) ∙ noted_is p.header (sessions_after ss ps)
 
+-- after requests, made prepares of the ops from this one on
+abbrev pub asked_all : (op : ℕ) → List Request → List Session → List Session
+asked_all op [] ss = ss
+asked_all op (r ∷ rs) ss = asked_all (op + 1) rs (put_session (record { client = r.client; request = r.request; op = op }) ss)
+
+pub sessions_all : (m : Memory) (first last op parent : ℕ) (rs : List Request) (sums : List ℕ) (ss : List Session) → sessions_after ss (prepares_in m first last op parent rs sums) ≡ asked_all op rs ss
+sessions_all m first last op parent [] sums ss = refl
+sessions_all m first last op parent (r ∷ rs) sums ss =
+    let h = (prepare_in m first last op parent (first_of sums) r).header in
+    sessions_all m first last (op + 1) (first_of sums) rs (drop 1 sums) (noted h ss) ∙ ap (asked_all (op + 1) rs) (noted_is h ss)
+
+pub sessions_group : (m : Memory) (sums : List ℕ) (ss : List Session) (ps : List Message) → sessions_after ss (ps ++ group_of m sums) ≡ asked_all (m.head + 1) m.staged (sessions_after ss ps)
+sessions_group m sums ss ps = sessions-append ss ps (group_of m sums) ∙ sessions_all m (m.head + 1) (m.head + length m.staged) (m.head + 1) m.head_checksum m.staged sums (sessions_after ss ps)
+
 -- ---- reads of replies
+
+-- no prepare stands at a place of theirs
+pub puts_aside : (n : ℕ) (ps : List Message) (k : ℕ) → group_puts n ps (ReplyPlace k) ≡ None
+puts_aside n [] k = refl
+puts_aside n (p ∷ ps) k = ap (λ (o : Option AnyUnit). or_else o None) (puts_aside n ps k)
 
 -- what is shown stays, and isn't known any more
 abbrev gone : Result Message Class → Result Message Class

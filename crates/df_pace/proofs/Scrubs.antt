@@ -1,14 +1,14 @@
 -- What the scrubber keeps, its tour and its findings, changes no answer of another command.
-use Rattle.std.proofs.Common.{◌≡◌, ℕ, zero, suc, min, Bool, true, false, List, [], ◌∷◌, ◌++◌, Option, Some, None, replicate, refl, sym, ◌∙◌, ap}
+use Rattle.std.proofs.Common.{◌≡◌, ℕ, zero, suc, ◌+◌, min, Bool, true, false, List, [], ◌∷◌, ◌++◌, length, Option, Some, None, replicate, refl, sym, ◌∙◌, ap}
 use Rattle.df_theory.specs.Units.{Parts}
 use Rattle.df_theory.specs.Shape.{Shape}
 use Rattle.df_model.specs.Work.{Running, Work, first_tour}
 use Rattle.df_model.specs.Memory.{memory_of}
-use Rattle.df_model.specs.Refusals.{append_refusals, begin_refusals, block_refusals, first_refusal, is_running, release_refusals, reply_refusals, steps_left}
-use Rattle.df_model.specs.Making.{named_sums, needed_of, next_address, place_of_reply, prepare_of, reply_of}
-use Rattle.df_model.specs.After.{after_check, after_running, after_step_of, begun, outcome, to_check, with_live, with_prepare, with_reply, with_running}
-use Rattle.df_model.specs.Commands.{Advance, Append, Begin, Command, ReadBlock, ReadPrepare, ReadReply, Recent, Release, Reply, Scrub, WriteBlock, supplied_sum, supplied_verdict}
-use Rattle.df_model.specs.Supply.{Codec, Shown, next, shown_after, supplied}
+use Rattle.df_model.specs.Refusals.{append_refusals, begin_refusals, block_refusals, first_refusal, flush_refusals, is_running, release_refusals, reply_refusals, stage_refusals, steps_left}
+use Rattle.df_model.specs.Making.{group_of, named_sums, needed_of, next_address, place_of_reply, prepare_of, reply_of}
+use Rattle.df_model.specs.After.{after_check, after_running, after_step_of, begun, outcome, to_check, with_group, with_live, with_prepare, with_reply, with_running, with_staged}
+use Rattle.df_model.specs.Commands.{Advance, Append, Begin, Command, Flush, ReadBlock, ReadPrepare, ReadReply, Recent, Release, Reply, Scrub, Stage, WriteBlock, supplied_sum, supplied_verdict}
+use Rattle.df_model.specs.Supply.{Codec, Shown, checksums_given, next, shown_after, supplied}
 use Rattle.df_model.specs.declared.answers.Verdict.{Verdict}
 use Rattle.df_model.specs.declared.answers.Verdict.TheVariants.{Sound, Failing}
 use Rattle.df_model.proofs.Laws.{answer_from, answer_is}
@@ -50,6 +50,12 @@ module _ (sh : Shape) (codec : Codec) where
       let m = memory_of sh spell w in
       let p = prepare_of m (codec.prepare (prepare_of m 0 client request body)) client request body in
       outcome_bare (first_refusal (append_refusals m client request body)) w (with_prepare w p) (p.header.op, p.header.checksum)
+  work_bare shown w (Stage client request body) other =
+      let m = memory_of sh spell w in
+      outcome_bare (first_refusal (stage_refusals m client request body)) w (with_staged w (record { client = client; request = request; body = body })) (m.head + length w.staged + 1)
+  work_bare shown w Flush other =
+      let m = memory_of sh spell w in
+      outcome_bare (first_refusal (flush_refusals m)) w (with_group w (group_of m (checksums_given codec m Flush))) (length w.staged)
   work_bare shown w (Reply op body) other =
       let m = memory_of sh spell w in
       let sum = codec.reply (place_of_reply m) (reply_of m 0 body) in
@@ -75,6 +81,8 @@ module _ (sh : Shape) (codec : Codec) where
       × (shown_after codec shown (memory_of sh spell w) c ≡ shown_after codec shown (memory_of sh spell (bare w)) c)
   unfolding named_sums
   both_bare shown w (Append client request body) other = (refl, refl)
+  both_bare shown w (Stage client request body) other = (refl, refl)
+  both_bare shown w Flush other = (refl, refl)
   both_bare shown w (Reply op body) other = (refl, refl)
   both_bare shown w (WriteBlock kind body) other = (refl, refl)
   both_bare shown w (Release address) other = (refl, refl)

@@ -7,7 +7,7 @@ use Rattle.df_theory.specs.Sessions.{sessions_after}
 use Rattle.df_theory.specs.Shape.{Shape}
 use Rattle.df_theory.specs.View.{View, head, sessions}
 use Rattle.df_theory.proofs.Laws.{sessions-drop}
-use Rattle.df_model.specs.Work.{Running, Work}
+use Rattle.df_model.specs.Work.{Request, Running, Work}
 use Rattle.df_model.specs.Memory.{Memory, course, course_of, memory_of, stored_sum}
 use Rattle.df_model.specs.Refusals.{begin_refusals, first_refusal, is_running, steps_left}
 use Rattle.df_model.specs.Making.{needed_of}
@@ -38,10 +38,11 @@ pub record Told : Type 0 where
   pub head : ℕ
   pub replies : ℕ
   pub sessions : List Session
+  pub staged : List Request
   pub reads : ℕ → Result Message Class
 
 abbrev pub told : Shown → Work → Told
-told shown w = record { head = head w.view; replies = w.view.replies; sessions = sessions w.view; reads = λ k. plainly (read_of (w.view.stored k) shown k) }
+told shown w = record { head = head w.view; replies = w.view.replies; sessions = sessions w.view; staged = w.staged; reads = λ k. plainly (read_of (w.view.stored k) shown k) }
 
 abbrev pub told_at : Stand → Told
 told_at x = told x.shown x.work
@@ -108,7 +109,7 @@ module _ (sh : Shape) (codec : Codec) where
 
   run_stays : (x : Stand) (sum k : ℕ) (r : Running) (l : List ℕ) → Reaches x.work.view r → Stays x (stepped x sum k (trailer_puts (memory_at x) (course spell r) sum l) (after_running sh spell x.work sum r l).0)
   run_stays x sum k r [] reaches = record {
-    told = λ i. record { head = ended_head x.work.view r reaches i; replies = x.work.view.replies; sessions = ended_sessions x.work.view r reaches i; reads = (told_at x).reads };
+    told = λ i. record { head = ended_head x.work.view r reaches i; replies = x.work.view.replies; sessions = ended_sessions x.work.view r reaches i; staged = x.work.staged; reads = (told_at x).reads };
     goes = tt;
   }
   run_stays x sum k r (a ∷ more) reaches = record { told = refl; goes = record { from = reaches.from; to = reaches.to; sessions = reaches.sessions } }

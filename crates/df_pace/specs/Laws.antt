@@ -3,7 +3,7 @@ use Rattle.std.specs.Prelude.{◌≡◌, ℕ, Bool, true, false, List, [], ◌�
 use Rattle.df_theory.specs.Shape.{Shape}
 use Rattle.df_theory.specs.View.{head, sessions}
 use Rattle.df_model.specs.Work.{Work}
-use Rattle.df_model.specs.Commands.{Advance, Answer, Append, Begin, Command, ReadBlock, ReadPrepare, ReadReply, Recent, Release, Reply, Scrub, ToAppend, ToReadReply, WriteBlock}
+use Rattle.df_model.specs.Commands.{Advance, Answer, Append, Begin, Command, Flush, ReadBlock, ReadPrepare, ReadReply, Recent, Release, Reply, Scrub, Stage, ToAppend, ToReadReply, ToStage, WriteBlock}
 use Rattle.df_model.specs.Supply.{Codec, Shown, last_shown, last_work}
 use Rattle.df_model.specs.declared.errors.AppendError.{AppendError}
 use Rattle.df_model.specs.declared.errors.AppendError.TheVariants as append
@@ -40,6 +40,8 @@ EachOf P (x ∷ xs) = P x × EachOf P xs
 -- a line neither scrubs nor asks what scrubbing found
 abbrev pub AsksOfOthers : Command → Type 0
 AsksOfOthers (Append client request body) = Unit {0}
+AsksOfOthers (Stage client request body) = Unit {0}
+AsksOfOthers Flush = Unit {0}
 AsksOfOthers (Reply op body) = Unit {0}
 AsksOfOthers (WriteBlock kind body) = Unit {0}
 AsksOfOthers (Release address) = Unit {0}
@@ -65,6 +67,8 @@ ScrubbingLaw = (sh : Shape) (codec : Codec) (pace : Pace) (scrub : ℕ) (x : Sta
 -- a line of the log alone
 abbrev pub IsOfLog : Command → Type 0
 IsOfLog (Append client request body) = Unit {0}
+IsOfLog (Stage client request body) = Unit {0}
+IsOfLog Flush = Unit {0}
 IsOfLog (Reply op body) = Unit {0}
 IsOfLog (ReadReply client) = Unit {0}
 IsOfLog (WriteBlock kind body) = ⊥
@@ -80,9 +84,10 @@ abbrev pub is_ring_full : AppendError → Bool
 is_ring_full (append.WalFull op checkpoint_op) = true
 is_ring_full e = false
 
--- the ring has no slot for an append before a checkpoint is done
+-- the ring has no slot for a request, whether it is appended or staged, before a checkpoint is done
 abbrev pub is_full : Answer → Bool
 is_full (ToAppend (Err e)) = is_ring_full e
+is_full (ToStage (Err e)) = is_ring_full e
 is_full answer = false
 
 abbrev pub IsNotFull : Answer → Type 0

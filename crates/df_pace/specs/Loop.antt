@@ -4,7 +4,7 @@ use Rattle.df_theory.specs.Shape.{Shape}
 use Rattle.df_model.specs.Work.{Work}
 use Rattle.df_model.specs.Memory.{Course, memory_of}
 use Rattle.df_model.specs.Refusals.{is_running, steps_left}
-use Rattle.df_model.specs.Commands.{Advance, Answer, Begin, Command, Scrub, ToAppend, ToBegin}
+use Rattle.df_model.specs.Commands.{Advance, Answer, Begin, Command, Scrub, ToAppend, ToBegin, ToFlush}
 use Rattle.df_model.specs.Supply.{Codec, Shown, next, shown_after}
 use Rattle.df_script_model.specs.Script.{answer_text}
 use Rattle.df_pace.specs.declared.pace.Pace.{Pace}
@@ -31,9 +31,10 @@ answer_at sh codec x c = (next sh codec x.shown x.work c).1
 abbrev pub led : Shape → Codec → Stand → Command → (appended : ℕ) → Stand
 led sh codec x c n = record { shown = shown_after codec x.shown (memory_of sh codec.spell x.work) c; work = (next sh codec x.shown x.work c).0; appended = n }
 
--- an append that is accepted counts
+-- an append that is accepted counts, and a flush counts as many as it appends; what is staged doesn't
 abbrev pub counted : ℕ → Answer → ℕ
 counted n (ToAppend (Ok done)) = n + 1
+counted n (ToFlush (Ok count)) = n + count
 counted n answer = n
 
 -- with a begin of the loop that is accepted the count begins anew

@@ -1,7 +1,7 @@
 -- Worked scripts on files that were just made, with work beside them.
 use Rattle.std.specs.Prelude.{◌≡◌, ◌<◌, ◌+◌, ◌-◌, ◌/◌, ◌%◌, ℕ, zero, suc, List, [], ◌∷◌, ◌++◌, codes, drop}
 use Rattle.df_theory.specs.View.{View, head, sequence}
-use Rattle.df_model.specs.Commands.{Append, Begin, Command, Release, Reply}
+use Rattle.df_model.specs.Commands.{Append, Begin, Command, Flush, Release, Reply, Stage}
 use Rattle.df_script_model.specs.Sessions.{blank, blocks_of, first_work, plain, small}
 use Rattle.df_script_model.specs.Texts.{line_of, numbered}
 use Rattle.df_pace.specs.declared.pace.Pace.{Pace}
@@ -66,3 +66,12 @@ OwnCheckpoint =
     → let lines = Append 1 1 [] ∷ Begin [] ∷ Reply 1 [] ∷ [] in
     (counts_of (ends named some (pace_of 0 2 2) lines) ≡ record { sequence = 2; checkpoint_op = 1; head = 1; replies = 1 })
     × (counts_of (ends named some (pace_of 0 2 2) (lines ++ Append 1 2 [] ∷ [])) ≡ record { sequence = 3; checkpoint_op = 2; head = 2; replies = 1 })
+
+-- a flush counts as many as it appends, and what is staged doesn't count
+abbrev pub GroupsCount : Type 0
+GroupsCount =
+    (named : 0 < 7) (some : 0 < 32)
+    → let lines = Stage 1 1 [] ∷ Stage 2 1 [] ∷ Stage 3 1 [] ∷ [] in
+    (counts_of (ends named some (pace_of 0 3 2) lines) ≡ record { sequence = 1; checkpoint_op = 0; head = 0; replies = 0 })
+    × (counts_of (ends named some (pace_of 0 3 2) (lines ++ Flush ∷ [])) ≡ record { sequence = 2; checkpoint_op = 3; head = 3; replies = 0 })
+    × (counts_of (ends named some (pace_of 0 4 2) (lines ++ Flush ∷ [])) ≡ record { sequence = 1; checkpoint_op = 0; head = 3; replies = 0 })

@@ -17,7 +17,7 @@ pub fn scrubbing_is_unseen()
     ensures { ScrubbingLaw }
 {}
 
-/// Whatever work is done beside a script of appends, replies and lookups: as long as the ring is never full the lines
+/// Whatever work is done beside a script of appends, stages, flushes, replies and lookups: as long as the ring is never full the lines
 /// are answered alike, but for the number of the checkpoint in what is looked up, and head, replies and sessions at the
 /// end are the same.
 pub fn work_is_unseen_in_the_log()

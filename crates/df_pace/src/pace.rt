@@ -7,7 +7,8 @@ ghost use Rattle.df_pace.specs.Beats.{idle};
 pub struct Pace {
     /// So many steps of the scrubber.
     pub scrub: u64,
-    /// A checkpoint is begun once so many prepares were accepted since the loop last began one; with 0 none ever is.
+    /// A checkpoint is begun once so many prepares were accepted since the loop last began one, a flush counting as many as it appends;
+    /// with 0 none ever is.
     pub every: u64,
     /// At most so many steps of the running checkpoint.
     pub steps: u64,

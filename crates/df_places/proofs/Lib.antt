@@ -1,3 +1,4 @@
 pub mod Rooms
 pub mod Shelves
 pub mod Steps
+pub mod Laws

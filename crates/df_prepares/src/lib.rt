@@ -3,4 +3,4 @@
 
 mod slot;
 
-pub use slot::{put_prepare, write_prepare};
+pub use slot::{put_prepare, stands_in_slot, write_prepare};

@@ -20,6 +20,17 @@ fn slot_place(slot: u32) -> Place
     }
 }
 
+/// A prepare in a room of the layout is valid in the slot that its header names, and its sectors bring it there.
+pub fn stands_in_slot(layout: &Layout, unit: &Sound<Prepare>)
+    requires layout { unit.now.layout ≡ layout.now }
+    ensures own { IsInOwnSlot layout.now unit.now.unit }
+    ensures brings { Brings layout.now unit.now.unit.header.cluster (slot_place unit.now.unit.header.slot) unit.now.unit (take (sectors_end unit.now.unit.header.size) unit.now.bytes) }
+{
+    // What they say is known of a room that is looked at.
+    let _header = unit.header();
+    let _sectors = unit.sectors();
+}
+
 /// Writes the sectors of a prepare into its slot, without a sync: until the next one they may hold anything once the
 /// machine stops. The prepare's room is one of the layout.
 pub fn put_prepare<D: Disk>(

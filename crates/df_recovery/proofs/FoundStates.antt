@@ -1,8 +1,11 @@
--- What a survey finds makes sense: where its log ends, and what waits for replies.
-use Rattle.std.proofs.Common.{◌∙◌, arith}
+-- What a survey finds makes sense: where its log ends, and what waits for replies; and nothing is staged.
+use Rattle.std.proofs.Common.{◌≡◌, List, [], ◌∙◌, arith}
 use Rattle.df_format.specs.SuperRules.{IsSuper}
-use Rattle.df_rooms.specs.State.{AwaitsReplies, EndsLog}
-use Rattle.df_recovery.specs.Surveying.{IsWellFound}
+use Rattle.df_sessions.specs.Requests.{sessions_of}
+use Rattle.df_model.specs.Work.{Request}
+use Rattle.df_rooms.specs.State.{AwaitsReplies, EndsLog, Stages}
+use Rattle.df_rooms.proofs.Laws.{staging_none}
+use Rattle.df_recovery.specs.Surveying.{IsWellFound, state_found}
 use Rattle.df_recovery.specs.declared.surveying.Surveyed.{Surveyed}
 
 pub found_ends : (s : Surveyed) → IsWellFound s → IsSuper s.scanned.copies.found.content
@@ -25,3 +28,6 @@ found_awaits s found = record {
   asked = found.sessions.asked;
   tracks = found.sessions.tracks;
 }
+
+pub found_staging : (s : Surveyed) (requests : List Request) → requests ≡ [] → IsWellFound s → Stages s.scanned.file.layout s.scanned.copies.found.content.op s.traces.tail.op s.traces.replies (sessions_of s.scanned.sessions.sessions) requests
+found_staging s requests none found = staging_none (record (state_found s) { staged = requests }) none found.ends.few found.ends.within found.ends.most

@@ -138,6 +138,7 @@ module _ (image : Units.Units) (v : View) (s : State) (found : IsFound (shape s.
         prepares = prepares_are i;
         stored = stored_are i;
         waiting = waiting_are i;
+        staged = keeps.starts.staged i;
         blocks = keeps.blocks_are i;
         running = running i;
         tour = keeps.starts.tour i;

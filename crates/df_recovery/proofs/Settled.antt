@@ -128,7 +128,7 @@ module _ (t : Told) (x : Scanned) (is : IsOfFile t x.file (read_of x) (base_scan
       stored = subst (λ table. StoresTo traces.replies x.log.replies (length after) after table.sessions) (sym keeps.sessions) stores;
       count = plan.is_table.count;
       waiting = waiting ∙ (λ i. waiting_in ((sym keeps.file) i).layout.slots (of.slots i) y.scanned.log.headers ((sym traces_are) i).replies ((sym traces_are) i).tail.op);
-      starts = record { running = refl; tour = refl; findings = refl };
+      starts = record { staged = refl; running = refl; tour = refl; findings = refl };
     }
 
     headers : HasHeaders image s

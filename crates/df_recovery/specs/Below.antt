@@ -19,7 +19,8 @@ pub use Rattle.df_rooms.specs.Below.{IsMachineStep, IsMachines, IsStep, IsVerdic
 pub use Rattle.df_rooms.specs.Courses.{running_of, running_state}
 pub use Rattle.df_rooms.specs.Parts.{AreFound, AreWhole, FitsGrid, state_in, summary_of}
 pub use Rattle.df_rooms.specs.Recorded.{MayRecord, boot_fields, recorded}
-pub use Rattle.df_rooms.specs.State.{AreAsked, IsCourse, IsLevel, IsRunning, IsState, Represents, RunningState, State, captured_text, course_in, course_of, grid_with, memory, prepare_sum, reply_sum, shape, spelling, stored_sum, sum_of}
+pub use Rattle.df_rooms.specs.Stagings.{IsSealedOf, Staged, first_of}
+pub use Rattle.df_rooms.specs.State.{AreAsked, AreStaging, IsCourse, IsLevel, IsRequest, IsRunning, IsState, Represents, RunningState, Stages, State, asker_of, asks_of, captured_text, course_in, course_of, grid_with, memory, prepare_sum, reply_sum, shape, spelling, stored_sum, sum_of}
 pub use Rattle.df_rooms.specs.declared.file.DataFile.{DataFile}
 pub use Rattle.df_rooms.specs.declared.log_rooms.LogRooms.{LogRooms}
 pub use Rattle.df_rooms.specs.declared.parts.Parts.{Parts}

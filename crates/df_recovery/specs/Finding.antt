@@ -121,8 +121,9 @@ Answers read (Err e) sessions = IsRefused read e
 
 -- ---- the state in memory
 
--- no checkpoint runs, the tour is at its start, and there is no finding
+-- nothing is staged, no checkpoint runs, the tour is at its start, and there is no finding
 pub record IsStarting (s : State) : Type 0 where
+  pub staged : s.staged ≡ []
   pub running : s.running ≡ None
   pub tour : s.tour ≡ first_tour
   pub findings : s.findings ≡ []

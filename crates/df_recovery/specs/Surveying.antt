@@ -135,6 +135,7 @@ state_found s = record {
   replies = s.traces.replies;
   table = s.scanned.sessions;
   waiting = s.waiting.items;
+  staged = [];
   headers = s.scanned.log.headers;
   blocks = s.scanned.grid.blocks;
   running = None;

@@ -5,7 +5,7 @@ use crate::Copies;
 use arrayvec::ArrayVec;
 use df_grid::Grid;
 use df_layout::ROOT;
-use df_rooms::{DataFile, LogRooms, ScrubRooms, TrailerRooms};
+use df_rooms::{DataFile, LogRooms, ScrubRooms, Staging, TrailerRooms};
 use df_sessions::SessionTable;
 
 /// What was read of a file: its superblock, in the tables of the rooms what the rings and the reply slots show, in the grid the
@@ -18,6 +18,7 @@ pub struct Scanned {
     pub grid: Grid,
     pub trailer: TrailerRooms,
     pub scrub: ScrubRooms,
+    pub staging: Staging,
     pub root: ArrayVec<u8, ROOT>,
     pub sessions: SessionTable,
     pub ghost log_fits: { log.layout ≡ file.layout },
@@ -26,4 +27,5 @@ pub struct Scanned {
     pub ghost grid_unbooted: { grid.boot ≡ 0 },
     pub ghost trailer_fits: { trailer.layout ≡ file.layout },
     pub ghost scrub_fits: { scrub.layout ≡ file.layout },
+    pub ghost staging_fits: { staging.layout ≡ file.layout },
 }

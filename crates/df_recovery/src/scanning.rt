@@ -16,7 +16,7 @@ use df_format::{Super, SuperFields};
 use df_journal::Start;
 use df_layout::Layout;
 use df_quorum::Slot;
-use df_rooms::{DataFile, GridRooms, LogRooms, Rooms, ScrubRooms};
+use df_rooms::{DataFile, GridRooms, LogRooms, Rooms, ScrubRooms, Staging};
 use df_superblock::read_all;
 
 /// The superblock of a file, and what the four places of its copies show.
@@ -119,10 +119,12 @@ fn scan_log<D: Disk>(
     copies: &Copies,
     log: LogRooms,
     scrub: ScrubRooms,
+    staging: Staging,
     base: Checkpoint,
 ) -> Result<Scanned, (Rooms, OpenError)>
     requires file { IsFileOf log.layout copies.now.found.content file.now }
     requires scrub { scrub.layout ≡ log.layout }
+    requires staging { staging.layout ≡ log.layout }
     requires base { IsCheckpoint file.now (D.told disk.old) copies.now.found.content base }
     ensures read { IfOk result (IsReadBehind log.layout (D.told disk.old)) }
     ensures copies { IfOk result (λ s. s.copies ≡ copies.now) }
@@ -147,6 +149,7 @@ fn scan_log<D: Disk>(
             grid,
             trailer,
             scrub,
+            staging,
             root,
             sessions,
         }),
@@ -157,6 +160,7 @@ fn scan_log<D: Disk>(
                 grid: GridRooms::of(grid),
                 trailer,
                 scrub,
+                staging,
             },
             OpenError::DiskFault,
         )),
@@ -184,9 +188,9 @@ fn scan_served<D: Disk>(
         version: content.fields().version,
     };
     let layout = rooms.layout;
-    let (log, grid, trailer, scrub) = rooms.into_parts();
+    let (log, grid, trailer, scrub, staging) = rooms.into_parts();
     match read_checkpoint(disk, &file, &content, grid, trailer) {
-        Ok(base) => scan_log(disk, &file, copies, log, scrub, base),
+        Ok(base) => scan_log(disk, &file, copies, log, scrub, staging, base),
         Err(unread) => {
             let Unread {
                 grid,
@@ -199,6 +203,7 @@ fn scan_served<D: Disk>(
                 grid,
                 trailer,
                 scrub,
+                staging,
             };
             Err((rooms, error))
         }
@@ -220,7 +225,7 @@ pub fn scan_file<D: Disk>(
     ensures cause { IsBlamed is_open_fault (D.faults disk.old) (D.faults disk.new) (without_rooms result) }
 {
     let layout = rooms.layout;
-    let (mut log, grid, trailer, scrub) = rooms.into_parts();
+    let (mut log, grid, trailer, scrub, staging) = rooms.into_parts();
     let found = find_served(disk, &layout, &mut log.superblock, version);
     let rooms = Rooms {
         layout,
@@ -228,6 +233,7 @@ pub fn scan_file<D: Disk>(
         grid,
         trailer,
         scrub,
+        staging,
     };
     match found {
         Ok(copies) => scan_served(disk, &copies, rooms),

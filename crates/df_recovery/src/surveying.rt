@@ -98,6 +98,7 @@ fn with_plan(traces: &Traces, scanned: Scanned) -> Surveyed
         grid,
         trailer,
         scrub,
+        staging,
         root,
         sessions,
     } = scanned;
@@ -117,6 +118,7 @@ fn with_plan(traces: &Traces, scanned: Scanned) -> Surveyed
         grid,
         trailer,
         scrub,
+        staging,
         root,
         sessions,
     };
@@ -145,6 +147,7 @@ fn settle(scanned: Scanned) -> Result<Surveyed, (Rooms, OpenError)>
         grid,
         trailer,
         scrub,
+        staging,
         root,
         mut sessions,
     } = scanned;
@@ -165,12 +168,16 @@ fn settle(scanned: Scanned) -> Result<Surveyed, (Rooms, OpenError)>
                 grid,
                 trailer,
                 scrub,
+                staging,
                 root,
                 sessions,
             };
             Ok(with_plan(&traces, settled))
         }
-        Err(refusal) => Err((rooms_of(file.layout, log, grid, trailer, scrub), refusal)),
+        Err(refusal) => Err((
+            rooms_of(file.layout, log, grid, trailer, scrub, staging),
+            refusal,
+        )),
     }
 }
 

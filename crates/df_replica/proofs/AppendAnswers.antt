@@ -26,8 +26,9 @@ use Rattle.df_theory.specs.Units as theory
 use Rattle.df_model.proofs.Laws.{change_law}
 use Rattle.df_model.specs.declared.answers.Receipt.{Receipt}
 use Rattle.df_model.specs.declared.errors.AppendError.{AppendError}
+use Rattle.df_model.specs.declared.errors.AppendError.TheVariants as append
 use Rattle.df_replica.specs.Answering.{Serves, answer_of, as_append}
-use Rattle.df_replica.specs.Appending.{append_events, appended, header_given, next_unit, receipt_of}
+use Rattle.df_replica.specs.Appending.{IsAppend, append_events, appended, header_given, next_unit, receipt_of}
 use Rattle.df_replica.specs.Serving.{IsCall, format, next}
 use Rattle.df_replica.specs.Supply.{IsSupplied}
 use Rattle.df_opening.specs.Below.{IsState, Represents, State, memory, shape, spelling}
@@ -126,6 +127,11 @@ module _ (s : State) (client request : ℕ) (body : List ℕ) (given : Given) (i
 
     fault_call : (old new : Option Told) (t : State) → IsSupplied s old command given → t.live ≡ false → AddsPart (append_events s u) old new → IsCall given command s t old new None
     fault_call old new t supplied dead part = stopped_call given command s (append_events s u) input allowed_calls (allowed_puts s client request body given is sum none own) t old new supplied dead part
+
+-- a refusal leaves all as it was
+pub refused_exact : (client request : ℕ) (body : List ℕ) (s : State) (told : Option Told) (e : AppendError) → first_refusal (append_refusals (memory s) client request body) ≡ Some e → is_append_fault e ≡ false → IsAppend client request body s s told told (Err e)
+refused_exact client request body s told append.DiskFault some safe = absurd (let bad : true ≡ false = safe in cc)
+refused_exact client request body s told e some safe = (some, refl, refl)
 
 module _ (s : State) (client request : ℕ) (body : List ℕ) (is : IsState s) (live : s.live ≡ true) (fits : client < 2 ^ 128) where
   pub refusal_serves : (e : AppendError) → first_refusal (append_refusals (memory s) client request body) ≡ Some e → (old : Option Told) → Serves (Append client request body) s s old old (answer_of is_append_fault as_append (Err e))

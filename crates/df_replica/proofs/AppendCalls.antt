@@ -32,7 +32,7 @@ use Rattle.df_units.specs.Bytes.{unit_at}
 use Rattle.df_units.specs.Meaning.{header_of, layout_of, message_of, number_of, number_or}
 use Rattle.df_units.specs.Puts.{IsNextSector, header_unit, put_headers}
 use Rattle.df_units.proofs.Laws.{sector_puts}
-use Rattle.df_model.specs.Commands.{Append, Command, ForAppend, Given, supplied_sum}
+use Rattle.df_model.specs.Commands.{Append, Command, ForAppend, Given, supplied_sum, supplied_sums}
 use Rattle.df_model.specs.Laws.{DoesAppend, UnlessRefused}
 use Rattle.df_model.specs.Making.{prepare_of}
 use Rattle.df_model.specs.Memory.{Memory, memory_of}
@@ -146,7 +146,7 @@ module _ (s : State) (client request : ℕ) (body : List ℕ) (given : Given) (i
         (subst (λ (q : theory.Message). StandsIn f events (PreparePlace (q.header.op % s.file.layout.slots)) (PrepareUnit q)) (sym (prepare_is w rep)) wrote)
 
     -- its steps put the prepare, and headers, which no call reads
-    put_is : (place : Place) → put_one (PreparePlace u.header.slot) (PrepareUnit (message_of u)) place ≡ puts_of (memory s) (supplied_sum given) command place
+    put_is : (place : Place) → put_one (PreparePlace u.header.slot) (PrepareUnit (message_of u)) place ≡ puts_of (memory s) (supplied_sums given) command place
     put_is place =
         let m = memory s in
         let p : theory.Message = prepare_of m (supplied_sum given) client request body in

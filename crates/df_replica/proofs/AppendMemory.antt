@@ -21,14 +21,14 @@ use Rattle.df_replica.specs.Appending.{appended, next_unit}
 
 -- ---- the sessions
 
-noted_table : (h : theory.Header) (ss : List told.Session) → map session_of (with_request h.client h.request h.op ss) ≡ noted h (map session_of ss)
+pub noted_table : (h : theory.Header) (ss : List told.Session) → map session_of (with_request h.client h.request h.op ss) ≡ noted h (map session_of ss)
 noted_table h [] = refl
 noted_table h (s ∷ ss) = elim (cases_Bool (has_client h.client s)) [
   | inl same ↦ rw same refl
   | inr other ↦ rw other (ap (λ (l : List theory.Session). session_of s ∷ l) (noted_table h ss))
 ]
 
-stored_table : (client request op : ℕ) (ss : List told.Session) → map stored_sum (with_request client request op ss) ≡ unstored client (map session_of ss) (map stored_sum ss)
+pub stored_table : (client request op : ℕ) (ss : List told.Session) → map stored_sum (with_request client request op ss) ≡ unstored client (map session_of ss) (map stored_sum ss)
 stored_table client request op [] = refl
 stored_table client request op (s ∷ ss) = elim (cases_Bool (has_client client s)) [
   | inl same ↦ rw same refl
@@ -38,10 +38,10 @@ stored_table client request op (s ∷ ss) = elim (cases_Bool (has_client client 
 -- ---- the prepares
 
 -- the sum that a table shows for an op
-abbrev sum_at : ℕ → List Header → ℕ → ℕ
+abbrev pub sum_at : ℕ → List Header → ℕ → ℕ
 sum_at slots hs op = sum_of (slice_get hs (op % slots))
 
-sums_on : (slots base : ℕ) (hs : List Header) (h : Header) (a n e : ℕ) → a + n ≡ e → base < a → e ≤ base + slots → e % slots < length hs
+pub sums_on : (slots base : ℕ) (hs : List Header) (h : Header) (a n e : ℕ) → a + n ≡ e → base < a → e ≤ base + slots → e % slots < length hs
     → map (sum_at slots (slice_set hs (e % slots) h)) (range_with_len a (suc n)) ≡ map (sum_at slots hs) (range_with_len a n) ++ number_of h.checksum ∷ []
 sums_on slots base hs h a zero e at above room inside =
     ap (λ (k : ℕ). sum_at slots (slice_set hs (e % slots) h) k ∷ []) (let same : a ≡ e = omega arith in same)

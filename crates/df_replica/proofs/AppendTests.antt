@@ -1,6 +1,6 @@
 -- What an append that isn't refused may rely on, and where a client's session is found.
 use Rattle.std.proofs.Common.{◌≡◌, inl, inr, ℕ, zero, suc, ◌^◌, ◌<◌, ◌≤◌, Bool, true, false, List, [], ◌∷◌, length, get_or, map, Option, Some, None, IsSome, refl, sym, ◌∙◌, ap, subst, arith, rules, ltb-false, eqb-true}
-use Rattle.std.specs.Prelude.{option_map, if◌then◌else◌}
+use Rattle.std.specs.Prelude.{option_map, if◌then◌else◌, nat_lt}
 use Rattle.std.specs.List.{position}
 use Rattle.std.proofs.lemmas.Bool.{cases_Bool, or_parts, not-false, eqb-false}
 use Rattle.std.proofs.lemmas.List.{length-map}
@@ -13,6 +13,7 @@ use Rattle.df_sessions.specs.Requests.{session_of, sessions_of}
 use Rattle.df_sessions.specs.Table.{IsKnown, IsTable, has_client, requested, with_request}
 use Rattle.df_theory.specs.Sessions.{MayAsk}
 use Rattle.df_theory.specs.Units.{Header, Session}
+use Rattle.df_model.specs.Work.{Request}
 use Rattle.df_model.specs.Refusals.{append_refusals, first_refusal, is_new, last_op, next_request, session_of_client}
 use Rattle.df_journal.specs.Tail.{AreNumbered}
 use Rattle.df_model.proofs.Laws.{all_pass, known_asks, new_asks}
@@ -54,7 +55,7 @@ known_by client ss (Some i) is old = search rules
 known_by client ss None is old = absurd (let new = ap is_new (found_by client ss None is) in cc)
 
 -- a client that isn't new is known
-known_client : (client : ℕ) (ss : List told.Session) → is_new (session_of_client client (map session_of ss)) ≡ false → IsKnown client ss
+pub known_client : (client : ℕ) (ss : List told.Session) → is_new (session_of_client client (map session_of ss)) ≡ false → IsKnown client ss
 known_client client ss old = known_by client ss (position (has_client client) ss) refl old
 
 pub small_session : (ss : List told.Session) (o : Option ℕ) (s : told.Session) → AreNumbered ss → session_at ss o ≡ Some s → s.request ≤ 2 ^ 62
@@ -75,14 +76,21 @@ may_ask room client request replies h ss None at few places answered next named 
 may_ask room client request replies h ss (Some s) at few places answered next named asked mark =
     known_asks room h ss s (subst (λ (n : ℕ). session_of_client n ss ≡ Some s) (sym named) at) few (asked ∙ next) (omega (arith, answered, mark))
 
+-- nothing is left of a list that isn't counted
+none_left : (rs : List Request) → nat_lt 0 (length rs) ≡ false → rs ≡ []
+none_left [] none = refl
+none_left (r ∷ rs) none = absurd (omega (arith, ltb-false 0 (length (r ∷ rs)) none))
+
 pub may_next : (s : State) (client request : ℕ) (body : List ℕ) → IsState s → IsTable s.table → s.live ≡ true → first_refusal (append_refusals (memory s) client request body) ≡ None → MayNext s client request (length body)
 may_next s client request body is table live none =
     let tests = all_pass (append_refusals (memory s) client request body) none in
     let last = or_parts _ _ tests.1.1.1.1.1.1.1.1.0 in
+    let rest = tests.1.1.1.1.1.1.1.1.1.0 in
     let asked = eqb-true _ _ (not-false _ tests.1.1.1.1.1.0) in
     record {
       live = live;
       note = record {
+        unstaged = none_left s.staged rest;
         named = (let named = eqb-false _ _ tests.0 in omega arith);
         request = (omega (arith, asked, some_request (session_of_client client (map session_of s.table.sessions))), ltb-false _ _ last.1);
         few = (let pipeline = eqb-false _ _ tests.1.1.1.1.1.1.0 in omega (arith, is.waiting, is.few));
@@ -112,7 +120,3 @@ pub numbered_on : (client request op : ℕ) (ss : List told.Session) → AreNumb
 numbered_on client request op [] all small zero s at = let same : requested client request op ≡ s = cc in subst (λ (y : told.Session). y.request ≤ 2 ^ 62) same small
 numbered_on client request op [] all small (suc k) s at = absurd (cc)
 numbered_on client request op (x ∷ ss) all small k s at = numbered_case (has_client client x) client request op x ss all small (λ j t there. numbered_on client request op ss (λ i r here. all (suc i) r here) small j t there) k s at
-
--- what the sessions are told of a request
-abbrev pub asker : (client request op mark : ℕ) → Header
-asker client request op mark = record { checksum = 0; parent = 0; client = client; op = op; request = request; mark = mark; checkpoint = 0; boot = 0; group = 0; group_last = 0 }

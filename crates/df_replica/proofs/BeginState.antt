@@ -11,7 +11,7 @@ use Rattle.df_replica.specs.Beginning.{MayBegin, begun, captured, needed}
 
 -- a state makes sense with other blocks and another course, where those do
 pub with_course : (s : State) (b : Blocks) (r : Option RunningState) → IsState s → IsCourse s.file s.fields s.head b r → IsLevel s.head s.head_checksum r → IsState (record s { blocks = b; running = r })
-with_course s b r is course level = record { in_file = is.in_file; booted = is.booted; ends = is.ends; awaits = is.awaits; captured = level; course = course }
+with_course s b r is course level = record { in_file = is.in_file; booted = is.booted; ends = is.ends; awaits = is.awaits; staging = is.staging; captured = level; course = course }
 
 module _ (s : State) (root : List ℕ) (plan : Plan) (is : IsState s) (table : IsTable s.table) (may : MayBegin s root plan) where
   abbrev b : Blocks

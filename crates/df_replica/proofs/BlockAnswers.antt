@@ -132,7 +132,7 @@ module _ (s : State) (kind : ℕ) (body : List ℕ) (given : Given) (is : IsStat
         }
 
     -- its steps put that block
-    put_is : (place : Place) → put_one (BlockPlace u.header.op) (BlockUnit (meaning.block_of u)) place ≡ puts_of (memory s) (supplied_sum given) command place
+    put_is : (place : Place) → put_one (BlockPlace u.header.op) (BlockUnit (meaning.block_of u)) place ≡ puts_of (memory s) (supplied_sums given) command place
     put_is place =
         let m = memory s in
         let b : theory.Block = block_of m.content.boot (supplied_sum given) kind body in

@@ -15,7 +15,7 @@ use Rattle.df_units.specs.Format.{format_of}
 use Rattle.df_units.specs.Meaning.{block_of}
 use Rattle.df_grid.specs.Writes.{block_steps}
 use Rattle.df_model.specs.After.{next_trailer}
-use Rattle.df_model.specs.Commands.{Advance, Answer, ForAdvance, Given, ToAdvance, supplied_sum}
+use Rattle.df_model.specs.Commands.{Advance, Answer, ForAdvance, Given, ToAdvance, supplied_sum, supplied_sums}
 use Rattle.df_model.specs.Laws.{DoesBlock}
 use Rattle.df_model.specs.Making.{first_of, piece_of, trailer_block}
 use Rattle.df_model.specs.Memory.{Course, block_room}
@@ -88,7 +88,7 @@ module _ (s : State) (r : RunningState) (a : ℕ) (more : List ℕ) (given : Giv
       ∙ ap (λ (n : ℕ). record (trailer_block (memory s) c (block_sum s r)) { body = piece_of (block_room (memory s).layout) n c.text }) is.written
       ∙ ap (trailer_block (memory s) c) (sym sum_here)
 
-  put_is : (place : theory.Place) → put_one (BlockPlace (trailer_unit s r).header.op) (BlockUnit (block_of (trailer_unit s r))) place ≡ puts_of (memory s) (supplied_sum given) Advance place
+  put_is : (place : theory.Place) → put_one (BlockPlace (trailer_unit s r).header.op) (BlockUnit (block_of (trailer_unit s r))) place ≡ puts_of (memory s) (supplied_sums given) Advance place
   put_is place =
       ap (λ (b : theory.Block). put_one (BlockPlace (trailer_unit s r).header.op) (BlockUnit b) place) made_is
       ∙ ap (λ (n : ℕ). put_one (BlockPlace n) (BlockUnit (trailer_block (memory s) (course_of s.file s.blocks r) (supplied_sum given))) place) (ap first_of left)

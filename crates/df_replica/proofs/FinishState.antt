@@ -14,7 +14,7 @@ use Rattle.df_units.proofs.Laws.{whole_check}
 use Rattle.df_grid.specs.Table.{last_of}
 use Rattle.df_grid.specs.Writes.{first_address, first_sum}
 use Rattle.df_opening.specs.Below.{IsLevel, IsRunning, IsState, MayRecord, RunningState, State}
-use Rattle.df_opening.proofs.Laws.{recorded_is_super, second_as}
+use Rattle.df_opening.proofs.Laws.{recorded_is_super, second_as, staging_on}
 use Rattle.df_replica.specs.Stepping.{captured_fields, finished, next_fields}
 
 -- the last trailer block is the first of those that are listed
@@ -80,6 +80,7 @@ finished_sense s r is runs level usable = record {
   booted = is.booted;
   ends = record { parent = is.parent; order = runs.op_to; room = omega (arith, is.room, runs.op_from); head_to = is.head_to; first = is.first; level = level };
   awaits = is.awaits;
+  staging = staging_on s (finished s r) refl refl refl runs.op_from (omega arith) refl is.staging;
   captured = tt;
   course = record { captured = refl; written = refl; left = refl };
 }

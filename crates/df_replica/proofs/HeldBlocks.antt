@@ -1,5 +1,5 @@
 -- A block stays where it is as long as its address is held: no command puts another one there.
-use Rattle.std.proofs.Common.{◌≡◌, ◌⊎◌, inl, inr, ℕ, ◌<◌, ◌==◌, Bool, true, false, if◌then◌else◌, List, [], ◌∷◌, Option, Some, None, refl, sym, ap, subst, ◌∙◌, arith, eqb-true, eq-eqb}
+use Rattle.std.proofs.Common.{◌≡◌, ◌⊎◌, inl, inr, ℕ, ◌<◌, ◌==◌, Bool, true, false, if◌then◌else◌, List, [], ◌∷◌, length, ◌+◌, Option, Some, None, refl, sym, ap, subst, ◌∙◌, arith, eqb-true, eq-eqb}
 use Rattle.std.specs.Prelude.{Ok}
 use Rattle.std.proofs.lemmas.Bool.{or_left, or_right}
 use Rattle.std.proofs.lemmas.Option.{same_Some}
@@ -13,12 +13,12 @@ use Rattle.df_theory.specs.Device.{units_log}
 use Rattle.df_theory.specs.UnitLog.{now}
 use Rattle.df_theory.proofs.Laws.{shown_law}
 use Rattle.df_units.proofs.Laws.{is_format}
-use Rattle.df_model.specs.After.{after_check, after_running, after_step_of, begun, finished, outcome, to_check, with_live, with_prepare, with_reply, with_running, with_trailer_block}
+use Rattle.df_model.specs.After.{after_check, after_running, after_step_of, begun, finished, outcome, to_check, with_group, with_live, with_prepare, with_reply, with_running, with_staged, with_trailer_block}
 use Rattle.df_model.specs.Codec.{InGrid}
-use Rattle.df_model.specs.Commands.{Advance, Append, Begin, Command, Given, ReadBlock, ReadPrepare, ReadReply, Recent, Release, Reply, Scrub, WriteBlock, supplied_sum, supplied_verdict}
-use Rattle.df_model.specs.Making.{needed_of, next_address, place_of_reply, prepare_of, reply_of}
+use Rattle.df_model.specs.Commands.{Advance, Append, Begin, Command, Flush, Given, ReadBlock, ReadPrepare, ReadReply, Recent, Release, Reply, Scrub, Stage, WriteBlock, supplied_sum, supplied_sums, supplied_verdict}
+use Rattle.df_model.specs.Making.{group_of, needed_of, next_address, place_of_reply, prepare_of, reply_of}
 use Rattle.df_model.specs.Memory.{memory_of}
-use Rattle.df_model.specs.Refusals.{append_refusals, begin_refusals, block_refusals, first_refusal, release_refusals, reply_refusals}
+use Rattle.df_model.specs.Refusals.{append_refusals, begin_refusals, block_refusals, first_refusal, flush_refusals, release_refusals, reply_refusals, stage_refusals}
 use Rattle.df_model.specs.Sense.{IsBacked, IsKnown, IsWork, ShowsOwnBlock}
 use Rattle.df_model.specs.Sense.IsKnown.{Captured, Durable, Live}
 use Rattle.df_model.specs.Supply.{block_given, class_at, given_if, no_trailer}
@@ -48,6 +48,11 @@ module _ (file : DataFile) (w : Work) (a : ℕ) where
   after_prepare p d (IsLive is) = inl (IsLive is)
   after_prepare p d (IsCaptured r runs is) = inl (IsCaptured r runs is)
   after_prepare p d (IsDurable is) = inl (IsDurable is)
+
+  after_group : (ps : List Message) (d : ℕ) → HoldsBlock (with_group w ps) a d → Before d
+  after_group ps d (IsLive is) = inl (IsLive is)
+  after_group ps d (IsCaptured r runs is) = inl (IsCaptured r runs is)
+  after_group ps d (IsDurable is) = inl (IsDurable is)
 
   after_stored : (place : ℕ) (r : Message) (d : ℕ) → HoldsBlock (with_reply w place r) a d → Before d
   after_stored place r d (IsLive is) = inl (IsLive is)
@@ -113,6 +118,14 @@ module _ (file : DataFile) (w : Work) (a : ℕ) where
       let p = prepare_of m (supplied_sum given) client request body in
       let answer : ℕ × ℕ = (p.header.op, supplied_sum given) in
       passed (first_refusal (append_refusals m client request body)) (with_prepare w p) answer d (λ none more. after_prepare p d more) holds
+  held_before given (Stage client request body) d inside holds =
+      let m = memory_of (shape file) (spelling file) w in
+      let u = with_staged w (record { client = client; request = request; body = body }) in
+      passed (first_refusal (stage_refusals m client request body)) u (m.head + length m.staged + 1) d (λ none more. same_blocks u d refl refl refl more) holds
+  held_before given Flush d inside holds =
+      let m = memory_of (shape file) (spelling file) w in
+      let ps = group_of m (supplied_sums given) in
+      passed (first_refusal (flush_refusals m)) (with_group w ps) (length m.staged) d (λ none more. after_group ps d more) holds
   held_before given (Reply op body) d inside holds =
       let m = memory_of (shape file) (spelling file) w in
       let r = reply_of m (supplied_sum given) body in

@@ -20,7 +20,7 @@ use Rattle.df_units.specs.Meaning.{content_of, number_of}
 use Rattle.df_units.specs.Puts.{put_copies}
 use Rattle.df_grid.specs.Writes.{first_address, first_sum}
 use Rattle.df_model.specs.After.{checkpoint_of}
-use Rattle.df_model.specs.Commands.{Advance, Answer, ForAdvance, Given, ToAdvance, supplied_sum}
+use Rattle.df_model.specs.Commands.{Advance, Answer, ForAdvance, Given, ToAdvance, supplied_sum, supplied_sums}
 use Rattle.df_model.specs.Laws.{DoesFinish}
 use Rattle.df_model.specs.Making as making
 use Rattle.df_model.specs.Memory.{Memory}
@@ -90,7 +90,7 @@ module _ (s : State) (r : RunningState) (given : Given) (is : IsState s) (course
   -- its steps put copies, which no call reads
   puts : Makes given Advance s (last_events s r)
   puts =
-      let none : (place : theory.Place) → puts_of (memory s) (supplied_sum given) Advance place ≡ trailer_puts (memory s) (course_of s.file s.blocks r) (supplied_sum given) [] place = step_puts_are s r given running sum [] left in
+      let none : (place : theory.Place) → puts_of (memory s) (supplied_sums given) Advance place ≡ trailer_puts (memory s) (course_of s.file s.blocks r) (supplied_sum given) [] place = step_puts_are s r given running sum [] left in
       record {
         steps = given_steps;
         are = steps s.file.layout s.file.cluster;

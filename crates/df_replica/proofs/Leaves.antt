@@ -1,5 +1,5 @@
 -- What a command puts, which blocks its device calls spare, and which are durable behind it.
-use Rattle.std.proofs.Common.{◌≡◌, ◌⊎◌, inl, inr, ℕ, zero, suc, ◌+◌, ◌<◌, ◌%◌, ◌==◌, ◌||◌, if◌then◌else◌, Bool, true, false, List, [], ◌∷◌, Option, Some, None, refl, sym, ◌∙◌, ap, subst, arith}
+use Rattle.std.proofs.Common.{◌≡◌, ◌⊎◌, inl, inr, ℕ, zero, suc, ◌+◌, ◌<◌, ◌%◌, ◌==◌, ◌||◌, if◌then◌else◌, Bool, true, false, List, [], ◌∷◌, length, Option, Some, None, refl, sym, ◌∙◌, ap, subst, arith}
 use Rattle.std.specs.Prelude.{nat_lt}
 use Rattle.std.proofs.lemmas.Bool.{eqb-true, or_cases, or_left, or_right}
 use Rattle.std.proofs.lemmas.Bool.Decides.{nat_tests}
@@ -8,18 +8,18 @@ use Rattle.df_base.specs.Image.{Image, IsImage}
 use Rattle.df_base.specs.Log.{Event, Log, loose}
 use Rattle.df_base.specs.Moments.{adds}
 use Rattle.df_layout.specs.declared.layout.Layout.{Layout}
-use Rattle.df_theory.specs.Units.{AnyUnit, BlockPlace, BlockUnit, Content, CopyPlace, CopyUnit, HeaderPlace, Place, PreparePlace, PrepareUnit, ReplyPlace, ReplyUnit, Units, or_else}
+use Rattle.df_theory.specs.Units.{AnyUnit, BlockPlace, BlockUnit, Content, CopyPlace, CopyUnit, HeaderPlace, Message, Place, PreparePlace, PrepareUnit, ReplyPlace, ReplyUnit, Units, or_else}
 use Rattle.df_theory.specs.Device.{AreSteps}
 use Rattle.df_theory.specs.Runs.{Step}
 use Rattle.df_theory.specs.UnitLog.{put_one}
 use Rattle.df_units.specs.Bytes.{has, unit_at}
-use Rattle.df_model.specs.After.{after_check, after_running, after_step_of, begun, outcome, to_check, with_live, with_prepare, with_reply, with_running}
-use Rattle.df_model.specs.Commands.{Advance, Append, Begin, Command, Given, ReadBlock, ReadPrepare, ReadReply, Recent, Release, Reply, Scrub, WriteBlock, supplied_sum, supplied_verdict}
-use Rattle.df_model.specs.Making.{block_of, needed_of, next_address, place_of_reply, prepare_of, reply_of, trailer_block}
+use Rattle.df_model.specs.After.{after_check, after_running, after_step_of, begun, outcome, to_check, with_group, with_live, with_prepare, with_reply, with_running, with_staged}
+use Rattle.df_model.specs.Commands.{Advance, Append, Begin, Command, Flush, Given, ReadBlock, ReadPrepare, ReadReply, Recent, Release, Reply, Scrub, Stage, WriteBlock, supplied_sum, supplied_sums, supplied_verdict}
+use Rattle.df_model.specs.Making.{block_of, first_of, group_of, needed_of, next_address, place_of_reply, prepare_of, reply_of, trailer_block}
 use Rattle.df_model.specs.Memory.{Course, Memory, course, course_of, memory_of}
-use Rattle.df_model.specs.Refusals.{append_refusals, begin_refusals, block_refusals, first_refusal, release_refusals, reply_refusals}
+use Rattle.df_model.specs.Refusals.{append_refusals, begin_refusals, block_refusals, first_refusal, flush_refusals, release_refusals, reply_refusals, stage_refusals}
 use Rattle.df_model.specs.Sense.{AtEachOf, IsClear, IsWork}
-use Rattle.df_model.specs.Supply.{copies_of, puts_of, step_puts, trailer_puts, unless}
+use Rattle.df_model.specs.Supply.{copies_of, group_puts, puts_of, step_puts, trailer_puts, unless}
 use Rattle.df_model.specs.Work.{Running, Work, is_captured, is_held, is_known, is_of}
 use Rattle.df_model.specs.declared.answers.Verdict.{Verdict}
 use Rattle.df_model.specs.declared.answers.Verdict.TheVariants.{Sound, Failing}
@@ -42,27 +42,37 @@ unless_none : {E : Type 0} (o : Option E) (put : Units) (place : Place) → (o �
 unless_none (Some e) put place none = refl
 unless_none None put place none = none refl
 
-module _ (file : DataFile) (w : Work) (work : IsWork (shape file) (spelling file) w) (a : ℕ) (held : is_held w a ≡ true) (sum : ℕ) where
+-- prepares aside
+group_aside : (n : ℕ) (ps : List Message) (a : ℕ) → group_puts n ps (BlockPlace a) ≡ None
+group_aside n [] a = refl
+group_aside n (p ∷ ps) a = ap (λ (o : Option AnyUnit). or_else o None) (group_aside n ps a)
+
+module _ (file : DataFile) (w : Work) (work : IsWork (shape file) (spelling file) w) (a : ℕ) (held : is_held w a ≡ true) (sums : List ℕ) where
   abbrev m : Memory
   m = memory_of (shape file) (spelling file) w
 
-  left_unput : (r : Running) → w.running ≡ Some r → (WritesNext Advance w a → ⊥) → (left : List ℕ) → r.left ≡ left → trailer_puts m (course (spelling file) r) sum left (BlockPlace a) ≡ None
+  abbrev made : ℕ
+  made = first_of sums
+
+  left_unput : (r : Running) → w.running ≡ Some r → (WritesNext Advance w a → ⊥) → (left : List ℕ) → r.left ≡ left → trailer_puts m (course (spelling file) r) made left (BlockPlace a) ≡ None
   left_unput r running other [] is = refl
   left_unput r running other (x ∷ more) is =
-      put_aside x a (BlockUnit (trailer_block m (course (spelling file) r) sum)) (λ same. other (r, more, running, is ∙ ap (λ (n : ℕ). n ∷ more) same))
+      put_aside x a (BlockUnit (trailer_block m (course (spelling file) r) made)) (λ same. other (r, more, running, is ∙ ap (λ (n : ℕ). n ∷ more) same))
 
-  step_unput : (WritesNext Advance w a → ⊥) → (o : Option Running) → w.running ≡ o → step_puts m (course_of (spelling file) o) sum (BlockPlace a) ≡ None
+  step_unput : (WritesNext Advance w a → ⊥) → (o : Option Running) → w.running ≡ o → step_puts m (course_of (spelling file) o) made (BlockPlace a) ≡ None
   step_unput other None running = refl
   step_unput other (Some r) running = left_unput r running other r.left refl
 
-  held_unput : (command : Command) → (WritesNext command w a → ⊥) → puts_of m sum command (BlockPlace a) ≡ None
+  held_unput : (command : Command) → (WritesNext command w a → ⊥) → puts_of m sums command (BlockPlace a) ≡ None
   held_unput (Append client request body) other =
-      unless_none (first_refusal (append_refusals m client request body)) (put_one (PreparePlace ((m.head + 1) % m.layout.slots)) (PrepareUnit (prepare_of m sum client request body))) (BlockPlace a) (λ none. refl)
+      unless_none (first_refusal (append_refusals m client request body)) (put_one (PreparePlace ((m.head + 1) % m.layout.slots)) (PrepareUnit (prepare_of m made client request body))) (BlockPlace a) (λ none. refl)
+  held_unput (Stage client request body) other = refl
+  held_unput Flush other = unless_none (first_refusal (flush_refusals m)) (group_puts m.layout.slots (group_of m sums)) (BlockPlace a) (λ none. group_aside m.layout.slots (group_of m sums) a)
   held_unput (Reply op body) other =
-      unless_none (first_refusal (reply_refusals m op body)) (put_one (ReplyPlace (place_of_reply m)) (ReplyUnit (reply_of m sum body))) (BlockPlace a) (λ none. refl)
+      unless_none (first_refusal (reply_refusals m op body)) (put_one (ReplyPlace (place_of_reply m)) (ReplyUnit (reply_of m made body))) (BlockPlace a) (λ none. refl)
   held_unput (WriteBlock kind body) other =
-      unless_none (first_refusal (block_refusals m kind body)) (put_one (BlockPlace (next_address m)) (BlockUnit (block_of m.content.boot sum kind body))) (BlockPlace a)
-      (λ none. put_aside (next_address m) a (BlockUnit (block_of m.content.boot sum kind body)) (λ same.
+      unless_none (first_refusal (block_refusals m kind body)) (put_one (BlockPlace (next_address m)) (BlockUnit (block_of m.content.boot made kind body))) (BlockPlace a)
+      (λ none. put_aside (next_address m) a (BlockUnit (block_of m.content.boot made kind body)) (λ same.
       let free : is_held w (next_address m) ≡ false = (block_may_law (shape file) (spelling file) w kind body none).free in
       let no : true ≡ false = sym held ∙ ap (is_held w) (sym same) ∙ free in
       cc))
@@ -114,6 +124,12 @@ module _ (file : DataFile) (w : Work) (a : ℕ) where
       let p = prepare_of m (supplied_sum given) client request body in
       let answer : ℕ × ℕ = (p.header.op, supplied_sum given) in
       inl (unless_was (first_refusal (append_refusals m client request body)) (with_prepare w p) answer (λ there. there) is)
+  was_durable given (Stage client request body) is =
+      let m = memory_of (shape file) (spelling file) w in
+      inl (unless_was (first_refusal (stage_refusals m client request body)) (with_staged w (record { client = client; request = request; body = body })) (m.head + length m.staged + 1) (λ there. there) is)
+  was_durable given Flush is =
+      let m = memory_of (shape file) (spelling file) w in
+      inl (unless_was (first_refusal (flush_refusals m)) (with_group w (group_of m (supplied_sums given))) (length m.staged) (λ there. there) is)
   was_durable given (Reply op body) is =
       let m = memory_of (shape file) (spelling file) w in
       inl (unless_was (first_refusal (reply_refusals m op body)) (with_reply w (place_of_reply m) (reply_of m (supplied_sum given) body)) (supplied_sum given) (λ there. there) is)
@@ -158,6 +174,8 @@ next_aside w a clear is Advance (r, more, running, left) =
       | inr there ↦ let at = some_of a w.view.checkpoint.chain there in free.no_trailer at.0 at.1
     ]
 next_aside w a clear is (Append client request body) never = never
+next_aside w a clear is (Stage client request body) never = never
+next_aside w a clear is Flush never = never
 next_aside w a clear is (Reply op body) never = never
 next_aside w a clear is (WriteBlock kind body) never = never
 next_aside w a clear is (Release address) never = never
@@ -175,6 +193,8 @@ last_aside w a r running left Advance (q, more, on, to_come) =
     let no : [] ≡ a ∷ more = sym left ∙ ap (λ (x : Running). x.left) same ∙ to_come in
     cc
 last_aside w a r running left (Append client request body) never = never
+last_aside w a r running left (Stage client request body) never = never
+last_aside w a r running left Flush never = never
 last_aside w a r running left (Reply op body) never = never
 last_aside w a r running left (WriteBlock kind body) never = never
 last_aside w a r running left (Release address) never = never
@@ -201,14 +221,14 @@ IsLast command m = ⊥
 pub record Makes (given : Given) (command : Command) (s : State) (events : List Event) : Type 0 where
   pub steps : List Step
   pub are : AreSteps (format s.file) events steps
-  pub prepare : (k : ℕ) (o : Option AnyUnit) → unit_after steps (PreparePlace k) o ≡ or_else (puts_of (memory s) (supplied_sum given) command (PreparePlace k)) o
-  pub reply : (k : ℕ) (o : Option AnyUnit) → unit_after steps (ReplyPlace k) o ≡ or_else (puts_of (memory s) (supplied_sum given) command (ReplyPlace k)) o
-  pub block : (k : ℕ) (o : Option AnyUnit) → unit_after steps (BlockPlace k) o ≡ or_else (puts_of (memory s) (supplied_sum given) command (BlockPlace k)) o
-  pub copy : (w : Work) → IsWork (shape s.file) (spelling s.file) w → Represents s w → (n : ℕ) (o : Option AnyUnit) → unit_after steps (CopyPlace n) o ≡ or_else (puts_of (memory s) (supplied_sum given) command (CopyPlace n)) o
+  pub prepare : (k : ℕ) (o : Option AnyUnit) → unit_after steps (PreparePlace k) o ≡ or_else (puts_of (memory s) (supplied_sums given) command (PreparePlace k)) o
+  pub reply : (k : ℕ) (o : Option AnyUnit) → unit_after steps (ReplyPlace k) o ≡ or_else (puts_of (memory s) (supplied_sums given) command (ReplyPlace k)) o
+  pub block : (k : ℕ) (o : Option AnyUnit) → unit_after steps (BlockPlace k) o ≡ or_else (puts_of (memory s) (supplied_sums given) command (BlockPlace k)) o
+  pub copy : (w : Work) → IsWork (shape s.file) (spelling s.file) w → Represents s w → (n : ℕ) (o : Option AnyUnit) → unit_after steps (CopyPlace n) o ≡ or_else (puts_of (memory s) (supplied_sums given) command (CopyPlace n)) o
   pub last : IsLast command (memory s) → StartSynced steps
 
 -- a command that makes nothing
-pub makes_nothing : (given : Given) (command : Command) (s : State) → ((place : Place) → puts_of (memory s) (supplied_sum given) command place ≡ None) → (IsLast command (memory s) → ⊥) → Makes given command s []
+pub makes_nothing : (given : Given) (command : Command) (s : State) → ((place : Place) → puts_of (memory s) (supplied_sums given) command place ≡ None) → (IsLast command (memory s) → ⊥) → Makes given command s []
 makes_nothing given command s none other = record {
   steps = [];
   are = tt;
@@ -246,14 +266,14 @@ module _ (given : Given) (command : Command) (s : State) (events : List Event) (
   abbrev cluster : ℕ
   cluster = s.file.cluster
 
-  pub none_put : (place : Place) → IsReadPlace layout place → puts_of (memory s) (supplied_sum given) command place ≡ None → unit_after makes.steps place None ≡ None
+  pub none_put : (place : Place) → IsReadPlace layout place → puts_of (memory s) (supplied_sums given) command place ≡ None → unit_after makes.steps place None ≡ None
   none_put (CopyPlace k) read none = absurd read
   none_put (HeaderPlace k) read none = absurd read
   none_put (PreparePlace k) read none = makes.prepare k None ∙ ap (λ (p : Option AnyUnit). or_else p None) none
   none_put (ReplyPlace k) read none = makes.reply k None ∙ ap (λ (p : Option AnyUnit). or_else p None) none
   none_put (BlockPlace k) read none = makes.block k None ∙ ap (λ (p : Option AnyUnit). or_else p None) none
 
-  pub leaves_shown : (image : Image) → IsImage image → LeavesShown s.file (memory s) (supplied_sum given) command image (image_after events image)
+  pub leaves_shown : (image : Image) → IsImage image → LeavesShown s.file (memory s) (supplied_sums given) command image (image_after events image)
   leaves_shown image whole = record {
     whole = stays_whole layout cluster events makes.steps image makes.are whole;
     units = record {
@@ -265,18 +285,20 @@ module _ (given : Given) (command : Command) (s : State) (events : List Event) (
         same_sector layout cluster events makes.steps makes.are image sector (unwritten layout cluster events makes.steps makes.are place (none_put place read none) sector here));
   }
 
-  pub leaves_copies : (w : Work) → Keeps Firm s w None → (image : Image) → IsImage image → LeavesCopies s.file (memory s) (supplied_sum given) command image (image_after events image)
+  pub leaves_copies : (w : Work) → Keeps Firm s w None → (image : Image) → IsImage image → LeavesCopies s.file (memory s) (supplied_sums given) command image (image_after events image)
   leaves_copies w k image whole n = shown_by layout cluster events makes.steps image makes.are whole (CopyPlace n) ∙ makes.copy w k.0 k.1 n (unit_at layout cluster image (CopyPlace n))
 
   pub spares_held : (w : Work) → Keeps Firm s w None → SparesHeld s.file command w events
   spares_held w k a held other sector here =
-      let none = subst (λ (x : Memory). puts_of x (supplied_sum given) command (BlockPlace a) ≡ None) (sym k.1) (held_unput s.file w k.0 a held (supplied_sum given) command other) in
+      let none = subst (λ (x : Memory). puts_of x (supplied_sums given) command (BlockPlace a) ≡ None) (sym k.1) (held_unput s.file w k.0 a held (supplied_sums given) command other) in
       unwritten layout cluster events makes.steps makes.are (BlockPlace a) (makes.block a None ∙ ap (λ (p : Option AnyUnit). or_else p None) none) sector here
 
   -- no command but a step ends a checkpoint
   ends_by : (P : Command → Type 0) (w : Work) (a : ℕ) → (EndsWith Advance w a → P Advance) → (c : Command) → EndsWith c w a → P c
   ends_by P w a step Advance ends = step ends
   ends_by P w a step (Append client request body) never = absurd never
+  ends_by P w a step (Stage client request body) never = absurd never
+  ends_by P w a step Flush never = absurd never
   ends_by P w a step (Reply op body) never = absurd never
   ends_by P w a step (WriteBlock kind body) never = absurd never
   ends_by P w a step (Release address) never = absurd never
@@ -306,7 +328,7 @@ module _ (given : Given) (command : Command) (s : State) (events : List Event) (
 
 -- what a front of a call's device calls leaves of the places at which its command puts nothing
 module _ (given : Given) (command : Command) (s : State) (events : List Event) (makes : Makes given command s events) (part : List Event) (front : FrontSteps (format s.file) part makes.steps) (image : Image) (whole : IsImage image) where
-  pub others_spared : SparesOthers s.file (memory s) (supplied_sum given) command image (image_after part image)
+  pub others_spared : SparesOthers s.file (memory s) (supplied_sums given) command image (image_after part image)
   others_spared =
       let layout = s.file.layout in
       let cluster = s.file.cluster in

@@ -4,7 +4,7 @@ use Rattle.df_base.specs.Log.{Log}
 use Rattle.df_disk.specs.Told.{Told}
 use Rattle.df_layout.specs.declared.damage.Class.{Class}
 use Rattle.df_model.specs.After.{lookup_answer, prepare_answer, read_answer, shown_or}
-use Rattle.df_model.specs.Commands.{Advance, Answer, Append, Begin, Given, ReadBlock, ReadPrepare, ReadReply, Recent, Release, Reply, Scrub, ToReadBlock, ToReadPrepare, ToReadReply, WriteBlock, supplied_block, supplied_message}
+use Rattle.df_model.specs.Commands.{Advance, Answer, Append, Begin, Flush, Given, ReadBlock, ReadPrepare, ReadReply, Recent, Release, Reply, Scrub, Stage, ToReadBlock, ToReadPrepare, ToReadReply, WriteBlock, supplied_block, supplied_message}
 use Rattle.df_model.specs.Memory.{Memory, memory_of}
 use Rattle.df_model.specs.Refusals.{first_refusal, lookup_refusals, prepare_refusals, read_refusals}
 use Rattle.df_model.specs.Work.{Work}
@@ -66,6 +66,8 @@ module _ (given : Given) (s u : State) (w : Work) (t : Told) (new : Option Told)
 
 pub call_is_the_one : CallIsTheOne
 call_is_the_one given (Append client request body) s u w t new answer call keeps chance = tt
+call_is_the_one given (Stage client request body) s u w t new answer call keeps chance = tt
+call_is_the_one given Flush s u w t new answer call keeps chance = tt
 call_is_the_one given (Reply op body) s u w t new answer call keeps chance = tt
 call_is_the_one given (WriteBlock kind body) s u w t new answer call keeps chance = tt
 call_is_the_one given (Release address) s u w t new answer call keeps chance = tt
@@ -79,6 +81,8 @@ call_is_the_one given Recent s u w t new answer call keeps chance = tt
 
 pub call_is_own : CallIsOwn
 call_is_own given (Append client request body) s u w t new answer call keeps written chance = tt
+call_is_own given (Stage client request body) s u w t new answer call keeps written chance = tt
+call_is_own given Flush s u w t new answer call keeps written chance = tt
 call_is_own given (Reply op body) s u w t new answer call keeps written chance = tt
 call_is_own given (WriteBlock kind body) s u w t new answer call keeps written chance = tt
 call_is_own given (Release address) s u w t new answer call keeps written chance = tt

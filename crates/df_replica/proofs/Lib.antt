@@ -11,6 +11,13 @@ pub mod Calls
 pub mod Sessions
 pub mod AppendCalls
 pub mod AppendTests
+pub mod StageTests
+pub mod FlushUnits
+pub mod FlushState
+pub mod FlushMemory
+pub mod FlushCalls
+pub mod FlushAnswers
+pub mod StageAnswers
 pub mod ReplyMemory
 pub mod ReplyTests
 pub mod ReplyGiven

@@ -1,20 +1,21 @@
--- The one unit that a command makes, and that whatever the state behind it needs was needed before it or is that unit.
-use Rattle.std.proofs.Common.{◌≡◌, ℕ, ◌==◌, ◌%◌, nat_lt, inl, inr, Bool, true, false, if◌then◌else◌, List, [], ◌∷◌, Option, Some, None, refl, sym, ◌∙◌, ap, subst}
+-- The units that a command makes, and that whatever the state behind it needs was needed before it or is one of them.
+use Rattle.std.proofs.Common.{◌≡◌, ℕ, ◌==◌, ◌%◌, ◌+◌, nat_lt, inl, inr, Bool, true, false, if◌then◌else◌, List, [], ◌∷◌, length, Option, Some, None, refl, sym, ◌∙◌, ap, subst}
 use Rattle.std.proofs.lemmas.Bool.{eqb-true}
 use Rattle.std.proofs.lemmas.Option.{same_Some}
 use Rattle.df_theory.specs.Next as next
 use Rattle.df_theory.specs.Next.{appended, replied}
 use Rattle.df_theory.specs.Shape.{Shape, slots}
 use Rattle.df_theory.specs.Shows.{Needs}
+use Rattle.df_theory.specs.Tails.{In}
 use Rattle.df_theory.specs.Trailer.{InChain}
 use Rattle.df_theory.specs.Units.{AnyUnit, Block, BlockPlace, BlockUnit, CopyPlace, HeaderPlace, Message, Parts, Place, PreparePlace, PrepareUnit, ReplyPlace, ReplyUnit, Session}
 use Rattle.df_theory.specs.View.{head}
-use Rattle.df_theory.proofs.Laws.{in_dropped, in_either, in_single}
-use Rattle.df_model.specs.After.{after_check, after_running, after_step_of, begun, finished, next_trailer, outcome, to_check, with_live, with_prepare, with_reply, with_running, with_trailer_block}
-use Rattle.df_model.specs.Commands.{Advance, Append, Begin, Command, Given, ReadBlock, ReadPrepare, ReadReply, Recent, Release, Reply, Scrub, WriteBlock, after, supplied_sum, supplied_verdict}
-use Rattle.df_model.specs.Making.{needed_of, next_address, place_of_reply, prepare_of, reply_of}
+use Rattle.df_theory.proofs.Laws.{in_dropped, in_either}
+use Rattle.df_model.specs.After.{after_check, after_running, after_step_of, begun, finished, next_trailer, outcome, to_check, with_group, with_live, with_prepare, with_reply, with_running, with_staged, with_trailer_block}
+use Rattle.df_model.specs.Commands.{Advance, Append, Begin, Command, Flush, Given, ReadBlock, ReadPrepare, ReadReply, Recent, Release, Reply, Scrub, Stage, WriteBlock, after, supplied_sum, supplied_sums, supplied_verdict}
+use Rattle.df_model.specs.Making.{group_of, needed_of, next_address, place_of_reply, prepare_of, reply_of}
 use Rattle.df_model.specs.Memory.{memory_of}
-use Rattle.df_model.specs.Refusals.{append_refusals, begin_refusals, block_refusals, first_refusal, release_refusals, reply_refusals}
+use Rattle.df_model.specs.Refusals.{append_refusals, begin_refusals, block_refusals, first_refusal, flush_refusals, release_refusals, reply_refusals, stage_refusals}
 use Rattle.df_model.specs.Work.{Running, Work, kept}
 use Rattle.df_model.specs.declared.answers.Verdict.{Verdict}
 use Rattle.df_model.specs.declared.answers.Verdict.TheVariants.{Sound, Failing}
@@ -35,11 +36,18 @@ abbrev pub OfStep : Shape → (Parts → List ℕ) → (Place → AnyUnit → Ty
 OfStep sh spell P w sum None = Unit {0}
 OfStep sh spell P w sum (Some r) = OfLeft sh spell P w sum r r.left
 
--- a fact of the prepare, the reply or the trailer block that the command makes, with its place
+-- a fact of each of these prepares, with its place
+abbrev pub OfPrepares : Shape → (Place → AnyUnit → Type 0) → List Message → Type 0
+OfPrepares sh P [] = Unit {0}
+OfPrepares sh P (p ∷ ps) = P (PreparePlace (p.header.op % slots sh)) (PrepareUnit p) × OfPrepares sh P ps
+
+-- a fact of the prepares, the reply or the trailer block that the command makes, with its place
 abbrev pub OfMade : Shape → (Parts → List ℕ) → (Place → AnyUnit → Type 0) → Work → Given → Command → Type 0
 OfMade sh spell P w given (Append client request body) =
     let p = prepare_of (memory_of sh spell w) (supplied_sum given) client request body in
     Unless (first_refusal (append_refusals (memory_of sh spell w) client request body)) (P (PreparePlace (p.header.op % slots sh)) (PrepareUnit p))
+OfMade sh spell P w given (Stage client request body) = Unit {0}
+OfMade sh spell P w given Flush = Unless (first_refusal (flush_refusals (memory_of sh spell w))) (OfPrepares sh P (group_of (memory_of sh spell w) (supplied_sums given)))
 OfMade sh spell P w given (Reply op body) =
     let m = memory_of sh spell w in
     Unless (first_refusal (reply_refusals m op body)) (P (ReplyPlace (place_of_reply m)) (ReplyUnit (reply_of m (supplied_sum given) body)))
@@ -59,6 +67,14 @@ module _ (sh : Shape) (spell : Parts → List ℕ) (P Q : Place → AnyUnit → 
   unless_weaker (Some e) place x is = tt
   unless_weaker None place x is = weaker place x is
 
+  each_weaker : (ps : List Message) → OfPrepares sh P ps → OfPrepares sh Q ps
+  each_weaker [] all = tt
+  each_weaker (p ∷ ps) all = (weaker (PreparePlace (p.header.op % slots sh)) (PrepareUnit p) all.0, each_weaker ps all.1)
+
+  group_weaker : {E : Type 0} (o : Option E) (ps : List Message) → Unless o (OfPrepares sh P ps) → Unless o (OfPrepares sh Q ps)
+  group_weaker (Some e) ps is = tt
+  group_weaker None ps is = each_weaker ps is
+
   left_weaker : (sum : ℕ) (r : Running) (left : List ℕ) → OfLeft sh spell P w sum r left → OfLeft sh spell Q w sum r left
   left_weaker sum r [] is = tt
   left_weaker sum r (a ∷ more) is = weaker (BlockPlace a) (BlockUnit (next_trailer sh spell w r sum)) is
@@ -69,6 +85,8 @@ module _ (sh : Shape) (spell : Parts → List ℕ) (P Q : Place → AnyUnit → 
 
   pub made_weaker : (given : Given) (command : Command) → OfMade sh spell P w given command → OfMade sh spell Q w given command
   made_weaker given (Append client request body) is = unless_weaker (first_refusal (append_refusals (memory_of sh spell w) client request body)) _ _ is
+  made_weaker given (Stage client request body) is = tt
+  made_weaker given Flush is = group_weaker (first_refusal (flush_refusals (memory_of sh spell w))) (group_of (memory_of sh spell w) (supplied_sums given)) is
   made_weaker given (Reply op body) is = unless_weaker (first_refusal (reply_refusals (memory_of sh spell w) op body)) _ _ is
   made_weaker given Advance is = step_weaker (supplied_sum given) w.running is
   made_weaker given (WriteBlock kind body) is = tt
@@ -99,20 +117,27 @@ still_stored (Some s) op old r is = by (nat_lt op s.op) is
 module _ (sh : Shape) (spell : Parts → List ℕ) (P : Place → AnyUnit → Type 0) (w : Work) (has : HasEach sh P w) where
   -- ---- an append, and a reply
 
+  own_of : (ps : List Message) (q : Message) → In q ps → OfPrepares sh P ps → P (PreparePlace (q.header.op % slots sh)) (PrepareUnit q)
+  own_of [] q at all = absurd at
+  own_of (p ∷ ps) q (inl here) all = subst (λ (m : Message). P (PreparePlace (m.header.op % slots sh)) (PrepareUnit m)) (sym here) all.0
+  own_of (p ∷ ps) q (inr there) all = own_of ps q there all.1
+
+  -- with prepares more
+  needs_more : (ps : List Message) → OfPrepares sh P ps → (place : Place) (x : AnyUnit) → Needs sh (appended w.view ps) place x → P place x
+  needs_more ps made (CopyPlace n) x need = absurd need
+  needs_more ps made (HeaderPlace s) x need = absurd need
+  needs_more ps made (PreparePlace s) x (q, at, slot, is) = elim (in_either q w.view.tail ps at) [
+    | inl old ↦ has.needs (PreparePlace s) x (q, old, slot, is)
+    | inr new ↦ subst (λ (k : ℕ). P (PreparePlace k) x) (sym slot) (subst (λ (y : AnyUnit). P (PreparePlace (q.header.op % slots sh)) y) (sym is) (own_of ps q new made))
+  ]
+  needs_more ps made (ReplyPlace k) x (r, at, is) = has.needs (ReplyPlace k) x (r, still_stored _ (head w.view) (w.view.stored k) r at, is)
+  needs_more ps made (BlockPlace a) x need = has.needs (BlockPlace a) x need
+
   appended_has : (p : Message) → P (PreparePlace (p.header.op % slots sh)) (PrepareUnit p) → HasEach sh P (with_prepare w p)
-  appended_has p made = record { needs = needs; trailer = has.trailer }
-    where
-      needs : (place : Place) (x : AnyUnit) → Needs sh (appended w.view (p ∷ [])) place x → P place x
-      needs (CopyPlace n) x need = absurd need
-      needs (HeaderPlace s) x need = absurd need
-      needs (PreparePlace s) x (q, at, slot, is) = elim (in_either q w.view.tail (p ∷ []) at) [
-        | inl old ↦ has.needs (PreparePlace s) x (q, old, slot, is)
-        | inr new ↦
-            let here = subst (λ (m : Message). P (PreparePlace (m.header.op % slots sh)) (PrepareUnit m)) (sym (in_single q p new)) made in
-            subst (λ (k : ℕ). P (PreparePlace k) x) (sym slot) (subst (λ (y : AnyUnit). P (PreparePlace (q.header.op % slots sh)) y) (sym is) here)
-      ]
-      needs (ReplyPlace k) x (r, at, is) = has.needs (ReplyPlace k) x (r, still_stored _ (head w.view) (w.view.stored k) r at, is)
-      needs (BlockPlace a) x need = has.needs (BlockPlace a) x need
+  appended_has p made = record { needs = λ place x need. needs_more (p ∷ []) (made, tt) place x need; trailer = has.trailer }
+
+  flushed_has : (ps : List Message) → OfPrepares sh P ps → HasEach sh P (with_group w ps)
+  flushed_has ps made = record { needs = λ place x need. needs_more ps made place x need; trailer = has.trailer }
 
   replied_has : (place : ℕ) (r : Message) → P (ReplyPlace place) (ReplyUnit r) → HasEach sh P (with_reply w place r)
   replied_has k r made = record { needs = needs; trailer = has.trailer }
@@ -176,6 +201,10 @@ module _ (sh : Shape) (spell : Parts → List ℕ) (P : Place → AnyUnit → Ty
   made_has (Some e) u answer place x leads made = has
   made_has None u answer place x leads made = leads made
 
+  group_has : {E A : Type 0} (o : Option E) (ps : List Message) (answer : A) → Unless o (OfPrepares sh P ps) → HasEach sh P (outcome o w (with_group w ps) answer).0
+  group_has (Some e) ps answer made = has
+  group_has None ps answer made = flushed_has ps made
+
   checked_has : (verdict : Verdict) (list : List (ℕ × ℕ)) → HasEach sh P (after_check w verdict list).0
   checked_has verdict [] = record { needs = has.needs; trailer = has.trailer }
   checked_has Sound (x ∷ more) = record { needs = has.needs; trailer = has.trailer }
@@ -186,6 +215,12 @@ module _ (sh : Shape) (spell : Parts → List ℕ) (P : Place → AnyUnit → Ty
       let m = memory_of sh spell w in
       let p = prepare_of m (supplied_sum given) client request body in
       made_has (first_refusal (append_refusals m client request body)) (with_prepare w p) (p.header.op, supplied_sum given) (PreparePlace (p.header.op % slots sh)) (PrepareUnit p) (appended_has p) made
+  after_has given (Stage client request body) made =
+      let m = memory_of sh spell w in
+      unless_has (first_refusal (stage_refusals m client request body)) (with_staged w (record { client = client; request = request; body = body })) (m.head + length m.staged + 1) (record { needs = has.needs; trailer = has.trailer })
+  after_has given Flush made =
+      let m = memory_of sh spell w in
+      group_has (first_refusal (flush_refusals m)) (group_of m (supplied_sums given)) (length m.staged) made
   after_has given (Reply op body) made =
       let m = memory_of sh spell w in
       let r = reply_of m (supplied_sum given) body in

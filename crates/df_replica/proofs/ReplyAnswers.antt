@@ -143,7 +143,7 @@ module _ (s : State) (op : ℕ) (body : List ℕ) (given : Given) (is : IsState 
         }
 
     -- its steps put that reply
-    put_is : (place : Place) → put_one (ReplyPlace u.header.slot) (ReplyUnit (message_of u)) place ≡ puts_of (memory s) (supplied_sum given) command place
+    put_is : (place : Place) → put_one (ReplyPlace u.header.slot) (ReplyUnit (message_of u)) place ≡ puts_of (memory s) (supplied_sums given) command place
     put_is place =
         let m = memory s in
         let r : theory.Message = reply_of m (supplied_sum given) body in

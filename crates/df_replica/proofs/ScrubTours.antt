@@ -44,6 +44,7 @@ module _ (w : Work) (list : List Finding) where
     sessions = work.sessions;
     grid = work.grid;
     waiting = work.waiting;
+    staged = work.staged;
     running = work.running;
     one = λ a c d first second. work.one a c d (known_before a c first) (known_before a d second);
     sums = work.sums;

@@ -125,7 +125,7 @@ module _ (s : State) (r : RunningState) (given : Given) (running : s.running ≡
       (subst (λ (k : List ℕ). OfLeft (shape s.file) spell P w (supplied_sum given) R.on k) (sym (ap (λ (c : Course). c.left) R.course ∙ left)) made)
 
   -- what it puts
-  pub step_puts_are : (l : List ℕ) → s.blocks.left ≡ l → (place : theory.Place) → puts_of (memory s) (supplied_sum given) Advance place ≡ trailer_puts (memory s) (course_of s.file s.blocks r) (supplied_sum given) l place
+  pub step_puts_are : (l : List ℕ) → s.blocks.left ≡ l → (place : theory.Place) → puts_of (memory s) (supplied_sums given) Advance place ≡ trailer_puts (memory s) (course_of s.file s.blocks r) (supplied_sum given) l place
   step_puts_are l left place =
       ap (λ (o : Option Course). step_puts (memory s) o (supplied_sum given) place) (ap (course_in s.file s.blocks) running)
       ∙ ap (λ (k : List ℕ). trailer_puts (memory s) (course_of s.file s.blocks r) (supplied_sum given) k place) left

@@ -8,6 +8,7 @@ stopped_sense s live dead is = record {
   booted = λ alive. absurd (let no : false ≡ true = sym dead ∙ alive in cc);
   ends = is.ends;
   awaits = is.awaits;
+  staging = is.staging;
   captured = is.captured;
   course = is.course;
 }

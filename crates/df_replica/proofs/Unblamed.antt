@@ -4,11 +4,12 @@ use Rattle.std.specs.Prelude.{if◌then◌else◌, Result, Err}
 use Rattle.df_base.specs.Causes.{Blamed, IsBlamed}
 use Rattle.std.proofs.lemmas.Option.{same_Some}
 use Rattle.df_model.specs.Commands.{Answer}
-use Rattle.df_model.specs.Faults.{is_append_fault, is_block_fault, is_lookup_fault, is_prepare_fault, is_reply_fault}
+use Rattle.df_model.specs.Faults.{is_append_fault, is_block_fault, is_flush_fault, is_lookup_fault, is_prepare_fault, is_reply_fault}
 use Rattle.df_model.specs.Memory.{Memory}
-use Rattle.df_model.specs.Refusals.{append_refusals, block_refusals, first_refusal, lookup_refusals, prepare_refusals, reply_refusals}
+use Rattle.df_model.specs.Refusals.{append_refusals, block_refusals, first_refusal, flush_refusals, lookup_refusals, prepare_refusals, reply_refusals}
 use Rattle.df_model.specs.declared.errors.AppendError.{AppendError}
 use Rattle.df_model.specs.declared.errors.BlockError.{BlockError}
+use Rattle.df_model.specs.declared.errors.FlushError.{FlushError}
 use Rattle.df_model.specs.declared.errors.ReplyError.{ReplyError}
 use Rattle.df_model.specs.declared.reading.LookupError.{LookupError}
 use Rattle.df_model.specs.declared.reading.PrepareError.{PrepareError}
@@ -42,7 +43,10 @@ module _ {E : Type 0} (is_fault : E → Bool) (e : E) where
     refused_blames T count = subst (λ (b : Bool). Blamed b count count) (sym no) refl
 
 pub append_unblamed : (m : Memory) (client request : ℕ) (body : List ℕ) (e : AppendError) → first_refusal (append_refusals m client request body) ≡ Some e → is_append_fault e ≡ false
-append_unblamed m client request body e = first_unblamed is_append_fault e (append_refusals m client request body) (refl, (refl, (refl, (refl, (refl, (refl, (refl, (refl, (refl, tt)))))))))
+append_unblamed m client request body e = first_unblamed is_append_fault e (append_refusals m client request body) (refl, (refl, (refl, (refl, (refl, (refl, (refl, (refl, (refl, (refl, tt))))))))))
+
+pub flush_unblamed : (m : Memory) (e : FlushError) → first_refusal (flush_refusals m) ≡ Some e → is_flush_fault e ≡ false
+flush_unblamed m e = first_unblamed is_flush_fault e (flush_refusals m) (refl, tt)
 
 pub reply_unblamed : (m : Memory) (op : ℕ) (body : List ℕ) (e : ReplyError) → first_refusal (reply_refusals m op body) ≡ Some e → is_reply_fault e ≡ false
 reply_unblamed m op body e = first_unblamed is_reply_fault e (reply_refusals m op body) (refl, (refl, (refl, tt)))

@@ -7,10 +7,11 @@ use Rattle.df_layout.specs.declared.damage.Finding.{Finding}
 use Rattle.df_theory.specs.Units
 use Rattle.df_units.specs.Meaning.{number_of}
 use Rattle.df_format.specs.declared.reference.Reference.{Reference}
-use Rattle.df_model.specs.Commands.{Answer, Command, Given, Scrub, ToAppend, ToBegin, ToRelease, ToReply, ToScrub, ToWriteBlock, supplied_block, supplied_message, supplied_verdict}
+use Rattle.df_model.specs.Commands.{Answer, Command, Given, Scrub, ToAppend, ToBegin, ToFlush, ToRelease, ToReply, ToScrub, ToStage, ToWriteBlock, supplied_block, supplied_message, supplied_verdict}
 use Rattle.df_model.specs.declared.answers.Receipt.{Receipt}
 use Rattle.df_model.specs.declared.errors.AppendError.{AppendError}
 use Rattle.df_model.specs.declared.errors.BeginError.{BeginError}
+use Rattle.df_model.specs.declared.errors.FlushError.{FlushError}
 use Rattle.df_model.specs.declared.errors.ReplyError.{ReplyError}
 use Rattle.df_model.specs.declared.errors.BlockError.{BlockError}
 use Rattle.df_model.specs.declared.errors.NotLive.{NotLive}
@@ -34,6 +35,10 @@ abbrev pub as_append : Result Receipt AppendError → Answer
 as_append (Ok receipt) = ToAppend (Ok (receipt.op, number_of receipt.checksum))
 as_append (Err e) = ToAppend (Err e)
 
+-- a flush
+abbrev pub as_flush : Result ℕ FlushError → Answer
+as_flush result = ToFlush result
+
 -- a reply
 abbrev pub as_reply : Result (List ℕ) ReplyError → Answer
 as_reply (Ok check) = ToReply (Ok (number_of check))
@@ -50,7 +55,11 @@ is_step_unanswered step.NotRunning = false
 is_step_unanswered (step.Damaged place kind) = true
 is_step_unanswered step.DiskFault = true
 
--- that of a begin, which asks no disk
+-- that of a stage, which asks no disk
+abbrev pub stage_answer : Result ℕ AppendError → Option Answer
+stage_answer result = Some (ToStage result)
+
+-- of a begin, which asks none either
 abbrev pub begin_answer : Result ℕ BeginError → Option Answer
 begin_answer result = Some (ToBegin result)
 

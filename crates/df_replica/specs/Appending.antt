@@ -103,8 +103,9 @@ appended s u = noted (with_header s u) u.header
 abbrev pub receipt_of : Header → Receipt
 receipt_of h = record { op = h.op; checksum = h.checksum }
 
--- a request that may be noted
+-- a request that may be noted, where nothing is staged
 pub record MayNote (s : State) (client asked : ℕ) : Type 0 where
+  pub unstaged : s.staged ≡ []
   pub named : 0 < client
   pub request : (0 < asked) × (asked ≤ 2 ^ 62)
   pub few : length s.waiting < 8

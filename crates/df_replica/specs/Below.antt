@@ -4,11 +4,11 @@ pub use Rattle.df_base.specs.Image.{IsImage}
 pub use Rattle.df_disk.specs.Told.{after}
 pub use Rattle.df_buffers.specs.Below.{AreBytes, ClientReplies, Prepare, WalPrepares}
 pub use Rattle.df_buffers.specs.Sounds.{Holding}
-pub use Rattle.df_model.specs.Commands.{Advance, Append, Begin, ReadBlock, ReadPrepare, ReadReply, Recent, Release, ToAdvance, ToReadBlock, ToReadPrepare, ToReadReply, ToRecent, WriteBlock}
-pub use Rattle.df_model.specs.Faults.{is_append_fault, is_block_fault, is_lookup_fault, is_prepare_fault, is_read_fault, is_reply_fault, is_step_fault}
+pub use Rattle.df_model.specs.Commands.{Advance, Append, Begin, Flush, ReadBlock, ReadPrepare, ReadReply, Recent, Release, Stage, ToAdvance, ToReadBlock, ToReadPrepare, ToReadReply, ToRecent, WriteBlock}
+pub use Rattle.df_model.specs.Faults.{is_append_fault, is_block_fault, is_flush_fault, is_lookup_fault, is_prepare_fault, is_read_fault, is_reply_fault, is_step_fault}
 pub use Rattle.df_model.specs.Making.{next_address, place_of_op}
 pub use Rattle.df_model.specs.Memory.{Memory, block_room, free_of, prepare_sum, referenced_of}
-pub use Rattle.df_model.specs.Refusals.{append_refusals, block_refusals, first_refusal, is_running, lookup_refusals, prepare_refusals, reply_refusals, session_of_client}
+pub use Rattle.df_model.specs.Refusals.{append_refusals, block_refusals, counted, first_refusal, flush_refusals, is_running, lookup_refusals, prepare_refusals, reply_refusals, request_refusals, session_of_client, stage_refusals}
 pub use Rattle.df_sessions.specs.Requests.{session_of}
 pub use Rattle.df_sessions.specs.Table.{has_client}
 pub use Rattle.df_superblock.specs.Below.{Sync, put_copies, update_steps}

@@ -16,19 +16,19 @@ pub use Rattle.df_opening.specs.Sparing.{AreSettled, IsReadPlace, SparesReads, i
 -- ---- what is shown
 
 -- a command leaves shown what it makes of what is in memory, at each place that a call reads; every other such place has the unit and the class that it had
-pub record LeavesShown (file : DataFile) (m : Memory) (sum : ℕ) (command : Command) (before after : Image) : Type 0 where
+pub record LeavesShown (file : DataFile) (m : Memory) (sums : List ℕ) (command : Command) (before after : Image) : Type 0 where
   pub whole : IsImage after
-  pub units : AgreeReads (unit_at file.layout file.cluster after) (overlay (puts_of m sum command) (unit_at file.layout file.cluster before))
-  pub classes : (place : Place) → IsReadPlace file.layout place → puts_of m sum command place ≡ None → class_at file.layout file.cluster after place ≡ class_at file.layout file.cluster before place
+  pub units : AgreeReads (unit_at file.layout file.cluster after) (overlay (puts_of m sums command) (unit_at file.layout file.cluster before))
+  pub classes : (place : Place) → IsReadPlace file.layout place → puts_of m sums command place ≡ None → class_at file.layout file.cluster after place ≡ class_at file.layout file.cluster before place
 
 -- a call leaves each place as it was that calls read and at which its command puts nothing, with its unit and its class; so does one that wasn't answered
-pub record SparesOthers (file : DataFile) (m : Memory) (sum : ℕ) (command : Command) (before after : Image) : Type 0 where
-  pub units : (place : Place) → IsReadPlace file.layout place → puts_of m sum command place ≡ None → unit_at file.layout file.cluster after place ≡ unit_at file.layout file.cluster before place
-  pub classes : (place : Place) → IsReadPlace file.layout place → puts_of m sum command place ≡ None → class_at file.layout file.cluster after place ≡ class_at file.layout file.cluster before place
+pub record SparesOthers (file : DataFile) (m : Memory) (sums : List ℕ) (command : Command) (before after : Image) : Type 0 where
+  pub units : (place : Place) → IsReadPlace file.layout place → puts_of m sums command place ≡ None → unit_at file.layout file.cluster after place ≡ unit_at file.layout file.cluster before place
+  pub classes : (place : Place) → IsReadPlace file.layout place → puts_of m sums command place ≡ None → class_at file.layout file.cluster after place ≡ class_at file.layout file.cluster before place
 
 -- and of the superblock's copies it leaves what it makes of them
-abbrev pub LeavesCopies : DataFile → Memory → (sum : ℕ) → Command → (before after : Image) → Type 0
-LeavesCopies file m sum command before after = (n : ℕ) → unit_at file.layout file.cluster after (CopyPlace n) ≡ overlay (puts_of m sum command) (unit_at file.layout file.cluster before) (CopyPlace n)
+abbrev pub LeavesCopies : DataFile → Memory → (sums : List ℕ) → Command → (before after : Image) → Type 0
+LeavesCopies file m sums command before after = (n : ℕ) → unit_at file.layout file.cluster after (CopyPlace n) ≡ overlay (puts_of m sums command) (unit_at file.layout file.cluster before) (CopyPlace n)
 
 -- ---- which sectors are written
 

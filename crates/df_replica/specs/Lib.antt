@@ -5,6 +5,7 @@ pub mod Replica
 pub mod Refusing
 pub mod Stopping
 pub mod Appending
+pub mod Flushing
 pub mod Answering
 pub mod Replying
 pub mod Beginning

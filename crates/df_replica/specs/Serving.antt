@@ -7,7 +7,7 @@ use Rattle.df_disk.specs.Told.{Told}
 use Rattle.df_disk.specs.Adds.{after_all}
 use Rattle.df_theory.specs.View.{View}
 use Rattle.df_units.specs.Within.{AreWithin}
-use Rattle.df_model.specs.Commands.{Answer, Command, Given, IsInput, after, supplied_sum}
+use Rattle.df_model.specs.Commands.{Answer, Command, Given, IsInput, after, supplied_sums}
 use Rattle.df_model.specs.Work.{Work, kept}
 use Rattle.df_opening.specs.Below.{DataFile, State, memory, shape, spelling}
 use Rattle.df_replica.specs.Leaving.{AreSettled, LeavesCopies, LeavesShown, SparesHeld, SparesOthers, image_after}
@@ -55,9 +55,9 @@ pub record IsCall (given : Given) (command : Command) (s t : State) (old new : O
   pub answers : (g : Grade) (w : Work) → Keeps g s w None → GoesOnTo g t None (next s.file w given command) answer
   pub keeps : (g : Grade) (w : Work) (base : Option Told) → Keeps g s w base
       → EachIsGood g s (kept w) (kept (next s.file w given command).0) base (after_all events base) × GoesOnTo g t (after_all events base) (next s.file w given command) answer
-  pub leaves : OnSome answer ((image : Image) → IsImage image → LeavesShown s.file (memory s) (supplied_sum given) command image (image_after events image))
-  pub others : (image : Image) → IsImage image → SparesOthers s.file (memory s) (supplied_sum given) command image (image_after events image)
-  pub copies : (w : Work) → Keeps Firm s w None → OnSome answer ((image : Image) → IsImage image → LeavesCopies s.file (memory s) (supplied_sum given) command image (image_after events image))
+  pub leaves : OnSome answer ((image : Image) → IsImage image → LeavesShown s.file (memory s) (supplied_sums given) command image (image_after events image))
+  pub others : (image : Image) → IsImage image → SparesOthers s.file (memory s) (supplied_sums given) command image (image_after events image)
+  pub copies : (w : Work) → Keeps Firm s w None → OnSome answer ((image : Image) → IsImage image → LeavesCopies s.file (memory s) (supplied_sums given) command image (image_after events image))
   pub spares : (w : Work) → Keeps Firm s w None → SparesHeld s.file command w events
   pub settles : (w : Work) (log : Log) → Keeps Firm s w None → AreSettled s.file log w → OnSome answer (AreSettled s.file (adds events log) (next s.file w given command).0)
   pub written : (w : Work) → Keeps Firm s w None → OnSome answer (WritesOn s.file old new w (next s.file w given command).0)

@@ -2,19 +2,22 @@
 use Rattle.std.specs.Prelude.{◌≡◌, [], ◌∷◌, Option}
 use Rattle.df_disk.specs.Told.{Told}
 use Rattle.df_units.specs.Meaning.{number_of}
-use Rattle.df_model.specs.Commands.{Advance, Append, Begin, Command, ForAdvance, ForAppend, ForBegin, ForReadBlock, ForReadPrepare, ForReadReply, ForRecent, ForRelease, ForReply, ForScrub, ForWriteBlock, Given, ReadBlock, ReadPrepare, ReadReply, Recent, Release, Reply, Scrub, WriteBlock, supplied_block, supplied_message, supplied_verdict}
+use Rattle.df_model.specs.Commands.{Advance, Append, Begin, Command, Flush, ForAdvance, ForAppend, ForBegin, ForFlush, ForReadBlock, ForReadPrepare, ForReadReply, ForRecent, ForRelease, ForReply, ForScrub, ForStage, ForWriteBlock, Given, ReadBlock, ReadPrepare, ReadReply, Recent, Release, Reply, Scrub, Stage, WriteBlock, supplied_block, supplied_message, supplied_verdict}
 use Rattle.df_opening.specs.Below.{State}
 use Rattle.df_replica.specs.Appending.{next_unit}
 use Rattle.df_replica.specs.Blocks.{next_block}
 use Rattle.df_replica.specs.BlockReads.{IsBlockFound}
+use Rattle.df_replica.specs.Flushing.{flush_units, sums_of}
 use Rattle.df_replica.specs.Reading.{IsFoundBy}
 use Rattle.df_replica.specs.Replying.{next_reply}
 use Rattle.df_replica.specs.Scrubbing.{IsCheckFound}
 use Rattle.df_replica.specs.Stepping.{made_by}
 
--- what is supplied is of the command's own case: the checksum is that of the unit which the call makes; the message, or the block, is what a read finds at its place, and the verdict what a check finds
+-- what is supplied is of the command's own case: the checksums are those of the units which the call makes; the message, or the block, is what a read finds at its place, and the verdict what a check finds
 abbrev pub IsSupplied : State → Option Told → Command → Given → Type 0
 IsSupplied s told (Append client request body) given = given ≡ ForAppend (number_of (next_unit s client request body).header.checksum ∷ [])
+IsSupplied s told (Stage client request body) given = given ≡ ForStage
+IsSupplied s told Flush given = given ≡ ForFlush (sums_of (flush_units s))
 IsSupplied s told (Reply op body) given = given ≡ ForReply (number_of (next_reply s body).header.checksum ∷ [])
 IsSupplied s told (WriteBlock kind body) given = given ≡ ForWriteBlock (number_of (next_block s kind body).header.checksum ∷ [])
 IsSupplied s told (Release address) given = given ≡ ForRelease

@@ -9,7 +9,7 @@ ghost use Rattle.df_opening.specs.Held.{AreRoomsOf};
 ghost use Rattle.df_replica.specs.Refusing.{AreCounters};
 ghost use Rattle.df_replica.specs.Appending.{IsAppend, IsMadeUnit, MayBeMade, MayNext, MayNote, append_events, appended, header_given, next_unit, noted, receipt_of, unit_events, unit_of, with_header};
 
-use crate::refusing::{Counters, append_refusal, session_of};
+use crate::refusing::{Counters, request_refusal, session_of, staged_refusal};
 use crate::{DataFile, Replica};
 use df_base::Failed;
 use df_disk::Disk;
@@ -99,7 +99,10 @@ impl Replica {
         // The table is one.
         let _count = self.parts.sessions.len();
         let last = session_of(&self.parts.sessions, client);
-        append_refusal(&self.counters(), last, client, request, size)
+        match request_refusal(&self.counters(), last, client, request, size) {
+            Some(error) => Some(error),
+            None => staged_refusal(self.parts.staging.len()),
+        }
     }
 
     // Makes the next prepare and makes it durable, with its header.

@@ -6,6 +6,7 @@ mod begin;
 mod block;
 mod block_laws;
 mod block_reading;
+mod flush;
 mod lending;
 mod lookup;
 mod opened;
@@ -21,8 +22,9 @@ mod surveyed;
 pub use block_laws::held_blocks_are_shown;
 pub use df_layout::Finding;
 pub use df_model::{
-    AppendError, BeginError, BlockError, FormatError, LookupError, MendError, NotLive, OpenError,
-    PrepareError, Progress, ReadError, Receipt, ReplyError, Scrubbed, StepError, Verdict,
+    AppendError, BeginError, BlockError, FlushError, FormatError, LookupError, MendError, NotLive,
+    OpenError, PrepareError, Progress, ReadError, Receipt, ReplyError, Scrubbed, StepError,
+    Verdict,
 };
 pub use df_opening::{
     DataFile, Found, Rooms, file_is_read, format, found_is_answer, one_answer, probe,

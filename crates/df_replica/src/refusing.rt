@@ -1,7 +1,7 @@
 // Why a call is refused, from the numbers of what is in memory; the first reason of the order is the answer.
-ghost use Rattle.std.specs.Prelude.{◌≡◌, ◌≤◌, ◌^◌, ℕ, List, length, option_map, IfSome};
+ghost use Rattle.std.specs.Prelude.{◌≡◌, ◌≤◌, ◌^◌, ◌∷◌, ℕ, nat_lt, List, [], length, option_map, IfSome};
 ghost use Rattle.std.specs.List.{position};
-ghost use Rattle.df_replica.specs.Below.{session_of, has_client, Memory, append_refusals, first_refusal, prepare_refusals, reply_refusals, session_of_client};
+ghost use Rattle.df_replica.specs.Below.{session_of, has_client, Memory, first_refusal, prepare_refusals, reply_refusals, request_refusals, session_of_client};
 ghost use Rattle.df_replica.specs.Refusing.{AreCounters, session_at};
 
 use df_model::{AppendError, PrepareError, ReplyError};
@@ -29,8 +29,8 @@ pub(crate) fn session_of(table: &SessionTable, client: u128) -> Option<Session>
     }
 }
 
-// Why a prepare isn't appended, where this is the client's session.
-pub(crate) fn append_refusal(
+// Why a request becomes no prepare, where this is the client's session.
+pub(crate) fn request_refusal(
     counters: &Counters,
     last: Option<Session>,
     client: u128,
@@ -43,7 +43,7 @@ pub(crate) fn append_refusal(
     requires slots { counters.now.slots ≤ 2 ^ 62 }
     requires last { IfSome last (λ s. s.request ≤ 2 ^ 62) }
     ensures { (m : Memory) (body : List ℕ) → AreCounters m counters.now → session_of_client client m.sessions ≡ option_map session_of last → size ≡ length body
-        → result ≡ first_refusal (append_refusals m client request body) }
+        → result ≡ first_refusal (request_refusals m client request body) }
 {
     if client == 0 {
         return Some(AppendError::ClientZero);
@@ -84,6 +84,16 @@ pub(crate) fn append_refusal(
         return Some(AppendError::OpsSpent);
     }
     None
+}
+
+// What is staged comes before what is appended.
+pub(crate) fn staged_refusal(count: u64) -> Option<AppendError>
+    ensures { result ≡ first_refusal ((nat_lt 0 count, AppendError.Staged count) ∷ []) }
+{
+    if count == 0 {
+        return None;
+    }
+    Some(AppendError::Staged { count })
 }
 
 // Why a reply isn't stored.

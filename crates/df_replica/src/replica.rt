@@ -1,10 +1,12 @@
 // A replica: what it keeps in memory of the file that it works on, and what it tells of it.
 ghost use Rattle.std.specs.Prelude.{◌≡◌, ◌≤◌, false, length, slice_get};
-ghost use Rattle.df_replica.specs.Below.{is_running, memory};
+ghost use Rattle.df_opening.specs.Below.{IsUsable};
+ghost use Rattle.df_replica.specs.Below.{IsState, is_running, memory};
 ghost use Rattle.df_replica.specs.Replica.{summary_of};
 ghost use Rattle.df_replica.specs.Stopping.{stopped};
 
 use crate::Rooms;
+use df_format::SuperFields;
 use df_model::Summary;
 use df_opening::Parts;
 use df_sessions::Session;
@@ -71,6 +73,15 @@ impl Replica {
         ensures short { length result.now ≤ 1024 }
     {
         self.parts.root.as_slice()
+    }
+
+    /// What the superblock says: the file's layout and cluster, its durable checkpoint, and what was recorded with that.
+    pub fn fields(&self) -> &SuperFields
+        ensures value { result.now ≡ self.now.fields }
+        ensures usable { IsUsable self.now.fields }
+        ensures state { IsState self.now }
+    {
+        self.parts.content.fields()
     }
 
     /// The session at a place, None exactly where the place is past the table.

@@ -11,7 +11,7 @@ use Rattle.df_theory.specs.Units.{AnyUnit, BlockPlace, Message, Place, PreparePl
 use Rattle.df_theory.specs.View.{sessions}
 use Rattle.df_model.specs.After.{after_check, lookup_answer, place_of_client, prepare_answer, read_answer, shown_or, to_check}
 use Rattle.df_model.specs.Blocks.{addresses, entries, entry, reference_in, sum_at}
-use Rattle.df_model.specs.Commands.{Advance, Append, Begin, Command, ReadBlock, ReadPrepare, ReadReply, Recent, Release, Reply, Scrub, ToReadBlock, ToReadPrepare, ToReadReply, ToScrub, WriteBlock, Answer, as_answer}
+use Rattle.df_model.specs.Commands.{Advance, Append, Begin, Command, Flush, ReadBlock, ReadPrepare, ReadReply, Recent, Release, Reply, Scrub, Stage, ToReadBlock, ToReadPrepare, ToReadReply, ToScrub, WriteBlock, Answer, as_answer}
 use Rattle.df_model.specs.Memory.{Memory, memory_of, prepare_sum, reply_sum}
 use Rattle.df_model.specs.Refusals.{first_refusal, is_new, lookup_refusals, read_refusals, session_of_client}
 use Rattle.df_model.specs.Sense.{IsWork}
@@ -149,6 +149,8 @@ module _ (file : DataFile) (one other : Shown) (agree : AgreeShown file.layout o
 
   pub next_agrees : (c : Command) → by one c ≡ by other c
   next_agrees (Append client request body) = refl
+  next_agrees (Stage client request body) = refl
+  next_agrees Flush = refl
   next_agrees (Reply op body) = refl
   next_agrees (WriteBlock kind body) = refl
   next_agrees (Release address) = refl

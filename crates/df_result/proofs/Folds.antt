@@ -1,5 +1,5 @@
 -- Commands one after the other don't tell two things apart that agree.
-use Rattle.std.proofs.Common.{◌≡◌, ℕ, List, [], ◌∷◌, Option, Some, None, refl, ◌∙◌, ap, arith}
+use Rattle.std.proofs.Common.{◌≡◌, ℕ, ◌+◌, List, [], ◌∷◌, length, Option, Some, None, refl, ◌∙◌, ap, arith}
 use Rattle.df_base.proofs.Laws.{AreBytes-check_of, field_at-lt}
 use Rattle.df_format.specs.Making.{for_body}
 use Rattle.df_format.specs.Spelling.{spelling_rest}
@@ -7,12 +7,12 @@ use Rattle.df_format.specs.Super.{covered_bytes}
 use Rattle.df_format.specs.declared.header.Header.{Header}
 use Rattle.df_theory.specs.Units.{AnyUnit, BlockPlace, Place, PreparePlace, ReplyPlace, or_else}
 use Rattle.df_model.specs.Codec.{AreChecksums, IsChecksum}
-use Rattle.df_model.specs.Commands.{Advance, Answer, Append, Begin, Command, ReadBlock, ReadPrepare, ReadReply, Recent, Release, Reply, Scrub, WriteBlock, supplied_sums}
-use Rattle.df_model.specs.Making.{block_of, content_of, next_address, place_of_reply, prepare_of, reply_of, trailer_block}
+use Rattle.df_model.specs.Commands.{Advance, Answer, Append, Begin, Command, Flush, ReadBlock, ReadPrepare, ReadReply, Recent, Release, Reply, Scrub, Stage, WriteBlock, supplied_sums}
+use Rattle.df_model.specs.Making.{block_of, content_of, next_address, place_of_reply, prepare_in, prepare_of, reply_of, trailer_block}
 use Rattle.df_model.specs.Memory.{Course, Memory, memory_of}
 use Rattle.df_model.specs.Sense.{IsWork}
-use Rattle.df_model.specs.Supply.{Shown, checksum_given, next as over, puts_of, result, shown_after, step_sum, supplied, trailer_sum}
-use Rattle.df_model.specs.Work.{Work}
+use Rattle.df_model.specs.Supply.{Shown, checksums_given, group_sums, next as over, puts_of, result, shown_after, step_sum, supplied, trailer_sum}
+use Rattle.df_model.specs.Work.{Request, Work}
 use Rattle.df_model.proofs.Laws.{sense_law}
 use Rattle.df_replica.specs.Below.{DataFile, shape, spelling}
 use Rattle.df_replica.specs.Leaving.{IsReadPlace}
@@ -35,26 +35,36 @@ module _ (file : DataFile) (m : Memory) where
   step_small None = omega arith
   step_small (Some r) = left_small r r.left
 
-  given_small : (c : Command) → IsChecksum (checksum_given (codec file) m c)
-  given_small (Append client request body) = small (prepare_header file (prepare_of m 0 client request body).header) body
-  given_small (Reply op body) = small (reply_header file (place_of_reply m) (reply_of m 0 body).header) body
-  given_small (WriteBlock kind body) = small (block_header file (next_address m) (block_of m.content.boot 0 kind body)) body
-  given_small (Release address) = omega arith
-  given_small (Begin root) = omega arith
-  given_small Advance = step_small m.running
-  given_small (ReadPrepare op) = omega arith
-  given_small (ReadReply client) = omega arith
-  given_small (ReadBlock address) = omega arith
-  given_small Scrub = omega arith
-  given_small Recent = omega arith
+  group_small : (first last op parent : ℕ) (rs : List Request) → AreChecksums (group_sums (codec file) m first last op parent rs)
+  group_small first last op parent [] = tt
+  group_small first last op parent (r ∷ rs) =
+      let p = prepare_in m first last op parent 0 r in
+      (small (prepare_header file p.header) p.body, group_small first last (op + 1) ((codec file).prepare p) rs)
+
+  given_small : (c : Command) → AreChecksums (checksums_given (codec file) m c)
+  given_small (Append client request body) = (small (prepare_header file (prepare_of m 0 client request body).header) body, tt)
+  given_small (Stage client request body) = tt
+  given_small Flush = group_small (m.head + 1) (m.head + length m.staged) (m.head + 1) m.head_checksum m.staged
+  given_small (Reply op body) = (small (reply_header file (place_of_reply m) (reply_of m 0 body).header) body, tt)
+  given_small (WriteBlock kind body) = (small (block_header file (next_address m) (block_of m.content.boot 0 kind body)) body, tt)
+  given_small (Release address) = tt
+  given_small (Begin root) = tt
+  given_small Advance = (step_small m.running, tt)
+  given_small (ReadPrepare op) = tt
+  given_small (ReadReply client) = tt
+  given_small (ReadBlock address) = tt
+  given_small Scrub = tt
+  given_small Recent = tt
 
   supplied_small : (shown : Shown) (c : Command) → AreChecksums (supplied_sums (supplied (codec file) shown m c))
-  supplied_small shown (Append client request body) = (given_small (Append client request body), tt)
-  supplied_small shown (Reply op body) = (given_small (Reply op body), tt)
-  supplied_small shown (WriteBlock kind body) = (given_small (WriteBlock kind body), tt)
+  supplied_small shown (Append client request body) = given_small (Append client request body)
+  supplied_small shown (Stage client request body) = tt
+  supplied_small shown Flush = given_small Flush
+  supplied_small shown (Reply op body) = given_small (Reply op body)
+  supplied_small shown (WriteBlock kind body) = given_small (WriteBlock kind body)
   supplied_small shown (Release address) = tt
   supplied_small shown (Begin root) = tt
-  supplied_small shown Advance = (given_small Advance, tt)
+  supplied_small shown Advance = given_small Advance
   supplied_small shown (ReadPrepare op) = tt
   supplied_small shown (ReadReply client) = tt
   supplied_small shown (ReadBlock address) = tt
@@ -65,7 +75,7 @@ module _ (file : DataFile) (m : Memory) where
 
 module _ (file : DataFile) (one other : Shown) (m : Memory) (c : Command) (agree : AgreeShown file.layout one other) where
   abbrev put : Place → Option AnyUnit
-  put = puts_of m (checksum_given (codec file) m c) c
+  put = puts_of m (checksums_given (codec file) m c) c
 
   classes_then : (place : Place) → IsReadPlace file.layout place → (o : Option AnyUnit) → put place ≡ o → or_else o (one.units place) ≡ None → one.damage place ≡ other.damage place
   classes_then place read None is none = agree.classes place read none

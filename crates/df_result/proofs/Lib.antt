@@ -1,4 +1,5 @@
 pub mod Sums
+pub mod Groups
 pub mod Made
 pub mod Supplied
 pub mod Agreed

@@ -1,41 +1,46 @@
 -- A call answers and leaves what the machine does over what is shown.
-use Rattle.std.proofs.Common.{◌≡◌, inr, ℕ, Option, Some, None, refl, sym, ◌∙◌, ap, subst}
+use Rattle.std.proofs.Common.{◌≡◌, inr, ℕ, ◌+◌, ◌<◌, ◌≤◌, List, [], ◌∷◌, length, Option, Some, None, refl, sym, ◌∙◌, ap, subst, arith}
 use Rattle.df_base.specs.Image.{Image, IsImage}
 use Rattle.df_disk.specs.Told.{Told}
+use Rattle.df_layout.proofs.Laws.{some_slots}
 use Rattle.df_theory.specs.Units.{AnyUnit, BlockPlace, CopyPlace, HeaderPlace, Place, PreparePlace, ReplyPlace, Units, or_else, overlay}
 use Rattle.df_theory.specs.View.{PassesTests}
 use Rattle.df_units.specs.Bytes.{unit_at}
 use Rattle.df_units.specs.Wanted.{class_at}
-use Rattle.df_model.specs.Commands.{Advance, Answer, Append, Begin, Command, Given, ReadBlock, ReadPrepare, ReadReply, Recent, Release, Reply, Scrub, WriteBlock, supplied_sum}
+use Rattle.df_model.specs.Commands.{Advance, Answer, Append, Begin, Command, Flush, Given, ReadBlock, ReadPrepare, ReadReply, Recent, Release, Reply, Scrub, Stage, WriteBlock, supplied_sum, supplied_sums}
+use Rattle.df_model.specs.Making.{first_of}
 use Rattle.df_model.specs.Memory.{Memory, memory_of}
-use Rattle.df_model.specs.Supply.{Shown, checksum_given, next as over, puts_of, shown_after}
-use Rattle.df_model.specs.Work.{Work}
+use Rattle.df_model.specs.Supply.{Shown, checksums_given, next as over, puts_of, shown_after}
+use Rattle.df_model.specs.Work.{Request, Work}
+use Rattle.df_model.proofs.Laws.{length_in}
+use Rattle.df_replica.specs.Appending.{unit_of}
 use Rattle.df_replica.specs.Below.{RunningState, DataFile, State, course_in, memory, shape, spelling, told_after}
+use Rattle.df_replica.specs.Flushing.{group_in, header_in, sums_of, units_in}
 use Rattle.df_replica.specs.Leaving.{IsReadPlace, LeavesShown, image_after}
 use Rattle.df_replica.specs.Reading.{shown_of}
 use Rattle.df_replica.specs.Serving.{Firm, IsCall, Keeps, next}
 use Rattle.df_replica.specs.Stepping.{made_by}
 use Rattle.df_replica.specs.Supply.{IsSupplied}
 use Rattle.df_replica.proofs.Laws.{added_is_told, shown_after as shown_then}
-use Rattle.df_result.specs.Agreeing.{AgreeShown, IsFoundIn, IsSum}
+use Rattle.df_result.specs.Agreeing.{AgreeShown, AreSums, IsFoundIn}
 use Rattle.df_result.specs.Calls.{IsResult, OneMoreIsResult, SuppliedIsResult}
 use Rattle.df_result.specs.Codec.{IsOfFile, codec}
 use Rattle.df_result.proofs.Agreed.{next_agrees}
-use Rattle.df_result.proofs.Made.{NoSum, sum_made}
+use Rattle.df_result.proofs.Made.{AreAsMany, sums_made}
 use Rattle.df_result.proofs.Supplied.{next_is, puts_are}
 
 -- ---- what is shown then
 
-module _ (file : DataFile) (m : Memory) (sum : ℕ) (command : Command) (before after : Image) (shown : Shown) (leaves : LeavesShown file m sum command before after) (is : IsSum (codec file) m sum command)
+module _ (file : DataFile) (m : Memory) (sums : List ℕ) (command : Command) (before after : Image) (shown : Shown) (leaves : LeavesShown file m sums command before after) (is : AreSums (codec file) m sums command)
     (agree : AgreeShown file.layout (shown_of file before) shown) where
   abbrev under : Units
   under = unit_at file.layout file.cluster before
 
   abbrev puts : Units
-  puts = puts_of m sum command
+  puts = puts_of m sums command
 
   over_same : (place : Place) → under place ≡ shown.units place → overlay puts under place ≡ (shown_after (codec file) shown m command).units place
-  over_same place same = ap (λ (put : Units). or_else (put place) (under place)) (puts_are (codec file) m sum command is) ∙ ap (or_else (puts_of m (checksum_given (codec file) m command) command place)) same
+  over_same place same = ap (λ (put : Units). or_else (put place) (under place)) (puts_are (codec file) m sums command is) ∙ ap (or_else (puts_of m (checksums_given (codec file) m command) command place)) same
 
   unit_then : (place : Place) → IsReadPlace file.layout place → unit_at file.layout file.cluster after place ≡ overlay puts under place
   unit_then (CopyPlace k) read = absurd read
@@ -62,6 +67,8 @@ module _ (file : DataFile) (m : Memory) (sum : ℕ) (command : Command) (before 
 
 found_in : (s : State) (t : Told) (given : Given) (command : Command) → IsSupplied s (Some t) command given → IsFoundIn (shown_of s.file t.shown) (memory s) given command
 found_in s t given (Append client request body) is = tt
+found_in s t given (Stage client request body) is = tt
+found_in s t given Flush is = tt
 found_in s t given (Reply op body) is = tt
 found_in s t given (WriteBlock kind body) is = tt
 found_in s t given (Release address) is = tt
@@ -77,23 +84,32 @@ idle_sum : (s : State) (sum : ℕ) (o : Option RunningState) → s.running ≡ o
 idle_sum s sum None running is none = is
 idle_sum s sum (Some r) running is none = let no = sym (ap (course_in s.file s.blocks) running) ∙ none in absurd (cc)
 
-no_sum : (s : State) (told : Option Told) (given : Given) (command : Command) → IsSupplied s told command given → NoSum (memory s) (supplied_sum given) command
-no_sum s told given (Append client request body) is = tt
-no_sum s told given (Reply op body) is = tt
-no_sum s told given (WriteBlock kind body) is = tt
-no_sum s told given (Release address) is = ap supplied_sum is
-no_sum s told given (Begin root) is = ap supplied_sum is
-no_sum s told given Advance is = idle_sum s (supplied_sum given) s.running refl (ap supplied_sum is)
-no_sum s told given (ReadPrepare op) is = ap supplied_sum is.0
-no_sum s told given (ReadReply client) is = ap supplied_sum is.0
-no_sum s told given (ReadBlock address) is = ap supplied_sum is.0
-no_sum s told given Scrub is = ap supplied_sum is.0
-no_sum s told given Recent is = ap supplied_sum is
+made_count : (s : State) (op : ℕ) (parent : List ℕ) (rs : List Request) → length (sums_of (units_in (group_in s) op parent rs)) ≡ length rs
+made_count s op parent [] = refl
+made_count s op parent (r ∷ rs) = omega (arith, made_count s (op + 1) (unit_of (header_in (group_in s) op parent r) r.body).header.checksum rs)
+
+one_checksum : (given : Given) (x : ℕ) → supplied_sums given ≡ x ∷ [] → supplied_sums given ≡ supplied_sum given ∷ []
+one_checksum given x is = is ∙ sym (ap (λ (xs : List ℕ). first_of xs ∷ []) is)
+
+as_many : (s : State) (told : Option Told) (given : Given) (command : Command) → IsSupplied s told command given → AreAsMany (memory s) (supplied_sums given) command
+as_many s told given (Append client request body) is = one_checksum given _ (ap supplied_sums is)
+as_many s told given (Stage client request body) is = ap supplied_sums is
+as_many s told given Flush is = ap (λ (g : Given). length (supplied_sums g)) is ∙ made_count s (s.head + 1) s.head_checksum s.staged
+as_many s told given (Reply op body) is = one_checksum given _ (ap supplied_sums is)
+as_many s told given (WriteBlock kind body) is = one_checksum given _ (ap supplied_sums is)
+as_many s told given (Release address) is = ap supplied_sums is
+as_many s told given (Begin root) is = ap supplied_sums is
+as_many s told given Advance is = (one_checksum given _ (ap supplied_sums is), idle_sum s (supplied_sum given) s.running refl (ap supplied_sum is))
+as_many s told given (ReadPrepare op) is = ap supplied_sums is.0
+as_many s told given (ReadReply client) is = ap supplied_sums is.0
+as_many s told given (ReadBlock address) is = ap supplied_sums is.0
+as_many s told given Scrub is = ap supplied_sums is.0
+as_many s told given Recent is = ap supplied_sums is
 
 pub supplied_is_result : SuppliedIsResult
-supplied_is_result s w t command given rep supplied sum =
+supplied_is_result s w t command given rep supplied sums =
     next_is (shape s.file) (codec s.file) (shown_of s.file t.shown) w given command
-    (subst (λ (m : Memory). IsSum (codec s.file) m (supplied_sum given) command) rep sum)
+    (subst (λ (m : Memory). AreSums (codec s.file) m (supplied_sums given) command) rep sums)
     (subst (λ (m : Memory). IsFoundIn (shown_of s.file t.shown) m given command) rep (found_in s t given command supplied))
 
 -- ---- a call
@@ -104,6 +120,13 @@ of_file s w k =
     let tests : PassesTests (shape s.file) (memory s).content = subst (PassesTests (shape s.file)) (sym (ap (λ (m : Memory). m.content) k.1)) k.0.view.checkpoint.tests in
     record { version = inr (tests.version ∙ k.0.version.version); layout = tests.layout; cluster = tests.cluster; rest = tests.rest }
 
+-- a group of all that is staged has a slot for each
+few_staged : (s : State) (w : Work) → Keeps Firm s w None → (0 < (memory s).layout.slots) × (length (memory s).staged ≤ (memory s).layout.slots)
+few_staged s w k =
+    let m = memory_of (shape s.file) (spelling s.file) w in
+    let few : length m.staged ≤ m.layout.slots = omega (arith, k.0.staged.room, length_in m (m.head + 1) (m.head + length m.staged) (m.head + 1) m.head_checksum m.staged []) in
+    subst (λ (n : Memory). (0 < n.layout.slots) × (length n.staged ≤ n.layout.slots)) (sym k.1) (some_slots s.file.layout, few)
+
 module _ (given : Given) (command : Command) (s u : State) (t : Told) (new : Option Told) (answer : Answer) (w : Work) (shown : Shown) (call : IsCall given command s u (Some t) new (Some answer)) (k : Keeps Firm s w None)
     (whole : IsImage t.shown) (agree : AgreeShown s.file.layout (shown_of s.file t.shown) shown) where
   abbrev later : Image
@@ -112,17 +135,19 @@ module _ (given : Given) (command : Command) (s u : State) (t : Told) (new : Opt
   abbrev m : Memory
   m = memory_of (shape s.file) (spelling s.file) w
 
-  leaves : LeavesShown s.file (memory s) (supplied_sum given) command t.shown later
+  leaves : LeavesShown s.file (memory s) (supplied_sums given) command t.shown later
   leaves = call.leaves t.shown whole
 
-  sum : IsSum (codec s.file) (memory s) (supplied_sum given) command
-  sum = sum_made s.file (memory s) (supplied_sum given) t.shown later command (of_file s w k) (no_sum s (Some t) given command call.supplied) leaves (call.copies w k t.shown whole)
+  sums : AreSums (codec s.file) (memory s) (supplied_sums given) command
+  sums =
+      let few = few_staged s w k in
+      sums_made s.file (memory s) (supplied_sums given) t.shown later command (of_file s w k) few.0 few.1 (as_many s (Some t) given command call.supplied) leaves (call.copies w k t.shown whole)
 
   next_here : next s.file w given command ≡ over (shape s.file) (codec s.file) shown w command
-  next_here = supplied_is_result s w t command given k.1 call.supplied sum ∙ next_agrees s.file (shown_of s.file t.shown) shown agree w k.0 command
+  next_here = supplied_is_result s w t command given k.1 call.supplied sums ∙ next_agrees s.file (shown_of s.file t.shown) shown agree w k.0 command
 
   agrees_then : AgreeShown s.file.layout (shown_of s.file later) (shown_after (codec s.file) shown m command)
-  agrees_then = subst (λ (x : Memory). AgreeShown s.file.layout (shown_of s.file later) (shown_after (codec s.file) shown x command)) k.1 (shown_agrees s.file (memory s) (supplied_sum given) command t.shown later shown leaves sum agree)
+  agrees_then = subst (λ (x : Memory). AgreeShown s.file.layout (shown_of s.file later) (shown_after (codec s.file) shown x command)) k.1 (shown_agrees s.file (memory s) (supplied_sums given) command t.shown later shown leaves sums agree)
 
   goes : (answer ≡ (over (shape s.file) (codec s.file) shown w command).1) × Keeps Firm u (over (shape s.file) (codec s.file) shown w command).0 None
   goes = subst (λ (x : Work × Answer). (answer ≡ x.1) × Keeps Firm u x.0 None) next_here (call.answers Firm w k)

@@ -1,40 +1,43 @@
 -- A command that is rightly supplied, as far as it asks for it, answers and makes what it does over what is shown.
-use Rattle.std.proofs.Common.{◌≡◌, ℕ, ◌+◌, ◌%◌, Option, Some, None, Result, refl, ap}
+use Rattle.std.proofs.Common.{◌≡◌, ℕ, ◌+◌, ◌%◌, List, length, Option, Some, None, Result, refl, ap}
 use Rattle.df_layout.specs.declared.damage.Class.{Class}
 use Rattle.df_theory.specs.Units.{Block, BlockPlace, BlockUnit, Message, PreparePlace, PrepareUnit, ReplyPlace, ReplyUnit}
 use Rattle.df_theory.specs.Shape.{Shape}
 use Rattle.df_theory.specs.UnitLog.{put_one}
-use Rattle.df_model.specs.After.{after_check, after_step_of, outcome, prepare_answer, lookup_answer, read_answer, to_check, with_live, with_prepare, with_reply}
-use Rattle.df_model.specs.Commands.{Advance, Answer, Append, Begin, Command, Given, ReadBlock, ReadPrepare, ReadReply, Recent, Release, Reply, Scrub, ToAdvance, ToAppend, ToReadBlock, ToReadPrepare, ToReadReply, ToReply, ToScrub, ToWriteBlock, WriteBlock, after, as_answer, supplied_sum}
-use Rattle.df_model.specs.Making.{block_of, next_address, place_of_reply, prepare_of, reply_of}
+use Rattle.df_model.specs.After.{after_check, after_step_of, outcome, prepare_answer, lookup_answer, read_answer, to_check, with_group, with_live, with_prepare, with_reply}
+use Rattle.df_model.specs.Commands.{Advance, Answer, Append, Begin, Command, Flush, Given, ReadBlock, ReadPrepare, ReadReply, Recent, Release, Reply, Scrub, Stage, ToAdvance, ToAppend, ToFlush, ToReadBlock, ToReadPrepare, ToReadReply, ToReply, ToScrub, ToWriteBlock, WriteBlock, after, as_answer, supplied_sums}
+use Rattle.df_model.specs.Making.{block_of, first_of, group_of, next_address, place_of_reply, prepare_of, reply_of}
 use Rattle.df_model.specs.Memory.{Memory, memory_of}
-use Rattle.df_model.specs.Refusals.{append_refusals, block_refusals, first_refusal, reply_refusals}
-use Rattle.df_model.specs.Supply.{Codec, Shown, checksum_given, next, puts_of, step_puts, unless}
+use Rattle.df_model.specs.Refusals.{append_refusals, block_refusals, first_refusal, flush_refusals, reply_refusals}
+use Rattle.df_model.specs.Supply.{Codec, Shown, checksums_given, group_puts, next, puts_of, step_puts, unless}
 use Rattle.df_model.specs.Work.{Work}
 use Rattle.df_model.specs.declared.answers.Verdict.{Verdict}
 use Rattle.df_model.specs.declared.errors.AppendError.{AppendError}
 use Rattle.df_model.specs.declared.errors.BlockError.{BlockError}
+use Rattle.df_model.specs.declared.errors.FlushError.{FlushError}
 use Rattle.df_model.specs.declared.errors.ReplyError.{ReplyError}
-use Rattle.df_result.specs.Agreeing.{IsFoundIn, IsSum}
+use Rattle.df_result.specs.Agreeing.{AreSums, IsFoundIn}
 
--- what is made of a checksum, where a refusal makes the same of each
-by_refusal : {E X : Type 0} (f : Option E → ℕ → X) (o : Option E) (a b : ℕ) → ((e : E) → f (Some e) a ≡ f (Some e) b) → (o ≡ None → a ≡ b) → f o a ≡ f o b
+-- what is made of checksums, where a refusal makes the same of all
+by_refusal : {E X : Type 0} (f : Option E → List ℕ → X) (o : Option E) (a b : List ℕ) → ((e : E) → f (Some e) a ≡ f (Some e) b) → (o ≡ None → a ≡ b) → f o a ≡ f o b
 by_refusal f None a b refused same = ap (f None) (same refl)
 by_refusal f (Some e) a b refused same = refused e
 
-module _ (codec : Codec) (m : Memory) (sum : ℕ) where
-  -- it puts what it would with the codec's checksum
-  pub puts_are : (c : Command) → IsSum codec m sum c → puts_of m sum c ≡ puts_of m (checksum_given codec m c) c
+module _ (codec : Codec) (m : Memory) (sums : List ℕ) where
+  -- it puts what it would with the codec's checksums
+  pub puts_are : (c : Command) → AreSums codec m sums c → puts_of m sums c ≡ puts_of m (checksums_given codec m c) c
   puts_are (Append client request body) is =
-      by_refusal (λ (o : Option AppendError) (n : ℕ). unless o (put_one (PreparePlace ((m.head + 1) % m.layout.slots)) (PrepareUnit (prepare_of m n client request body)))) (first_refusal (append_refusals m client request body)) sum
-      (checksum_given codec m (Append client request body)) (λ e. refl) is
+      by_refusal (λ (o : Option AppendError) (ns : List ℕ). unless o (put_one (PreparePlace ((m.head + 1) % m.layout.slots)) (PrepareUnit (prepare_of m (first_of ns) client request body)))) (first_refusal (append_refusals m client request body)) sums
+      (checksums_given codec m (Append client request body)) (λ e. refl) is
+  puts_are (Stage client request body) is = refl
+  puts_are Flush is = by_refusal (λ (o : Option FlushError) (ns : List ℕ). unless o (group_puts m.layout.slots (group_of m ns))) (first_refusal (flush_refusals m)) sums (checksums_given codec m Flush) (λ e. refl) is
   puts_are (Reply op body) is =
-      by_refusal (λ (o : Option ReplyError) (n : ℕ). unless o (put_one (ReplyPlace (place_of_reply m)) (ReplyUnit (reply_of m n body)))) (first_refusal (reply_refusals m op body)) sum (checksum_given codec m (Reply op body)) (λ e. refl) is
+      by_refusal (λ (o : Option ReplyError) (ns : List ℕ). unless o (put_one (ReplyPlace (place_of_reply m)) (ReplyUnit (reply_of m (first_of ns) body)))) (first_refusal (reply_refusals m op body)) sums (checksums_given codec m (Reply op body)) (λ e. refl) is
   puts_are (WriteBlock kind body) is =
-      by_refusal (λ (o : Option BlockError) (n : ℕ). unless o (put_one (BlockPlace (next_address m)) (BlockUnit (block_of m.content.boot n kind body)))) (first_refusal (block_refusals m kind body)) sum (checksum_given codec m (WriteBlock kind body)) (λ e. refl) is
+      by_refusal (λ (o : Option BlockError) (ns : List ℕ). unless o (put_one (BlockPlace (next_address m)) (BlockUnit (block_of m.content.boot (first_of ns) kind body)))) (first_refusal (block_refusals m kind body)) sums (checksums_given codec m (WriteBlock kind body)) (λ e. refl) is
   puts_are (Release address) is = refl
   puts_are (Begin root) is = refl
-  puts_are Advance is = ap (step_puts m m.running) is
+  puts_are Advance is = ap (λ (ns : List ℕ). step_puts m m.running (first_of ns)) is
   puts_are (ReadPrepare op) is = refl
   puts_are (ReadReply client) is = refl
   puts_are (ReadBlock address) is = refl
@@ -45,19 +48,22 @@ module _ (sh : Shape) (codec : Codec) (shown : Shown) (w : Work) (given : Given)
   abbrev m : Memory
   m = memory_of sh codec.spell w
 
-  pub next_is : (c : Command) → IsSum codec m (supplied_sum given) c → IsFoundIn shown m given c → after sh codec.spell w given c ≡ next sh codec shown w c
+  pub next_is : (c : Command) → AreSums codec m (supplied_sums given) c → IsFoundIn shown m given c → after sh codec.spell w given c ≡ next sh codec shown w c
   next_is (Append client request body) is found =
-      by_refusal (λ (o : Option AppendError) (n : ℕ). as_answer ToAppend (outcome o w (with_prepare w (prepare_of m n client request body)) (m.head + 1, n))) (first_refusal (append_refusals m client request body)) (supplied_sum given)
-      (checksum_given codec m (Append client request body)) (λ e. refl) is
+      by_refusal (λ (o : Option AppendError) (ns : List ℕ). as_answer ToAppend (outcome o w (with_prepare w (prepare_of m (first_of ns) client request body)) (m.head + 1, first_of ns))) (first_refusal (append_refusals m client request body)) (supplied_sums given)
+      (checksums_given codec m (Append client request body)) (λ e. refl) is
+  next_is (Stage client request body) is found = refl
+  next_is Flush is found =
+      by_refusal (λ (o : Option FlushError) (ns : List ℕ). as_answer ToFlush (outcome o w (with_group w (group_of m ns)) (length w.staged))) (first_refusal (flush_refusals m)) (supplied_sums given) (checksums_given codec m Flush) (λ e. refl) is
   next_is (Reply op body) is found =
-      by_refusal (λ (o : Option ReplyError) (n : ℕ). as_answer ToReply (outcome o w (with_reply w (place_of_reply m) (reply_of m n body)) n)) (first_refusal (reply_refusals m op body)) (supplied_sum given) (checksum_given codec m (Reply op body))
+      by_refusal (λ (o : Option ReplyError) (ns : List ℕ). as_answer ToReply (outcome o w (with_reply w (place_of_reply m) (reply_of m (first_of ns) body)) (first_of ns))) (first_refusal (reply_refusals m op body)) (supplied_sums given) (checksums_given codec m (Reply op body))
       (λ e. refl) is
   next_is (WriteBlock kind body) is found =
-      by_refusal (λ (o : Option BlockError) (n : ℕ). as_answer ToWriteBlock (outcome o w (with_live w (next_address m) (Some n)) (next_address m, n))) (first_refusal (block_refusals m kind body)) (supplied_sum given)
-      (checksum_given codec m (WriteBlock kind body)) (λ e. refl) is
+      by_refusal (λ (o : Option BlockError) (ns : List ℕ). as_answer ToWriteBlock (outcome o w (with_live w (next_address m) (Some (first_of ns))) (next_address m, first_of ns))) (first_refusal (block_refusals m kind body)) (supplied_sums given)
+      (checksums_given codec m (WriteBlock kind body)) (λ e. refl) is
   next_is (Release address) is found = refl
   next_is (Begin root) is found = refl
-  next_is Advance is found = ap (λ (n : ℕ). as_answer ToAdvance (after_step_of sh codec.spell w n w.running)) is
+  next_is Advance is found = ap (λ (ns : List ℕ). as_answer ToAdvance (after_step_of sh codec.spell w (first_of ns) w.running)) is
   next_is (ReadPrepare op) is found = ap (λ (x : Result Message Class). let y : Work × Answer = (w, ToReadPrepare (prepare_answer m x op)) in y) found
   next_is (ReadReply client) is found = ap (λ (x : Result Message Class). let y : Work × Answer = (w, ToReadReply (lookup_answer m x client)) in y) found
   next_is (ReadBlock address) is found = ap (λ (x : Result Block Class). let y : Work × Answer = (w, ToReadBlock (read_answer m x address)) in y) found

@@ -1,13 +1,13 @@
 -- Two things that a device may show which no command tells apart, and a command over what is shown, whatever else it was supplied with.
-use Rattle.std.specs.Prelude.{◌≡◌, ℕ, None}
+use Rattle.std.specs.Prelude.{◌≡◌, ℕ, List, [], None}
 use Rattle.df_layout.specs.declared.layout.Layout.{Layout}
 use Rattle.df_theory.specs.Units.{Place}
 use Rattle.df_model.specs.After.{to_check}
-use Rattle.df_model.specs.Commands.{Advance, Append, Command, Given, ReadBlock, ReadPrepare, ReadReply, Reply, Scrub, WriteBlock, supplied_block, supplied_message, supplied_verdict}
+use Rattle.df_model.specs.Commands.{Advance, Append, Command, Flush, Given, ReadBlock, ReadPrepare, ReadReply, Reply, Scrub, WriteBlock, supplied_block, supplied_message, supplied_verdict}
 use Rattle.df_model.specs.Memory.{Memory}
-use Rattle.df_model.specs.Refusals.{append_refusals, block_refusals, first_refusal, reply_refusals}
+use Rattle.df_model.specs.Refusals.{append_refusals, block_refusals, first_refusal, flush_refusals, reply_refusals}
 use Rattle.df_model.specs.Result.{AgreeReads}
-use Rattle.df_model.specs.Supply.{Codec, Shown, block_read, checksum_given, first_check, message_given, step_sum}
+use Rattle.df_model.specs.Supply.{Codec, Shown, block_read, checksums_given, first_check, message_given}
 use Rattle.df_replica.specs.Leaving.{IsReadPlace}
 
 -- the same units at each place that a command reads, and where the layout has the place and it shows none, the same class
@@ -17,13 +17,14 @@ pub record AgreeShown (layout : Layout) (one other : Shown) : Type 0 where
 
 -- ---- what a command is supplied with, as far as it asks for it
 
--- the checksum is the codec's; a command that is refused makes nothing, and asks for none
-abbrev pub IsSum : Codec → Memory → (sum : ℕ) → Command → Type 0
-IsSum codec m sum (Append client request body) = first_refusal (append_refusals m client request body) ≡ None → sum ≡ checksum_given codec m (Append client request body)
-IsSum codec m sum (Reply op body) = first_refusal (reply_refusals m op body) ≡ None → sum ≡ checksum_given codec m (Reply op body)
-IsSum codec m sum (WriteBlock kind body) = first_refusal (block_refusals m kind body) ≡ None → sum ≡ checksum_given codec m (WriteBlock kind body)
-IsSum codec m sum Advance = sum ≡ step_sum codec m m.running
-IsSum codec m sum command = sum ≡ 0
+-- the checksums are the codec's; a command that is refused makes nothing, and asks for none
+abbrev pub AreSums : Codec → Memory → (sums : List ℕ) → Command → Type 0
+AreSums codec m sums (Append client request body) = first_refusal (append_refusals m client request body) ≡ None → sums ≡ checksums_given codec m (Append client request body)
+AreSums codec m sums Flush = first_refusal (flush_refusals m) ≡ None → sums ≡ checksums_given codec m Flush
+AreSums codec m sums (Reply op body) = first_refusal (reply_refusals m op body) ≡ None → sums ≡ checksums_given codec m (Reply op body)
+AreSums codec m sums (WriteBlock kind body) = first_refusal (block_refusals m kind body) ≡ None → sums ≡ checksums_given codec m (WriteBlock kind body)
+AreSums codec m sums Advance = sums ≡ checksums_given codec m Advance
+AreSums codec m sums command = sums ≡ []
 
 -- what a read finds, or a check, is what is shown
 abbrev pub IsFoundIn : Shown → Memory → Given → Command → Type 0

@@ -2,7 +2,7 @@
 use Rattle.std.specs.Prelude.{◌≡◌, List, [], ◌∷◌, Option, Some, None}
 use Rattle.df_base.specs.Image.{IsImage}
 use Rattle.df_disk.specs.Told.{Told}
-use Rattle.df_model.specs.Commands.{Answer, Command, Given, IsInRange, supplied_sum}
+use Rattle.df_model.specs.Commands.{Answer, Command, Given, IsInRange, supplied_sums}
 use Rattle.df_model.specs.Memory.{memory_of}
 use Rattle.df_model.specs.Sense.{IsWork}
 use Rattle.df_model.specs.Supply.{Shown, next as over, result, shown_after}
@@ -11,7 +11,7 @@ use Rattle.df_replica.specs.Below.{DataFile, Represents, State, memory, shape, s
 use Rattle.df_replica.specs.Reading.{shown_of}
 use Rattle.df_replica.specs.Serving.{Firm, IsCall, Keeps, next}
 use Rattle.df_replica.specs.Supply.{IsSupplied}
-use Rattle.df_result.specs.Agreeing.{AgreeShown, IsSum}
+use Rattle.df_result.specs.Agreeing.{AgreeShown, AreSums}
 use Rattle.df_result.specs.Codec.{codec}
 
 -- no command tells apart what agrees
@@ -33,7 +33,7 @@ ResultAgrees =
 -- a command that is rightly supplied over what a disk shows is the machine's over that
 abbrev pub SuppliedIsResult : Type 0
 SuppliedIsResult =
-    (s : State) (w : Work) (t : Told) (command : Command) (given : Given) → Represents s w → IsSupplied s (Some t) command given → IsSum (codec s.file) (memory s) (supplied_sum given) command
+    (s : State) (w : Work) (t : Told) (command : Command) (given : Given) → Represents s w → IsSupplied s (Some t) command given → AreSums (codec s.file) (memory s) (supplied_sums given) command
     → next s.file w given command ≡ over (shape s.file) (codec s.file) (shown_of s.file t.shown) w command
 
 -- the answer, the state behind it, and what is shown then, are the machine's over this

@@ -11,6 +11,7 @@ pub use Rattle.df_replica.specs.Replica
 pub use Rattle.df_replica.specs.Surveying
 pub use Rattle.df_replica.specs.Stopping
 pub use Rattle.df_replica.specs.Appending
+pub use Rattle.df_replica.specs.Flushing
 pub use Rattle.df_replica.specs.Answering
 pub use Rattle.df_replica.specs.Replying
 pub use Rattle.df_replica.specs.Beginning

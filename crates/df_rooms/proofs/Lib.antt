@@ -1,3 +1,5 @@
 pub mod Laws
 mod SameFile
 mod Records
+mod Stagings
+mod Asking

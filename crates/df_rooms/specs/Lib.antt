@@ -1,4 +1,5 @@
 pub mod State
+pub mod Stagings
 pub mod Recorded
 pub mod Courses
 pub mod Parts

@@ -1,5 +1,5 @@
 -- What a replica keeps in memory of its file, and what that is in the words of the machine.
-use Rattle.std.specs.Prelude.{◌≡◌, ◌<◌, ◌≤◌, ◌+◌, ◌-◌, ◌%◌, ◌^◌, ℕ, Bool, true, List, length, map, slice_get, Option, Some, None}
+use Rattle.std.specs.Prelude.{◌≡◌, ◌<◌, ◌≤◌, ◌+◌, ◌-◌, ◌%◌, ◌^◌, ℕ, Bool, true, List, [], ◌∷◌, length, map, slice_get, Option, Some, None}
 use Rattle.std.specs.List.{range_with_len}
 use Rattle.df_format.specs.Copies.{content_with}
 use Rattle.df_format.specs.Spelling.{IsCheck, no_checksum}
@@ -8,11 +8,13 @@ use Rattle.df_format.specs.SuperRules.{IsSecondSuper}
 use Rattle.df_format.specs.declared.header.Header.{Header}
 use Rattle.df_format.specs.declared.superblock.SuperFields.{SuperFields}
 use Rattle.df_layout.specs.declared.damage.Finding.{Finding}
+use Rattle.df_layout.specs.declared.layout.Layout.{Layout}
 use Rattle.df_headers.specs.Ring.{IsTable}
 use Rattle.df_journal.specs.Tail.{AreNumbered}
 use Rattle.df_sessions.specs.Requests.{sessions_of}
 use Rattle.df_sessions.specs.declared.session.Session.{Session}
 use Rattle.df_sessions.specs.Table.{Table}
+use Rattle.df_theory.specs.Next.{MayAskInTurn}
 use Rattle.df_theory.specs.Sessions.{Tracks}
 use Rattle.df_theory.specs.Trailer.{IsCount, greatest_trailer}
 use Rattle.df_theory.specs.Units
@@ -21,7 +23,7 @@ use Rattle.df_theory.specs.Shape.{Shape}
 use Rattle.df_units.specs.Superblocks.{AreFieldsOf}
 use Rattle.df_model.specs.Blocks.{Blocks, sum_at}
 use Rattle.df_model.specs.Memory.{Course, Memory, memory_of}
-use Rattle.df_model.specs.Work.{Tour, Work}
+use Rattle.df_model.specs.Work.{Request, Tour, Work}
 use Rattle.df_checkpoint.specs.Below.{spell, parse_of, captured_parts, shape_as, content_of, layout_of, number_of}
 use Rattle.df_grid.specs.Grid.{GridState}
 use Rattle.df_grid.specs.Table.{IsIdle}
@@ -48,6 +50,7 @@ pub record State : Type 0 where
   pub replies : ℕ
   pub table : Table
   pub waiting : List (List ℕ)  -- the checksums of the prepares that wait for their replies, in order of op
+  pub staged : List Request  -- what the next flush appends as one group, in order
   pub headers : List Header  -- what the header ring shows, or is to show once it is mended, slot by slot
   pub blocks : Blocks  -- what the grid holds
   pub running : Option RunningState
@@ -111,6 +114,7 @@ memory s = record {
   prepares = map (prepare_sum s) (range_with_len (s.fields.op + 1) (s.head - s.fields.op));
   stored = map stored_sum s.table.sessions;
   waiting = map number_of s.waiting;
+  staged = s.staged;
   blocks = s.blocks;
   running = course_in s.file s.blocks s.running;
   tour = s.tour;
@@ -220,6 +224,32 @@ pub record AwaitsReplies (clients head replies : ℕ) (unanswered : List (List �
   pub asked : AreAsked (sessions_of table.sessions)
   pub tracks : Tracks replies head (sessions_of table.sessions)
 
+-- a staged request as sessions see the header of its prepare, with this op, where this many replies are stored
+abbrev pub asker_of : (replies op : ℕ) → Request → Units.Header
+asker_of replies op r = record { checksum = 0; parent = 0; client = r.client; op = op; request = r.request; mark = replies; checkpoint = 0; boot = 0; group = 0; group_last = 0 }
+
+-- and all of them, from this op on
+abbrev pub asks_of : (replies op : ℕ) → List Request → List Units.Message
+asks_of replies op [] = []
+asks_of replies op (r ∷ rs) = record { header = asker_of replies op r; body = [] } ∷ asks_of replies (op + 1) rs
+
+-- a request that a prepare of the file can have
+pub record IsRequest (layout : Layout) (r : Request) : Type 0 where
+  pub client : (0 < r.client) × (r.client < 2 ^ 128)
+  pub request : (0 < r.request) × (r.request ≤ 2 ^ 62)
+  pub fits : 256 + length r.body ≤ layout.message_size
+
+-- what is staged may be appended as one group: no more than eight prepares would wait, slots and ops are left for it, and each client asks in its turn
+pub record Stages (layout : Layout) (op head replies : ℕ) (sessions : List Units.Session) (requests : List Request) : Type 0 where
+  pub pipeline : head + length requests ≤ replies + 8
+  pub behind : head + length requests ≤ op + layout.slots
+  pub unspent : head + length requests ≤ 2 ^ 62
+  pub each : (i : ℕ) (r : Request) → slice_get requests i ≡ Some r → IsRequest layout r
+  pub asks : MayAskInTurn layout.clients sessions (asks_of replies (head + 1) requests)
+
+abbrev pub AreStaging : State → Type 0
+AreStaging s = Stages s.file.layout s.fields.op s.head s.replies (sessions_of s.table.sessions) s.staged
+
 -- the state makes sense by itself: its numbers are in their ranges, and its parts go together
 pub record IsState (s : State) : Type 0 where
   pub in_file : AreInFile s.file s.fields s.root s.headers
@@ -229,5 +259,6 @@ pub record IsState (s : State) : Type 0 where
   pub open ends use *
   pub awaits : AwaitsReplies s.file.layout.clients s.head s.replies s.waiting s.table
   pub open awaits use *
+  pub staging : AreStaging s
   pub captured : IsLevel s.head s.head_checksum s.running
   pub course : IsCourse s.file s.fields s.head s.blocks s.running

@@ -9,6 +9,7 @@ mod recorded;
 mod rooms;
 mod running;
 mod scrub_rooms;
+mod staging;
 mod trailer_rooms;
 
 pub use file::DataFile;
@@ -19,4 +20,5 @@ pub use recorded::stored_checks;
 pub use rooms::Rooms;
 pub use running::RunningCheckpoint;
 pub use scrub_rooms::ScrubRooms;
+pub use staging::Staging;
 pub use trailer_rooms::TrailerRooms;

@@ -2,7 +2,9 @@
 ghost use Rattle.std.specs.Prelude.{◌≡◌};
 ghost use Rattle.df_rooms.specs.Parts.{AreWhole, state_in, summary_of};
 
-use crate::{DataFile, GridRooms, LogRooms, Rooms, RunningCheckpoint, ScrubRooms, TrailerRooms};
+use crate::{
+    DataFile, GridRooms, LogRooms, Rooms, RunningCheckpoint, ScrubRooms, Staging, TrailerRooms,
+};
 use arrayvec::ArrayVec;
 use df_base::Check;
 use df_format::Super;
@@ -30,6 +32,8 @@ pub struct Parts {
     pub running: Option<RunningCheckpoint>,
     pub trailer: TrailerRooms,
     pub scrub: ScrubRooms,
+    /// What the next flush appends.
+    pub staging: Staging,
 }
 
 // Their owner lets go of them in one call, and not field by field.
@@ -50,6 +54,7 @@ impl Drop for Parts {
             running: _,
             trailer: _,
             scrub: _,
+            staging: _,
         } = self;
     }
 }
@@ -61,11 +66,13 @@ pub fn rooms_of(
     grid: Grid,
     trailer: TrailerRooms,
     scrub: ScrubRooms,
+    staging: Staging,
 ) -> Rooms
     requires log { log.layout ≡ layout }
     requires grid { grid.layout ≡ layout }
     requires trailer { trailer.layout ≡ layout }
     requires scrub { scrub.layout ≡ layout }
+    requires staging { staging.layout ≡ layout }
     ensures { result.layout ≡ layout }
 {
     Rooms {
@@ -74,6 +81,7 @@ pub fn rooms_of(
         grid: GridRooms::of(grid),
         trailer,
         scrub,
+        staging,
     }
 }
 
@@ -106,6 +114,7 @@ impl Parts {
             grid,
             trailer,
             scrub,
+            staging,
             content: _,
             root: _,
             live: _,
@@ -116,6 +125,6 @@ impl Parts {
             sessions: _,
             waiting: _,
         } = self;
-        rooms_of(file.layout, rooms, grid, trailer, scrub)
+        rooms_of(file.layout, rooms, grid, trailer, scrub, staging)
     }
 }

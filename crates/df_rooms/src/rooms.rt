@@ -1,7 +1,7 @@
 // All the rooms of a replica, whose memory is taken in one call.
 ghost use Rattle.std.specs.Prelude.{◌≡◌, IfOk};
 
-use crate::{GridRooms, LogRooms, ScrubRooms, TrailerRooms};
+use crate::{GridRooms, LogRooms, ScrubRooms, Staging, TrailerRooms};
 use df_base::OutOfMemory;
 use df_layout::Layout;
 use std::alloc::Global;
@@ -13,10 +13,12 @@ pub struct Rooms {
     pub grid: GridRooms,
     pub trailer: TrailerRooms,
     pub scrub: ScrubRooms,
+    pub staging: Staging,
     pub ghost log_fits: { log.layout ≡ layout },
     pub ghost grid_fits: { grid.layout ≡ layout },
     pub ghost trailer_fits: { trailer.layout ≡ layout },
     pub ghost scrub_fits: { scrub.layout ≡ layout },
+    pub ghost staging_fits: { staging.layout ≡ layout },
 }
 
 // Its owner lets go of it in one call, and not field by field.
@@ -28,6 +30,7 @@ impl Drop for Rooms {
             grid: _,
             trailer: _,
             scrub: _,
+            staging: _,
         } = self;
     }
 }
@@ -41,21 +44,24 @@ impl Rooms {
         let grid = GridRooms::reserve(alloc, layout)?;
         let trailer = TrailerRooms::reserve(alloc, layout)?;
         let scrub = ScrubRooms::reserve(alloc, layout)?;
+        let staging = Staging::reserve(alloc, layout)?;
         Ok(Rooms {
             layout: *layout,
             log,
             grid,
             trailer,
             scrub,
+            staging,
         })
     }
 
-    /// Takes the rooms apart: those of the log zones, of the grid, of the trailer and of the scrubber.
-    pub fn into_parts(self) -> (LogRooms, GridRooms, TrailerRooms, ScrubRooms)
+    /// Takes the rooms apart: those of the log zones, of the grid, of the trailer, of the scrubber and of what is staged.
+    pub fn into_parts(self) -> (LogRooms, GridRooms, TrailerRooms, ScrubRooms, Staging)
         ensures log { result.0.layout ≡ self.layout }
         ensures grid { result.1.layout ≡ self.layout }
         ensures trailer { result.2.layout ≡ self.layout }
         ensures scrub { result.3.layout ≡ self.layout }
+        ensures staging { result.4.layout ≡ self.layout }
     {
         let Rooms {
             layout: _,
@@ -63,8 +69,9 @@ impl Rooms {
             grid,
             trailer,
             scrub,
+            staging,
         } = self;
-        (log, grid, trailer, scrub)
+        (log, grid, trailer, scrub, staging)
     }
 
     /// The layout that the rooms were reserved for.

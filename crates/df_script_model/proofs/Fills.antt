@@ -111,5 +111,5 @@ module _ (sh : Shape) (k : ℕ) (room : k < sh.layout.blocks) where
   line_is shown = (λ i. as_answer ToWriteBlock (outcome (none i) w (with_live w (address_is i) (Some 3000)) (address_is i, 3000))) ∙ ap (λ (u : Work). (u, ToWriteBlock (Ok (k + 1, 3000)))) (live_over sh k)
 
   -- and shows the block there
-  pub puts_are : puts_of (memory_of sh (plain sh).spell w) 3000 (WriteBlock 1 []) ≡ put_one (BlockPlace (k + 1)) (BlockUnit (block_of 1 3000 1 []))
+  pub puts_are : puts_of (memory_of sh (plain sh).spell w) (3000 ∷ []) (WriteBlock 1 []) ≡ put_one (BlockPlace (k + 1)) (BlockUnit (block_of 1 3000 1 []))
   puts_are = λ i. unless (none i) (put_one (BlockPlace (address_is i)) (BlockUnit (block_of 1 3000 1 [])))

@@ -2,11 +2,19 @@
 use Rattle.std.proofs.Common.{refl}
 use Rattle.std.specs.Fmt.{digits}
 use Rattle.hex.specs.Hex.{encode_with}
-use Rattle.df_script_model.specs.Sessions.{BlockSession, FirstSession, FullGrid, FullPipeline, FullTable, RingSession, ScrubSession}
+use Rattle.df_script_model.specs.Sessions.{BlockSession, FirstSession, FullGrid, FullPipeline, FullStaged, FullTable, GroupSession, RingSession, ScrubSession}
 
 pub first_session : FirstSession
 unfolding digits encode_with
 first_session named some = refl
+
+pub group_session : GroupSession
+unfolding digits encode_with
+group_session named some = refl
+
+pub full_staged : FullStaged
+unfolding digits encode_with
+full_staged named some = (refl, refl)
 
 pub ring_session : RingSession
 unfolding digits encode_with

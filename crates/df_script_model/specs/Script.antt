@@ -3,9 +3,9 @@ use Rattle.std.specs.Prelude.{◌≡◌, ℕ, List, [], ◌∷◌, codes}
 use Rattle.df_theory.specs.Shape.{Shape}
 use Rattle.df_model.specs.Work.{Work}
 use Rattle.df_model.specs.Memory.{memory_of}
-use Rattle.df_model.specs.Commands.{Answer, Command, ReadBlock, Release, Reply, ToAdvance, ToAppend, ToBegin, ToReadBlock, ToReadPrepare, ToReadReply, ToRecent, ToRelease, ToReply, ToScrub, ToWriteBlock}
+use Rattle.df_model.specs.Commands.{Answer, Command, ReadBlock, Release, Reply, ToAdvance, ToAppend, ToBegin, ToFlush, ToReadBlock, ToReadPrepare, ToReadReply, ToRecent, ToRelease, ToReply, ToScrub, ToStage, ToWriteBlock}
 use Rattle.df_model.specs.Supply.{Codec, Shown, next, result, shown_after}
-use Rattle.df_script_model.specs.Texts.{append_refusal, begin_refusal, block_refusal, block_text, line_of, lookup_refusal, message_text, numbered, prepare_refusal, progress_text, read_refusal, recent_text, reply_refusal, scrubbed_text, step_refusal, text_or}
+use Rattle.df_script_model.specs.Texts.{append_refusal, begin_refusal, block_refusal, block_text, flush_refusal, line_of, lookup_refusal, message_text, numbered, prepare_refusal, progress_text, read_refusal, recent_text, reply_refusal, scrubbed_text, step_refusal, text_or}
 
 -- the number that a line names: a line `release ADDRESS` or `read ADDRESS` is answered with its address
 abbrev pub address_in : Command → ℕ
@@ -21,6 +21,8 @@ op_in command = 0
 -- the line that the answer to a command is printed as
 abbrev pub answer_text : Command → Answer → List ℕ
 answer_text c (ToAppend answer) = text_or append_refusal (λ done. line_of (numbered (codes "appended") done.0)) answer
+answer_text c (ToStage answer) = text_or append_refusal (λ op. line_of (numbered (codes "staged") op)) answer
+answer_text c (ToFlush answer) = text_or flush_refusal (λ count. line_of (numbered (codes "flushed") count)) answer
 answer_text c (ToReply answer) = text_or reply_refusal (λ sum. line_of (numbered (codes "replied") (op_in c))) answer
 answer_text c (ToWriteBlock answer) = text_or block_refusal (λ done. line_of (numbered (codes "wrote") done.0)) answer
 answer_text c (ToRelease answer) = text_or (λ e. codes "refused NotLive\n") (λ done. line_of (numbered (codes "released") (address_in c))) answer

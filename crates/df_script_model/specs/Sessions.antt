@@ -9,7 +9,7 @@ use Rattle.df_theory.specs.View.{View}
 use Rattle.df_model.specs.Work.{Work, kept, opened}
 use Rattle.df_model.specs.Blocks.{entries}
 use Rattle.df_model.specs.Making.{block_of, named_places}
-use Rattle.df_model.specs.Commands.{Advance, Append, Begin, Command, ReadBlock, ReadPrepare, ReadReply, Recent, Release, Reply, Scrub, WriteBlock}
+use Rattle.df_model.specs.Commands.{Advance, Append, Begin, Command, Flush, ReadBlock, ReadPrepare, ReadReply, Recent, Release, Reply, Scrub, Stage, WriteBlock}
 use Rattle.df_model.specs.Supply.{Codec, Shown, begun_from, last_shown, last_work, nothing}
 use Rattle.df_script_model.specs.Script.{printed}
 
@@ -89,6 +89,28 @@ FirstSession =
     )
     ≡ codes "appended 1\n" ∷ codes "replied 1\n" ∷ codes "reply 1 client 5 request 1 mark 1 checkpoint 1 body aa\n" ∷ codes "refused Repeated op 1\n" ∷ codes "refused RequestOrder expected 2\n" ∷ codes "appended 2\n" ∷ codes "refused ReplyPending op 2\n"
     ∷ codes "refused ReplyPending op 2\n" ∷ codes "refused NoClient\n" ∷ codes "prepare 2 client 5 request 2 mark 1 checkpoint 1 body 0102\n" ∷ codes "refused NotKept first 1 last 2\n" ∷ codes "refused ReplyOrder expected 2\n" ∷ codes "refused ClientZero\n" ∷ []
+
+-- requests are staged, and flushed as one group
+abbrev pub GroupSession : Type 0
+GroupSession =
+    (named : 0 < 7) (some : 0 < 32)
+    → session (small named some) (
+    Stage 1 1 (170 ∷ []) ∷ Stage 2 1 [] ∷ Stage 1 2 [] ∷ Append 3 1 [] ∷ ReadPrepare 1 ∷ Flush ∷ Flush ∷ ReadPrepare 2 ∷ Reply 1 [] ∷ Stage 1 2 [] ∷ Reply 2 [] ∷ Flush ∷ ReadPrepare 3 ∷ Append 3 1 [] ∷ []
+    )
+    ≡ codes "staged 1\n" ∷ codes "staged 2\n" ∷ codes "refused ReplyPending op 1\n" ∷ codes "refused Staged count 2\n" ∷ codes "refused NotKept first 1 last 0\n" ∷ codes "flushed 2\n" ∷ codes "refused NothingStaged\n"
+    ∷ codes "prepare 2 client 2 request 1 mark 0 checkpoint 1 body -\n" ∷ codes "replied 1\n" ∷ codes "staged 3\n" ∷ codes "replied 2\n" ∷ codes "flushed 1\n" ∷ codes "prepare 3 client 1 request 2 mark 2 checkpoint 1 body -\n" ∷ codes "appended 4\n" ∷ []
+
+-- the first request of n clients, from this one on, is staged
+abbrev pub stages_from : ℕ → ℕ → List Command
+stages_from k zero = []
+stages_from k (suc n) = Stage k 1 [] ∷ stages_from (k + 1) n
+
+-- what is staged has its place among the sessions, and waits for its reply
+abbrev pub FullStaged : Type 0
+FullStaged =
+    (named : 0 < 7) (some : 0 < 32)
+    → (drop 4 (session (small named some) (stages_from 1 5)) ≡ codes "refused ClientsFull max 4\n" ∷ [])
+    × (drop 8 (session (file 32 8192 16 16384 64 named some) (stages_from 1 9 ++ Flush ∷ [])) ≡ codes "refused PipelineFull waiting 8\n" ∷ codes "flushed 8\n" ∷ [])
 
 -- n requests of client 1 from this one on, each with its reply
 abbrev pub requests_from : ℕ → ℕ → List Command

@@ -10,6 +10,8 @@ use Rattle.df_layout.specs.declared.damage.Finding.{Finding}
 use Rattle.df_theory.specs.Units.{Block, Message}
 use Rattle.df_model.specs.declared.errors.AppendError.{AppendError}
 use Rattle.df_model.specs.declared.errors.AppendError.TheVariants as append
+use Rattle.df_model.specs.declared.errors.FlushError.{FlushError}
+use Rattle.df_model.specs.declared.errors.FlushError.TheVariants as flush
 use Rattle.df_model.specs.declared.errors.ReplyError.{ReplyError}
 use Rattle.df_model.specs.declared.errors.ReplyError.TheVariants as reply
 use Rattle.df_model.specs.declared.errors.BlockError.{BlockError}
@@ -81,6 +83,11 @@ append_refusal (append.PipelineFull waiting) = line_of (numbered (codes "refused
 append_refusal (append.WalFull op checkpoint_op) = line_of (spaced (numbered (codes "refused WalFull op") op) (numbered (codes "checkpoint_op") checkpoint_op))
 append_refusal append.OpsSpent = codes "refused OpsSpent\n"
 append_refusal append.DiskFault = []
+append_refusal (append.Staged count) = line_of (numbered (codes "refused Staged count") count)
+
+abbrev pub flush_refusal : FlushError → List ℕ
+flush_refusal flush.NothingStaged = codes "refused NothingStaged\n"
+flush_refusal flush.DiskFault = []
 
 abbrev pub reply_refusal : ReplyError → List ℕ
 reply_refusal (reply.NothingPending head) = line_of (numbered (codes "refused NothingPending head") head)

@@ -1,7 +1,7 @@
 // Scripts and what they print.
 
 ghost use Rattle.df_script_model.specs.Script.{PrintedLaw};
-ghost use Rattle.df_script_model.specs.Sessions.{BlockSession, FillLaw, FirstSession, FullGrid, FullPipeline, FullTable, LongTrailer, RingSession, ScrubSession};
+ghost use Rattle.df_script_model.specs.Sessions.{BlockSession, FillLaw, FirstSession, FullGrid, FullPipeline, FullStaged, FullTable, GroupSession, LongTrailer, RingSession, ScrubSession};
 
 /// A script of calls prints the texts of the machine's answers, in their order.
 pub fn scripts_print_answers()
@@ -11,6 +11,13 @@ pub fn scripts_print_answers()
 /// One client's first requests, with each refusal that it can meet.
 pub fn a_first_session()
     ensures { FirstSession }
+{}
+
+/// Requests are staged and flushed as one group, with each refusal that they can meet, and what is staged takes its place among
+/// the sessions and the prepares that wait.
+pub fn a_group_is_flushed()
+    ensures session { GroupSession }
+    ensures full { FullStaged }
 {}
 
 /// A full ring takes appends again once a checkpoint is done.

@@ -8,10 +8,10 @@ use Rattle.df_disk.proofs.Laws.{all_is_part}
 use Rattle.df_format.specs.declared.reference.Reference.{Reference}
 use Rattle.df_model.specs.Called.{command_of}
 use Rattle.df_model.specs.Changing.{unless_refused}
-use Rattle.df_model.specs.Refusals.{append_refusals, block_refusals, first_refusal, reply_refusals}
+use Rattle.df_model.specs.Refusals.{append_refusals, block_refusals, first_refusal, flush_refusals, reply_refusals}
 use Rattle.df_layout.specs.declared.damage.Class.{Class}
 use Rattle.df_layout.specs.declared.places.Place.{Place}
-use Rattle.df_model.specs.Commands.{Advance, Append, Begin, Command, ForAdvance, ForAppend, ForBegin, ForRelease, ForReply, ForWriteBlock, ReadBlock, ReadPrepare, ReadReply, Recent, Release, Reply, Scrub, WriteBlock}
+use Rattle.df_model.specs.Commands.{Advance, Append, Begin, Command, Flush, ForAdvance, ForAppend, ForBegin, ForFlush, ForRelease, ForReply, ForStage, ForWriteBlock, ReadBlock, ReadPrepare, ReadReply, Recent, Release, Reply, Scrub, Stage, WriteBlock}
 use Rattle.df_model.specs.declared.answers.Progress.{Progress}
 use Rattle.df_model.specs.declared.answers.Progress.TheVariants.{Done, Working}
 use Rattle.df_model.specs.declared.answers.Receipt.{Receipt}
@@ -23,20 +23,23 @@ use Rattle.df_model.specs.declared.errors.AppendError.TheVariants as append
 use Rattle.df_model.specs.declared.errors.BeginError.{BeginError}
 use Rattle.df_model.specs.declared.errors.BlockError.{BlockError}
 use Rattle.df_model.specs.declared.errors.BlockError.TheVariants as block
+use Rattle.df_model.specs.declared.errors.FlushError.{FlushError}
+use Rattle.df_model.specs.declared.errors.FlushError.TheVariants as flush
 use Rattle.df_model.specs.declared.errors.NotLive.{NotLive}
 use Rattle.df_model.specs.declared.errors.ReplyError.{ReplyError}
 use Rattle.df_model.specs.declared.errors.ReplyError.TheVariants as reply
 use Rattle.df_model.specs.declared.errors.StepError.{StepError}
 use Rattle.df_model.specs.declared.errors.StepError.TheVariants as step
-use Rattle.df_result.specs.Answering.{Serves, begin_answer, release_answer}
+use Rattle.df_result.specs.Answering.{Serves, begin_answer, release_answer, stage_answer}
 use Rattle.df_result.specs.Appending.{IsAppend, append_events, next_unit}
 use Rattle.df_result.specs.Beginning.{IsBegin}
 use Rattle.df_result.specs.Below.{RunningState, State as Replica, memory}
 use Rattle.df_result.specs.Blocks.{IsRelease, IsWriteBlock, block_events, next_block}
+use Rattle.df_result.specs.Flushing.{IsFlush, IsStage, flush_events, flush_units, sums_of}
 use Rattle.df_result.specs.Replying.{IsReply, next_reply, reply_events}
 use Rattle.df_result.specs.Stepping.{IsStep, OfRunning, Tells, block_events as piece_events, events_for, last_events, made_by, step_events}
 use Rattle.df_units.specs.Meaning.{number_of}
-use Rattle.df_model.specs.Faults.{is_append_fault, is_block_fault, is_reply_fault, is_step_fault}
+use Rattle.df_model.specs.Faults.{is_append_fault, is_block_fault, is_flush_fault, is_reply_fault, is_step_fault}
 use Rattle.df_session.specs.Calls.{IsExact, LendsNothing, blames, is_fault, machine_answer}
 use Rattle.df_session.specs.Endings.{IsDamaged}
 use Rattle.df_session.specs.Links.{Makes}
@@ -116,6 +119,18 @@ module _ (s t : Replica) (old new : Option Told) where
     append_moves (Err (append.PipelineFull a)) is = append_refused (append.PipelineFull a) is
     append_moves (Err (append.WalFull a b)) is = append_refused (append.WalFull a b) is
     append_moves (Err append.OpsSpent) is = append_refused append.OpsSpent is
+    append_moves (Err (append.Staged a)) is = append_refused (append.Staged a) is
+
+  abbrev flushes : List Event
+  flushes = flush_events s
+
+  abbrev no_flush : Option FlushError
+  no_flush = first_refusal (flush_refusals (memory s))
+
+  pub flush_moves : (r : Result ℕ FlushError) → IsFlush s t old new r → Moves Flush s t old new (answers.Flush r)
+  flush_moves (Ok count) is = (all_own flushes old new no_flush is.0 is.3, ap (λ (r : Replica). r.running) is.2)
+  flush_moves (Err flush.DiskFault) is = (part_own flushes old new no_flush is.0 is.2, ap (λ (r : Replica). r.running) is.1)
+  flush_moves (Err flush.NothingStaged) is = (none_own flushes old new no_flush flush.NothingStaged is.0 is.2, stays is.1)
 
   module _ (op : ℕ) (body : List ℕ) where
     abbrev replies : List Event
@@ -185,6 +200,13 @@ module _ (s t : Replica) (old new : Option Told) (before now : ℕ) where
     cause = cause_of is_append_fault before now r blamed;
   }
 
+  pub flush_called : (r : Result ℕ FlushError) → IsFlush s t old new r → Serves Flush s t old new (machine_answer (answers.Flush r)) → IsBlamed is_flush_fault before now r → Called Flush s t old new before now (answers.Flush r)
+  flush_called r is serves blamed = record {
+    exact = (r, refl, is);
+    makes = made Flush (ForFlush (sums_of (flush_units s))) s t old new (machine_answer (answers.Flush r)) refl serves (flush_moves s t old new r is).0;
+    cause = cause_of is_flush_fault before now r blamed;
+  }
+
   pub reply_called : (op : ℕ) (body : List ℕ) (r : Result (List ℕ) ReplyError) → IsReply op body s t old new r → Serves (Reply op body) s t old new (machine_answer (answers.Reply r)) → IsBlamed is_reply_fault before now r
       → Called (Reply op body) s t old new before now (answers.Reply r)
   reply_called op body r is serves blamed = record {
@@ -223,6 +245,13 @@ module _ (s t : Replica) (told : Option Told) (faults : ℕ) where
     cause = refl;
   }
 
+  pub stage_called : (client request : ℕ) (body : List ℕ) (r : Result ℕ AppendError) → IsStage client request body s t r → Serves (Stage client request body) s t told told (stage_answer r) → Called (Stage client request body) s t told told faults faults (answers.Stage r)
+  stage_called client request body r is serves = record {
+    exact = (r, refl, is, refl);
+    makes = made (Stage client request body) ForStage s t told told (machine_answer (answers.Stage r)) refl serves refl;
+    cause = refl;
+  }
+
   pub begin_called : (root : List ℕ) (r : Result ℕ BeginError) → IsBegin root s t r → Serves (Begin root) s t told told (begin_answer r) → Called (Begin root) s t told told faults faults (answers.Begin r)
   begin_called root r is serves = record {
     exact = (r, refl, is, refl);
@@ -236,6 +265,8 @@ module _ (s t : Replica) (old new : Option Told) (answer : Answer) where
   -- it lends nothing
   pub exact_lends : (command : Command) → IsExact command s t old new answer → LendsNothing answer
   exact_lends (Append client request body) is = subst LendsNothing (sym is.1) tt
+  exact_lends (Stage client request body) is = subst LendsNothing (sym is.1) tt
+  exact_lends Flush is = subst LendsNothing (sym is.1) tt
   exact_lends (Reply op body) is = subst LendsNothing (sym is.1) tt
   exact_lends (WriteBlock kind body) is = subst LendsNothing (sym is.1) tt
   exact_lends (Release address) is = subst LendsNothing (sym is.1) tt
@@ -250,6 +281,8 @@ module _ (s t : Replica) (old new : Option Told) (answer : Answer) where
   -- a step alone finds the superblock damaged, and only where the disk tells nothing
   pub exact_damaged : (command : Command) → IsExact command s t old new answer → (place : Place) (class : Class) → answer ≡ answers.Advance (Err (step.Damaged place class)) → IsDamaged command new place class
   exact_damaged (Append client request body) is place class damaged = absurd (cc (is.1, damaged))
+  exact_damaged (Stage client request body) is place class damaged = absurd (cc (is.1, damaged))
+  exact_damaged Flush is place class damaged = absurd (cc (is.1, damaged))
   exact_damaged (Reply op body) is place class damaged = absurd (cc (is.1, damaged))
   exact_damaged (WriteBlock kind body) is place class damaged = absurd (cc (is.1, damaged))
   exact_damaged (Release address) is place class damaged = absurd (cc (is.1, damaged))

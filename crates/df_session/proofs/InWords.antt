@@ -3,12 +3,12 @@ use Rattle.std.proofs.Common.{◌≡◌, ℕ, Bool, true, false, Option, Some, N
 use Rattle.std.specs.Prelude.{OnOk}
 use Rattle.df_base.specs.Causes.{Blamed, IsBlamed}
 use Rattle.df_disk.specs.Told.{Told}
-use Rattle.df_model.specs.Commands.{Answer as Answered, Command, ToAdvance, ToAppend, ToBegin, ToReadBlock, ToReadPrepare, ToReadReply, ToRelease, ToReply, ToScrub, ToWriteBlock}
+use Rattle.df_model.specs.Commands.{Answer as Answered, Command, ToAdvance, ToAppend, ToBegin, ToFlush, ToReadBlock, ToReadPrepare, ToReadReply, ToRelease, ToReply, ToScrub, ToStage, ToWriteBlock}
 use Rattle.df_model.specs.declared.answers.Progress.TheVariants.{Done, Working}
 use Rattle.df_model.specs.declared.commands.Answer.{Answer}
 use Rattle.df_model.specs.declared.commands.Answer.TheVariants as answers
 use Rattle.df_model.specs.declared.errors.StepError.TheVariants as step
-use Rattle.df_model.specs.Faults.{is_append_fault, is_block_fault, is_lookup_fault, is_prepare_fault, is_read_fault, is_reply_fault}
+use Rattle.df_model.specs.Faults.{is_append_fault, is_block_fault, is_flush_fault, is_lookup_fault, is_prepare_fault, is_read_fault, is_reply_fault}
 use Rattle.df_result.specs.Below.{State as Replica}
 use Rattle.df_units.specs.Meaning.{number_of}
 use Rattle.df_session.specs.Calls.{IsExact, LendsNothing, is_fault, machine_answer}
@@ -33,6 +33,9 @@ refused false a x is = (refl, x, is)
 in_words : (a : Answer) → LendsNothing a → InWords a (heard a)
 in_words (answers.Append (Ok receipt)) lends = (refl, ToAppend (Ok (receipt.op, number_of receipt.checksum)), refl)
 in_words (answers.Append (Err e)) lends = refused (is_append_fault e) (answers.Append (Err e)) (ToAppend (Err e)) refl
+in_words (answers.Stage r) lends = (refl, ToStage r, refl)
+in_words (answers.Flush (Ok count)) lends = (refl, ToFlush (Ok count), refl)
+in_words (answers.Flush (Err e)) lends = refused (is_flush_fault e) (answers.Flush (Err e)) (ToFlush (Err e)) refl
 in_words (answers.Reply (Ok check)) lends = (refl, ToReply (Ok (number_of check)), refl)
 in_words (answers.Reply (Err e)) lends = refused (is_reply_fault e) (answers.Reply (Err e)) (ToReply (Err e)) refl
 in_words (answers.WriteBlock (Ok reference)) lends = (refl, ToWriteBlock (Ok (reference.address, number_of reference.checksum)), refl)
@@ -61,6 +64,8 @@ module _ (before now : ℕ) where
   -- no count rose where the disk didn't fail
   still : (a : Answer) → now ≡ before → IsBlamed is_disk before now (unless_damaged a)
   still (answers.Append r) same = same
+  still (answers.Stage r) same = same
+  still (answers.Flush r) same = same
   still (answers.Reply r) same = same
   still (answers.WriteBlock r) same = same
   still (answers.Release r) same = same

@@ -2,7 +2,7 @@
 use Rattle.std.specs.Prelude.{◌≡◌, ℕ, Bool, false, List, Option, Some, None, Result, Ok, Err}
 use Rattle.df_disk.specs.Told.{Told}
 use Rattle.df_format.specs.declared.reference.Reference.{Reference}
-use Rattle.df_model.specs.Commands.{Advance, Answer as Answered, Append, Begin, Command, ReadBlock, ReadPrepare, ReadReply, Recent, Release, Reply, Scrub, ToAdvance, ToReadBlock, ToReadPrepare, ToReadReply, ToScrub, WriteBlock}
+use Rattle.df_model.specs.Commands.{Advance, Answer as Answered, Append, Begin, Command, Flush, ReadBlock, ReadPrepare, ReadReply, Recent, Release, Reply, Scrub, Stage, ToAdvance, ToReadBlock, ToReadPrepare, ToReadReply, ToScrub, WriteBlock}
 use Rattle.df_model.specs.declared.answers.Progress.{Progress}
 use Rattle.df_model.specs.declared.answers.Receipt.{Receipt}
 use Rattle.df_model.specs.declared.commands.Answer.{Answer}
@@ -10,15 +10,17 @@ use Rattle.df_model.specs.declared.commands.Answer.TheVariants as answers
 use Rattle.df_model.specs.declared.errors.AppendError.{AppendError}
 use Rattle.df_model.specs.declared.errors.BeginError.{BeginError}
 use Rattle.df_model.specs.declared.errors.BlockError.{BlockError}
+use Rattle.df_model.specs.declared.errors.FlushError.{FlushError}
 use Rattle.df_model.specs.declared.errors.NotLive.{NotLive}
 use Rattle.df_model.specs.declared.errors.ReplyError.{ReplyError}
 use Rattle.df_model.specs.declared.errors.StepError.{StepError}
-use Rattle.df_model.specs.Faults.{is_append_fault, is_block_fault, is_lookup_fault, is_prepare_fault, is_read_fault, is_reply_fault, is_step_fault}
-use Rattle.df_result.specs.Answering.{answer_of, as_append, as_reply, as_write_block, begin_answer, is_step_unanswered, release_answer}
+use Rattle.df_model.specs.Faults.{is_append_fault, is_block_fault, is_flush_fault, is_lookup_fault, is_prepare_fault, is_read_fault, is_reply_fault, is_step_fault}
+use Rattle.df_result.specs.Answering.{answer_of, as_append, as_flush, as_reply, as_write_block, begin_answer, is_step_unanswered, release_answer, stage_answer}
 use Rattle.df_result.specs.Appending.{IsAppend}
 use Rattle.df_result.specs.Beginning.{IsBegin}
 use Rattle.df_result.specs.Below.{State as Replica}
 use Rattle.df_result.specs.Blocks.{IsRelease, IsWriteBlock}
+use Rattle.df_result.specs.Flushing.{IsFlush, IsStage}
 use Rattle.df_result.specs.Replying.{IsReply}
 use Rattle.df_result.specs.Stepping.{IsStep}
 
@@ -39,6 +41,7 @@ blames is_fault (Err e) = is_fault e
 -- the answer says that the disk failed
 abbrev pub is_fault : Answer → Bool
 is_fault (answers.Append r) = blames is_append_fault r
+is_fault (answers.Flush r) = blames is_flush_fault r
 is_fault (answers.Reply r) = blames is_reply_fault r
 is_fault (answers.WriteBlock r) = blames is_block_fault r
 is_fault (answers.Advance r) = blames is_step_fault r
@@ -58,6 +61,8 @@ LendsNothing answer = Unit {0}
 -- the answer is that of the call, which is exact
 abbrev pub IsExact : Command → (s t : Replica) → (old new : Option Told) → Answer → Type 0
 IsExact (Append client request body) s t old new answer = (r : Result Receipt AppendError) × (answer ≡ answers.Append r) × IsAppend client request body s t old new r
+IsExact (Stage client request body) s t old new answer = (r : Result ℕ AppendError) × (answer ≡ answers.Stage r) × IsStage client request body s t r × (new ≡ old)
+IsExact Flush s t old new answer = (r : Result ℕ FlushError) × (answer ≡ answers.Flush r) × IsFlush s t old new r
 IsExact (Reply op body) s t old new answer = (r : Result (List ℕ) ReplyError) × (answer ≡ answers.Reply r) × IsReply op body s t old new r
 IsExact (WriteBlock kind body) s t old new answer = (r : Result Reference BlockError) × (answer ≡ answers.WriteBlock r) × IsWriteBlock kind body s t old new r
 IsExact (Release address) s t old new answer = (r : Result (Unit {0}) NotLive) × (answer ≡ answers.Release r) × IsRelease address s t r × (new ≡ old)
@@ -68,6 +73,8 @@ IsExact command s t old new answer = ⊥
 -- the machine's answer: none where the disk failed, or where a step found the superblock damaged that it wrote; a unit that was read is no part of an answer, nor is what the ring holds
 abbrev pub machine_answer : Answer → Option Answered
 machine_answer (answers.Append r) = answer_of is_append_fault as_append r
+machine_answer (answers.Stage r) = stage_answer r
+machine_answer (answers.Flush r) = answer_of is_flush_fault as_flush r
 machine_answer (answers.Reply r) = answer_of is_reply_fault as_reply r
 machine_answer (answers.WriteBlock r) = answer_of is_block_fault as_write_block r
 machine_answer (answers.Release r) = release_answer r

@@ -19,6 +19,7 @@ pub use Rattle.df_result.specs.Making
 pub use Rattle.df_result.specs.Replica
 pub use Rattle.df_result.specs.Surveying
 pub use Rattle.df_result.specs.Stopping
+pub use Rattle.df_result.specs.Flushing
 pub use Rattle.df_result.specs.Answering
 pub use Rattle.df_result.specs.Beginning
 pub use Rattle.df_result.specs.Stepping

@@ -4,11 +4,12 @@ use Rattle.df_base.specs.Log.{Event}
 use Rattle.df_disk.specs.Adds.{AddsPart, after_all}
 use Rattle.df_disk.specs.Told.{Told}
 use Rattle.df_model.specs.Changing.{unless_refused}
-use Rattle.df_model.specs.Commands.{Advance, Answer, Append, Command, Reply, WriteBlock}
-use Rattle.df_model.specs.Refusals.{append_refusals, block_refusals, first_refusal, reply_refusals}
+use Rattle.df_model.specs.Commands.{Advance, Answer, Append, Command, Flush, Reply, WriteBlock}
+use Rattle.df_model.specs.Refusals.{append_refusals, block_refusals, first_refusal, flush_refusals, reply_refusals}
 use Rattle.df_result.specs.Appending.{append_events, next_unit}
 use Rattle.df_result.specs.Below.{RunningState, State as Replica, memory}
 use Rattle.df_result.specs.Blocks.{block_events, next_block}
+use Rattle.df_result.specs.Flushing.{flush_events}
 use Rattle.df_result.specs.Replying.{next_reply, reply_events}
 use Rattle.df_result.specs.Stepping.{step_events}
 
@@ -17,10 +18,12 @@ abbrev pub running_events : Replica → Option RunningState → List Event
 running_events s None = []
 running_events s (Some r) = step_events s r
 
--- The device calls of a command from this state of a replica, each once and in this order: an append writes its prepare and then its header sector, each with a sync behind it, a
--- reply writes its client's slot and syncs, a write of a block is one write. There is none where the command is refused, and none of a release, a begin and a read.
+-- The device calls of a command from this state of a replica, each once and in this order: an append writes its prepare and then its header sector, each with a sync behind it, a flush
+-- writes the prepares of its group, syncs, writes their one or two header sectors and syncs, a reply writes its client's slot and syncs, a write of a block is one write. There is none
+-- where the command is refused, and none of a stage, a release, a begin and a read.
 abbrev pub own_events : Command → Replica → List Event
 own_events (Append client request body) s = unless_refused (first_refusal (append_refusals (memory s) client request body)) [] (append_events s (next_unit s client request body))
+own_events Flush s = unless_refused (first_refusal (flush_refusals (memory s))) [] (flush_events s)
 own_events (Reply op body) s = unless_refused (first_refusal (reply_refusals (memory s) op body)) [] (reply_events s (next_reply s body))
 own_events (WriteBlock kind body) s = unless_refused (first_refusal (block_refusals (memory s) kind body)) [] (block_events s (next_block s kind body))
 own_events Advance s = running_events s s.running

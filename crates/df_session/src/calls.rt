@@ -23,6 +23,12 @@ pub(crate) fn call<D: Disk>(disk: &mut D, replica: &mut Replica, command: Comman
             request,
             body,
         } => Answer::Append(replica.append(disk, client, request, body)),
+        Command::Stage {
+            client,
+            request,
+            body,
+        } => Answer::Stage(replica.stage(client, request, body)),
+        Command::Flush => Answer::Flush(replica.flush(disk)),
         Command::Reply { op, body } => Answer::Reply(replica.reply(disk, op, body)),
         Command::WriteBlock { kind, body } => {
             Answer::WriteBlock(replica.write_block(disk, kind, body))

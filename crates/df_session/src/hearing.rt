@@ -37,13 +37,18 @@ fn is_fault(answer: &Answer) -> bool
 {
     match answer {
         Answer::Append(answer) => blames(answer),
+        Answer::Flush(answer) => blames(answer),
         Answer::Reply(answer) => blames(answer),
         Answer::WriteBlock(answer) => blames(answer),
         Answer::Advance(answer) => blames(answer),
         Answer::ReadPrepare(answer) => blames(answer),
         Answer::ReadReply(answer) => blames(answer),
         Answer::ReadBlock(answer) => blames(answer),
-        Answer::Release(_) | Answer::Begin(_) | Answer::Scrub(_) | Answer::Recent => false,
+        Answer::Stage(_)
+        | Answer::Release(_)
+        | Answer::Begin(_)
+        | Answer::Scrub(_)
+        | Answer::Recent => false,
     }
 }
 
@@ -59,6 +64,8 @@ fn unless_damaged(answer: Answer) -> Result<Answer, Fault>
         | Answer::Advance(Err(StepError::DiskFault))
         | Answer::Advance(Ok(_))
         | Answer::Append(_)
+        | Answer::Stage(_)
+        | Answer::Flush(_)
         | Answer::Reply(_)
         | Answer::WriteBlock(_)
         | Answer::Release(_)

@@ -4,7 +4,7 @@ use Rattle.std.specs.Prelude.{All, replicate}
 use Rattle.std.proofs.lemmas.List.Elements.{All-head, All-tail}
 use Rattle.df_disk.specs.Told.{Told}
 use Rattle.df_layout.specs.declared.layout.Layout.{Layout}
-use Rattle.df_model.specs.Commands.{Advance, Answer, Append, Begin, Command, ReadBlock, ReadPrepare, ReadReply, Recent, Release, Reply, Scrub, ToAdvance, ToAppend, ToBegin, ToReadBlock, ToReadPrepare, ToReadReply, ToRecent, ToRelease, ToReply, ToScrub, ToWriteBlock, WriteBlock}
+use Rattle.df_model.specs.Commands.{Advance, Answer, Append, Begin, Command, Flush, ReadBlock, ReadPrepare, ReadReply, Recent, Release, Reply, Scrub, Stage, ToAdvance, ToAppend, ToBegin, ToFlush, ToReadBlock, ToReadPrepare, ToReadReply, ToRecent, ToRelease, ToReply, ToScrub, ToStage, ToWriteBlock, WriteBlock}
 use Rattle.df_model.specs.Memory.{Memory}
 use Rattle.df_rows.specs.declared.command.Command.{Command as Change}
 use Rattle.df_rows.specs.declared.command.Command.TheVariants as commands
@@ -19,7 +19,7 @@ use Rattle.df_session.specs.Links.{AreCalls, EndsCalls, command_in, list_of}
 use Rattle.df_session.specs.Session.{Act}
 use Rattle.df_table.specs.declared.ending.Ending.{Ending}
 use Rattle.df_table.specs.Keeping.{AreChanges, Changes, IsPending}
-use Rattle.df_table.specs.Policy.{block_reads, checkpoint, line_commands, opening, prepare_reads, releases, replies, request, room_for, writes}
+use Rattle.df_table.specs.Policy.{block_reads, checkpoint, line_commands, opening, prepare_reads, releases, replies, request, room_for, the_client, writes}
 use Rattle.df_table.specs.Turns.{AreAccepted, AreFit, EndIn, IsAccepted}
 use Rattle.df_table.proofs.Executed.{put_may}
 use Rattle.df_table.proofs.Walked.{ArePlain, Asks, IsNext}
@@ -84,10 +84,17 @@ asks_made cs s t old new acts answers calls is accepted = asks_all cs acts answe
 
 -- ---- puts and drops
 
--- the body of an append is a command's
+-- a table's program asks for it: an append is the client's, and its body is a command's
 abbrev pub HasChange : Command → Type 0
-HasChange (Append client request body) = (c : Change) × IsCommand c × (body ≡ body_of c)
-HasChange command = Unit {0}
+HasChange (Append client request body) = (c : Change) × IsCommand c × (body ≡ body_of c) × (client ≡ the_client)
+HasChange (Reply op body) = Unit {0}
+HasChange (WriteBlock kind body) = Unit {0}
+HasChange (Release address) = Unit {0}
+HasChange (Begin root) = Unit {0}
+HasChange Advance = Unit {0}
+HasChange (ReadPrepare op) = Unit {0}
+HasChange (ReadBlock address) = Unit {0}
+HasChange command = ⊥
 
 abbrev pub HaveChanges : List Command → Type 0
 HaveChanges [] = Unit {0}
@@ -123,6 +130,8 @@ acts_have (a ∷ acts) more have rest = (have.0, acts_have acts more have.1 rest
 appended_change : (client request : ℕ) (body : List ℕ) (x : Answer) → HasChange (Append client request body) → (some : List Change) × Changes (Append client request body) x some
 appended_change client request body (ToAppend (Ok done)) has = (has.0 ∷ [], (has.0, has.1, has.2, refl))
 appended_change client request body (ToAppend (Err e)) has = ([], refl)
+appended_change client request body (ToStage r) has = ([], refl)
+appended_change client request body (ToFlush r) has = ([], refl)
 appended_change client request body (ToReply r) has = ([], refl)
 appended_change client request body (ToWriteBlock r) has = ([], refl)
 appended_change client request body (ToRelease r) has = ([], refl)
@@ -136,6 +145,8 @@ appended_change client request body (ToRecent r) has = ([], refl)
 
 one_change : (c : Command) (x : Answer) → HasChange c → (some : List Change) × Changes c x some
 one_change (Append client request body) x has = appended_change client request body x has
+one_change (Stage client request body) x has = ([], refl)
+one_change Flush x has = ([], refl)
 one_change (Reply op body) x has = ([], refl)
 one_change (WriteBlock kind body) x has = ([], refl)
 one_change (Release address) x has = ([], refl)
@@ -200,7 +211,7 @@ room_has layout m rows steps true =
 
 pub line_has : (layout : Layout) (m : Memory) (rows : Map) (steps : ℕ) (cs : List Change) → AreFit cs → HaveChanges (line_commands layout m rows steps cs)
 line_has layout m rows steps [] fit = tt
-line_has layout m rows steps (c ∷ more) fit = have_both (room_for layout m rows steps) (request m c) (room_has layout m rows steps _) ((c, fit.0, refl), (tt, tt))
+line_has layout m rows steps (c ∷ more) fit = have_both (room_for layout m rows steps) (request m c) (room_has layout m rows steps _) ((c, fit.0, refl, refl), (tt, tt))
 
 -- ---- what a line asks for
 

@@ -69,18 +69,20 @@ same_sessions (suc place) check (x ∷ ss) = ap (λ (l : List Session). session_
 pub record HasReplied (b : ℕ) (s t : Replica) : Type 0 where
   pub head : t.head ≡ s.head
   pub replies : t.replies ≡ b
+  pub staged : t.staged ≡ s.staged
   pub file : t.file ≡ s.file
   pub blocks : t.blocks ≡ s.blocks
   pub running : t.running ≡ s.running
   pub sessions : sessions_of t.table.sessions ≡ sessions_of s.table.sessions
 
 pub replied_none : (s : Replica) → HasReplied s.replies s s
-replied_none s = record { head = refl; replies = refl; file = refl; blocks = refl; running = refl; sessions = refl }
+replied_none s = record { head = refl; replies = refl; staged = refl; file = refl; blocks = refl; running = refl; sessions = refl }
 
 pub replied_more : (b : ℕ) (s t u : Replica) (h : Header) → HasReplied b s t → u ≡ replied t h → HasReplied (b + 1) s u
 replied_more b s t u h is behind = subst (λ (r : Replica). HasReplied (b + 1) s r) (sym behind) (record {
   head = is.head;
   replies = ap (λ (n : ℕ). n + 1) is.replies;
+  staged = is.staged;
   file = is.file;
   blocks = is.blocks;
   running = is.running;
@@ -88,7 +90,7 @@ replied_more b s t u h is behind = subst (λ (r : Replica). HasReplied (b + 1) s
 })
 
 pub caught_up : (b : ℕ) (s t : Replica) → HasReplied b s t → (s.replies ≤ s.head → b ≡ s.head) → HasCaughtUp s t
-caught_up b s t is all = record { head = is.head; replies = λ order. is.replies ∙ all order; file = is.file; blocks = is.blocks; running = is.running; sessions = is.sessions }
+caught_up b s t is all = record { head = is.head; replies = λ order. is.replies ∙ all order; staged = is.staged; file = is.file; blocks = is.blocks; running = is.running; sessions = is.sessions }
 
 -- ---- ready
 
@@ -142,6 +144,7 @@ module _ (layout : Layout) (w : Work) (s : Replica) (begun : IsBegun layout w s)
     own = record {
       idle = idle_runs t (caught.running ∙ none_runs);
       answered = caught.replies (begun_replies layout w s begun) ∙ sym caught.head;
+      unstaged = caught.staged ∙ ap (λ (m : Memory). m.staged) begun.stands.1 ∙ begun.unstaged;
       alone = subst AreOwn (sym caught.sessions) (own_all (memory s) taken.own);
     };
     space = record {

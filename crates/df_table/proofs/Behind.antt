@@ -139,7 +139,7 @@ module _ (layout : Layout) (said : Said) (c : Command) (old new : Session) (told
   pub ended_executes : (ending : Ending) (status : Status) → (IsReady layout old.replica → map.len old.table.rows ≤ most_rows layout → IsChanged layout old.table.rows c old.replica new.replica told later (Err ending)) → Writes (ending_text ending) (status_of ending) written took status
       → Executes layout said old new told later written took (Ends status)
   ended_executes ending status changed wrote = record {
-    answers = λ steady. changed_ends layout said c old.replica new.replica told later old.table new.table written took asks fits ℕ ending status (changed steady.ready steady.few).makes wrote;
+    answers = λ steady. changed_ends layout said c old.replica new.replica told later old.table new.table written took asks fits ℕ ending status (changed steady.ready steady.few).makes wrote (changed steady.ready steady.few).ends;
     steady = λ steady. tt;
     live = tt;
     behind_is = tt;

@@ -42,7 +42,7 @@ use Rattle.df_table.specs.Calls.{Comes, IsRunning, IsStepped, MayAppend, MayBegi
 use Rattle.df_table.specs.declared.ending.Ending.TheVariants.{Disk, OpsSpent, SequenceSpent}
 use Rattle.df_table.specs.Policy.{the_client}
 use Rattle.df_table.specs.Statuses.{ended_by, is_disk}
-use Rattle.df_table.specs.Turns.{IsAccepted, MakeAll}
+use Rattle.df_table.specs.Turns.{IsAccepted, IsOfCall, MakeAll}
 use Rattle.df_table.proofs.Joined.{one_made, one_spent}
 
 -- ---- small
@@ -66,6 +66,11 @@ reply_fails op new (faults.Damaged place class) ends = absurd (let apart : Reply
 pub blamed_so : (fault : Fault) (before now : ℕ) → Blamed (by_fault fault) before now → Blamed (is_disk (ended_by fault)) before now
 blamed_so faults.Disk before now blamed = blamed
 blamed_so (faults.Damaged place class) before now blamed = blamed
+
+-- what ends it is of the call
+pub fault_ends : (command : Command) (told : Option Told) (fault : Fault) → EndsBy fault command told → IsOfCall told (ended_by fault)
+fault_ends command told faults.Disk ends = tt
+fault_ends command told (faults.Damaged place class) ends = ends.untold
 
 module _ (s t : Replica) (old new : Option Told) where
   -- the answer of the call that a command asks for, in the words of the machine
@@ -93,13 +98,14 @@ module _ (s t : Replica) (old new : Option Told) where
     pub state : OnOk (accepted_or a OpsSpent) (t ≡ replied s (next_reply s []).header)
     pub fails : first_refusal (reply_refusals (memory s) op []) ≡ None → IfErr (accepted_or a OpsSpent) (λ e. e ≡ Disk)
     pub blames : (before now : ℕ) → now ≡ before → IsBlamed is_disk before now (accepted_or a OpsSpent)
+    pub ends : IfErr (accepted_or a OpsSpent) (IsOfCall new)
 
   module _ (op : ℕ) where
     reply_refused : (e : ReplyError) → first_refusal (reply_refusals (memory s) op []) ≡ Some e → Replies op (answers.Reply (Err e))
-    reply_refused e is = record { comes = λ may. absurd (none-some e (sym may ∙ is)); state = tt; fails = λ may. absurd (none-some e (sym may ∙ is)); blames = λ before now same. same }
+    reply_refused e is = record { comes = λ may. absurd (none-some e (sym may ∙ is)); state = tt; fails = λ may. absurd (none-some e (sym may ∙ is)); blames = λ before now same. same; ends = tt }
 
     reply_answered : (r : Result (List ℕ) ReplyError) → IsReply op [] s t old new r → (x : Answered) → Makes (Reply op []) s t old new (Some x) → machine_answer (answers.Reply r) ≡ Some x → Replies op (answers.Reply r)
-    reply_answered (Ok check) is x makes told = record { comes = λ may. one_made (Reply op []) s t old new x makes (accepted_by (as_reply (Ok check)) x told tt); state = is.2; fails = λ may. tt; blames = λ before now same. same }
+    reply_answered (Ok check) is x makes told = record { comes = λ may. one_made (Reply op []) s t old new x makes (accepted_by (as_reply (Ok check)) x told tt); state = is.2; fails = λ may. tt; blames = λ before now same. same; ends = tt }
     reply_answered (Err reply.DiskFault) is x makes told = absurd (none-some x told)
     reply_answered (Err (reply.NothingPending a)) is x makes told = reply_refused (reply.NothingPending a) is.0
     reply_answered (Err (reply.ReplyOrder a)) is x makes told = reply_refused (reply.ReplyOrder a) is.0
@@ -116,14 +122,15 @@ module _ (s t : Replica) (old new : Option Told) where
     pub comes : first_refusal (block_refusals (memory s) 1 body) ≡ None → Comes (WriteBlock 1 body ∷ []) s t old new (accepted_or a SequenceSpent)
     pub state : OnOk (accepted_or a SequenceSpent) (t ≡ written s (next_block s 1 body).header)
     pub blames : (before now : ℕ) → now ≡ before → IsBlamed is_disk before now (accepted_or a SequenceSpent)
+    pub ends : IfErr (accepted_or a SequenceSpent) (IsOfCall new)
 
   module _ (body : List ℕ) where
     write_refused : (e : BlockError) → first_refusal (block_refusals (memory s) 1 body) ≡ Some e → Writes body (answers.WriteBlock (Err e))
-    write_refused e is = record { comes = λ may. absurd (none-some e (sym may ∙ is)); state = tt; blames = λ before now same. same }
+    write_refused e is = record { comes = λ may. absurd (none-some e (sym may ∙ is)); state = tt; blames = λ before now same. same; ends = tt }
 
     write_answered : (r : Result Reference BlockError) → IsWriteBlock 1 body s t old new r → (x : Answered) → Makes (WriteBlock 1 body) s t old new (Some x) → machine_answer (answers.WriteBlock r) ≡ Some x → Writes body (answers.WriteBlock r)
     write_answered (Ok reference) is x makes told =
-        record { comes = λ may. one_made (WriteBlock 1 body) s t old new x makes (accepted_by (as_write_block (Ok reference)) x told tt); state = is.2; blames = λ before now same. same }
+        record { comes = λ may. one_made (WriteBlock 1 body) s t old new x makes (accepted_by (as_write_block (Ok reference)) x told tt); state = is.2; blames = λ before now same. same; ends = tt }
     write_answered (Err block.DiskFault) is x makes told = absurd (none-some x told)
     write_answered (Err block.KindZero) is x makes told = write_refused block.KindZero is.0
     write_answered (Err (block.BodyTooLong a)) is x makes told = write_refused (block.BodyTooLong a) is.0
@@ -140,6 +147,7 @@ module _ (s t : Replica) (old new : Option Told) where
     pub comes : MayBegin s → Comes (Begin [] ∷ []) s t old new (accepted_or a SequenceSpent)
     pub state : OnOk (accepted_or a SequenceSpent) (t ≡ begun s [])
     pub blames : (before now : ℕ) → now ≡ before → IsBlamed is_disk before now (accepted_or a SequenceSpent)
+    pub ends : IfErr (accepted_or a SequenceSpent) (IsOfCall new)
 
   begin_refused : (e : BeginError) → (e ≡ begin.SequenceSpent → ⊥) → begin_refusal s [] ≡ Some e → Begins (answers.Begin (Err e))
   begin_refused e other is = record {
@@ -149,6 +157,7 @@ module _ (s t : Replica) (old new : Option Told) where
     ]);
     state = tt;
     blames = λ before now same. same;
+    ends = tt;
   }
 
   begin_answered : (r : Result ℕ BeginError) → IsBegin [] s t r → (x : Answered) → Makes (Begin []) s t old new (Some x) → Some (ToBegin r) ≡ Some x → Begins (answers.Begin r)
@@ -156,11 +165,13 @@ module _ (s t : Replica) (old new : Option Told) where
     comes = λ may. one_made (Begin []) s t old new x makes (accepted_by (ToBegin (Ok blocks)) x told tt);
     state = is.2;
     blames = λ before now same. same;
+    ends = tt;
   }
   begin_answered (Err begin.SequenceSpent) is x makes told = record {
     comes = λ may. one_spent (Begin []) s t old new x SequenceSpent makes (refl, ([], ap (λ (y : Answered). y ∷ []) (sym (some_same (ToBegin (Err begin.SequenceSpent)) x told))));
     state = tt;
     blames = λ before now same. same;
+    ends = tt;
   }
   begin_answered (Err (begin.Running a)) is x makes told = begin_refused (begin.Running a) (λ no. cc) is.0
   begin_answered (Err (begin.RootTooLong a)) is x makes told = begin_refused (begin.RootTooLong a) (λ no. cc) is.0
@@ -178,6 +189,7 @@ module _ (s t : Replica) (old new : Option Told) where
     pub state : OnOk (op_of a) (t ≡ appended s (next_unit s the_client request body))
     pub op : IfOk (op_of a) (λ op. op ≡ s.head + 1)
     pub blames : (before now : ℕ) → now ≡ before → IsBlamed is_disk before now (op_of a)
+    pub ends : IfErr (op_of a) (IsOfCall new)
 
   module _ (request : ℕ) (body : List ℕ) where
     append_refused : (e : AppendError) → (e ≡ append.OpsSpent → ⊥) → first_refusal (append_refusals (memory s) the_client request body) ≡ Some e → Appends request body (answers.Append (Err e))
@@ -189,6 +201,7 @@ module _ (s t : Replica) (old new : Option Told) where
       state = tt;
       op = tt;
       blames = λ before now same. same;
+      ends = tt;
     }
 
     append_answered : (r : Result Receipt AppendError) → IsAppend the_client request body s t old new r → (x : Answered) → Makes (Append the_client request body) s t old new (Some x) → machine_answer (answers.Append r) ≡ Some x → Appends request body (answers.Append r)
@@ -197,12 +210,14 @@ module _ (s t : Replica) (old new : Option Told) where
       state = is.2;
       op = ap (λ (r : Receipt). r.op) is.1;
       blames = λ before now same. same;
+      ends = tt;
     }
     append_answered (Err append.OpsSpent) is x makes told = record {
       comes = λ may. one_spent (Append the_client request body) s t old new x OpsSpent makes (refl, ([], ap (λ (y : Answered). y ∷ []) (sym (some_same (ToAppend (Err append.OpsSpent)) x told))));
       state = tt;
       op = tt;
       blames = λ before now same. same;
+      ends = tt;
     }
     append_answered (Err append.DiskFault) is x makes told = absurd (none-some x told)
     append_answered (Err append.ClientZero) is x makes told = append_refused append.ClientZero (λ no. cc) is.0
@@ -212,6 +227,7 @@ module _ (s t : Replica) (old new : Option Told) where
     append_answered (Err (append.ReplyPending a)) is x makes told = append_refused (append.ReplyPending a) (λ no. cc) is.0
     append_answered (Err (append.RequestOrder a)) is x makes told = append_refused (append.RequestOrder a) (λ no. cc) is.0
     append_answered (Err (append.PipelineFull a)) is x makes told = append_refused (append.PipelineFull a) (λ no. cc) is.0
+    append_answered (Err (append.Staged a)) is x makes told = append_refused (append.Staged a) (λ no. cc) is.0
     append_answered (Err (append.WalFull a b)) is x makes told = append_refused (append.WalFull a b) (λ no. cc) is.0
 
     pub append_comes : (a : Answer) → GivesAnswer (Append the_client request body) s t old new a → Appends request body a

@@ -32,7 +32,7 @@ use Rattle.df_table.specs.Calls.{Changes}
 use Rattle.df_table.specs.Policy.{line_commands}
 use Rattle.df_table.specs.Serving.{Answers, IsExecuted, Tells, printed_turn}
 use Rattle.df_table.specs.Statuses.{ending_text, status_of}
-use Rattle.df_table.specs.Turns.{AreFit, EndIn, IsAccepted, MakeAll}
+use Rattle.df_table.specs.Turns.{AreFit, EndIn, IsAccepted, IsOfCall, MakeAll}
 
 -- ---- what isn't refused may be done
 
@@ -87,10 +87,10 @@ module _ (layout : Layout) (said : Said) (c : Command) (s t : Replica) (old new 
   }
 
   pub ended : (steps : ℕ) (ending : Ending) (written took : Option (List ℕ)) (turn : Step) (ends : Status) → turn ≡ Ends ends → EndIn (line_commands layout (memory s) table.rows steps (c ∷ [])) s t old new ending → Writes (ending_text ending) (status_of ending) written took ends
-      → Answers layout said s t old new table later written took turn
-  ended steps ending written took turn ends is halts wrote =
+      → IsOfCall new ending → Answers layout said s t old new table later written took turn
+  ended steps ending written took turn ends is halts wrote of_call =
       subst (λ (u : Step). Answers layout said s t old new table later written took u) (sym is)
-      (inr (ending, steps, subst (λ (l : List Command). EndIn (line_commands layout (memory s) table.rows steps l) s t old new ending) (sym asks_is) halts, wrote, fit_is))
+      (inr (ending, steps, subst (λ (l : List Command). EndIn (line_commands layout (memory s) table.rows steps l) s t old new ending) (sym asks_is) halts, wrote, fit_is, of_call))
 
 -- ---- a line without one
 
@@ -150,8 +150,8 @@ module _ (layout : Layout) (said : Said) (c : Command) (s t : Replica) (old new 
       (from_tells layout said s t old new table later written took text (printed_turn r) (executed layout said c s t old new table later asks_is fits makes.0 makes.1 changed head) text_is (printed_tells text written took E r prints))
 
   -- or something ended the session within it
-  pub changed_ends : (T : Type 0) (ending : Ending) (ends : Status) → Changes {T = T} layout table.rows c s t old new (Err ending) → Writes (ending_text ending) (status_of ending) written took ends → Answers layout said s t old new table later written took (Ends ends)
-  changed_ends T ending ends makes wrote = ended layout said c s t old new table later asks_is fits makes.0 ending written took (Ends ends) ends refl makes.1 wrote
+  pub changed_ends : (T : Type 0) (ending : Ending) (ends : Status) → Changes {T = T} layout table.rows c s t old new (Err ending) → Writes (ending_text ending) (status_of ending) written took ends → IsOfCall new ending → Answers layout said s t old new table later written took (Ends ends)
+  changed_ends T ending ends makes wrote of_call = ended layout said c s t old new table later asks_is fits makes.0 ending written took (Ends ends) ends refl makes.1 wrote of_call
 
 -- a line without a command was answered
 module _ (layout : Layout) (said : Said) (s : Replica) (told : Option Told) (table : Table) (written took : Option (List ℕ)) (none : accepted table said ≡ []) where

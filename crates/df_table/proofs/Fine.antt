@@ -7,7 +7,9 @@ use Rattle.df_layout.specs.declared.layout.Layout.{Layout}
 use Rattle.df_theory.specs.Units.{Session}
 use Rattle.df_theory.proofs.Laws.{tracks}
 use Rattle.df_model.specs.Memory.{Memory, free_of}
-use Rattle.df_model.specs.Refusals.{append_refusals, begin_refusals, block_refusals, first_refusal, is_last_request, is_new, is_running, last_op, next_request, reply_refusals, session_of_client}
+use Rattle.df_model.specs.Refusals.{begin_refusals, block_refusals, first_refusal, is_last_request, is_new, is_running, is_staged, last_op, next_request, reply_refusals, request_refusals, session_of_client}
+use Rattle.df_model.specs.Work.{Request}
+use Rattle.df_model.specs.declared.errors.AppendError.{AppendError}
 use Rattle.df_model.specs.declared.errors.AppendError.TheVariants as append
 use Rattle.df_model.specs.declared.errors.BeginError.TheVariants as begin
 use Rattle.df_model.proofs.Laws.{pass_all}
@@ -42,6 +44,11 @@ but_last (t ∷ ts) b e all = elim (but_last ts b e all.1) [
   | inr some ↦ inr (passed t.0 t.1 (first_refusal (ts ++ (b, e) ∷ [])) (Some e) all.0 some)
 ]
 
+-- one that doesn't hold comes last
+last_passed : {E : Type 0} (ts : List (Bool × E)) (b : Bool) (e : E) → b ≡ false → first_refusal (ts ++ (b, e) ∷ []) ≡ first_refusal ts
+last_passed [] b e is = passed b e None None is refl
+last_passed (t ∷ ts) b e is = ap (λ (o : Option _). if t.0 then Some t.1 else o) (last_passed ts b e is)
+
 -- ---- the one session
 
 abbrev pub AreOwn : List Session → Type 0
@@ -74,7 +81,7 @@ module _ (layout : Layout) (s : Replica) (ready : IsReady layout s) where
   answered : last_op (slice_get (memory s).sessions 0) ≤ (memory s).replies
   answered = let low = low_op (memory s).sessions (memory s).head ops in omega (arith, low, ready.own.answered)
 
-  tests : (body : List ℕ) → is_full (memory s) ≡ false → length body ≤ 64 → AllPass (take 8 (append_refusals (memory s) the_client (next_request (session_of_client the_client (memory s).sessions)) body))
+  tests : (body : List ℕ) → is_full (memory s) ≡ false → length body ≤ 64 → AllPass (take 8 (request_refusals (memory s) the_client (next_request (session_of_client the_client (memory s).sessions)) body))
   tests body room short =
       let o = session_of_client the_client (memory s).sessions in
       let is = own_session (memory s).sessions ready.own.alone in
@@ -87,11 +94,9 @@ module _ (layout : Layout) (s : Replica) (ready : IsReady layout s) where
   pub may_append : (body : List ℕ) → is_full (memory s) ≡ false → length body ≤ 64 → MayAppend s (next_request (session_of_client the_client (memory s).sessions)) body
   may_append body room short =
       let o = session_of_client the_client (memory s).sessions in
-      but_last
-      (take 8 (append_refusals (memory s) the_client (next_request o) body))
-      (((memory s).head == 2 ^ 62) || nat_lt (2 ^ 62) (next_request o))
-      append.OpsSpent
-      (tests body room short)
+      let asks = request_refusals (memory s) the_client (next_request o) body in
+      subst (λ (r : Option AppendError). (r ≡ None) ⊎ (r ≡ Some append.OpsSpent)) (sym (last_passed asks (is_staged (memory s)) (append.Staged (length (memory s).staged)) (ap (λ (l : List Request). nat_lt 0 (length l)) ready.own.unstaged)))
+      (but_last (take 8 asks) (((memory s).head == 2 ^ 62) || nat_lt (2 ^ 62) (next_request o)) append.OpsSpent (tests body room short))
 
   -- the reply to it isn't refused
   pub may_reply : (request : ℕ) (body : List ℕ) (op : ℕ) → op ≡ s.head + 1 → first_refusal (reply_refusals (memory (appended s (next_unit s the_client request body))) op []) ≡ None

@@ -110,6 +110,7 @@ module _ (layout : Layout) (s t : Replica) (e : IsEmptied layout s t) (n : ℕ) 
         own = record {
           idle = idle_runs v done.idle;
           answered = done.replies ∙ ap (λ (x : Replica). x.replies) base ∙ e.ready.own.answered ∙ sym (ap (λ (x : Replica). x.head) base) ∙ sym done.head;
+          unstaged = done.staged ∙ ap (λ (x : Replica). x.staged) base ∙ e.ready.own.unstaged;
           alone = subst (λ (x : Sessions). AreOwn (sessions_of x.sessions)) (sym (done.table ∙ ap (λ (x : Replica). x.table) base)) e.ready.own.alone;
         };
         space = record {

@@ -92,7 +92,7 @@ module _ (shown : Shown) (m : Memory) where
     bodies_seen s (suc n) known bodies read =
         entry_seen s (entries f (range_with_len (s + 1) n)) (λ c is. known s c (omega arith) (omega arith) is) (bodies_seen (s + 1) n (λ a c from to is. known a c (omega (arith, from)) (omega (arith, to)) is)) (f s) refl bodies read
 
-  as_many : (xs : List (ℕ × ℕ)) (bodies : List (List ℕ)) → AreRead shown m xs bodies → length bodies ≡ length xs
+  pub as_many : (xs : List (ℕ × ℕ)) (bodies : List (List ℕ)) → AreRead shown m xs bodies → length bodies ≡ length xs
   as_many [] [] read = refl
   as_many [] (body ∷ bodies) read = absurd read
   as_many (x ∷ xs) [] read = absurd read

@@ -13,7 +13,7 @@ use Rattle.df_theory.specs.Units.{AnyUnit, Block, BlockPlace, BlockUnit, or_else
 use Rattle.df_theory.proofs.Laws.{now_units, pool_pools}
 use Rattle.df_units.specs.Bytes.{unit_at}
 use Rattle.df_model.specs.declared.errors.BlockError.{BlockError}
-use Rattle.df_model.specs.Commands.{Answer, Command, WriteBlock, supplied_sum}
+use Rattle.df_model.specs.Commands.{Answer, Command, WriteBlock, supplied_sum, supplied_sums}
 use Rattle.df_model.specs.Making.{block_of, next_address}
 use Rattle.df_model.specs.Memory.{memory_of}
 use Rattle.df_model.specs.Refusals.{block_refusals, first_refusal}
@@ -95,14 +95,14 @@ module _ (file : DataFile) (a : Act) (s u : Replica) (old mid : Option Told) (x 
       → IsWritten (units_log (format file) behind.log) (BlockPlace (next_address (memory s))) (BlockUnit (block_of (memory s).content.boot (supplied_sum a.given) 1 body))
   block_written body is fine =
       let address = next_address (memory s) in
-      let sum = supplied_sum a.given in
-      let b = block_of (memory s).content.boot sum 1 body in
+      let sums = supplied_sums a.given in
+      let b = block_of (memory s).content.boot (supplied_sum a.given) 1 body in
       let image = logs.now n.log in
       let leaves = c.leaves image (now_is_image n.log.start n.log.events kept_is.log_is.start kept_is.log_is.events) in
-      let put : puts_of (memory s) sum (WriteBlock 1 body) (BlockPlace address) ≡ Some (BlockUnit b) =
+      let put : puts_of (memory s) sums (WriteBlock 1 body) (BlockPlace address) ≡ Some (BlockUnit b) =
       ap (λ (o : Option BlockError). unless o (put_one (BlockPlace address) (BlockUnit b)) (BlockPlace address)) fine ∙ ap (λ (e : Bool). if e then Some (BlockUnit b) else None) (eq-eqb address address refl) in
       let shown : unit_at s.file.layout s.file.cluster (image_after c.events image) (BlockPlace address) ≡ Some (BlockUnit b) =
-      leaves.units.block address ∙ ap (λ (k : Command). or_else (puts_of (memory s) sum k (BlockPlace address)) (unit_at s.file.layout s.file.cluster image (BlockPlace address))) is
+      leaves.units.block address ∙ ap (λ (k : Command). or_else (puts_of (memory s) sums k (BlockPlace address)) (unit_at s.file.layout s.file.cluster image (BlockPlace address))) is
       ∙ ap (λ (o : Option AnyUnit). or_else o (unit_at s.file.layout s.file.cluster image (BlockPlace address))) put in
       let there : unit_at file.layout file.cluster (image_after c.events image) (BlockPlace address) ≡ Some (BlockUnit b) =
       subst (λ (f : DataFile). unit_at f.layout f.cluster (image_after c.events image) (BlockPlace address) ≡ Some (BlockUnit b)) same shown in

@@ -41,5 +41,11 @@ pub mod Asking
 pub mod Tabled
 pub mod Started
 pub mod Sessioned
+pub mod Owned
+pub mod Finding
 pub mod Served
 pub mod Ordered
+pub mod OneFile
+pub mod Coming
+pub mod Lives
+pub mod SafelyRun

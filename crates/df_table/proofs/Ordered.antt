@@ -11,7 +11,7 @@ use Rattle.df_theory.specs.Units.{AnyUnit, Block, BlockPlace, BlockUnit, Units, 
 use Rattle.df_units.specs.Bytes.{unit_at}
 use Rattle.df_model.specs.After.{after_running, after_step_of, begun, with_live, with_running}
 use Rattle.df_model.specs.Blocks.{addresses, entries, entry, sum_at}
-use Rattle.df_model.specs.Commands.{Advance, Answer, Begin, Command, Release, ToAdvance, WriteBlock, supplied_sum}
+use Rattle.df_model.specs.Commands.{Advance, Answer, Begin, Command, Release, ToAdvance, WriteBlock, supplied_sum, supplied_sums}
 use Rattle.df_model.specs.Making.{block_of, next_address}
 use Rattle.df_model.specs.Memory.{Memory, course, course_of, memory_of}
 use Rattle.df_model.specs.Sense.{AtEachOf, IsSpare, IsWork}
@@ -120,7 +120,7 @@ module _ (file : DataFile) where
     is : mid ≡ Some told
     answer : x ≡ (next file w a.given a.command).1
     seen : Seen u (next file w a.given a.command).0 told
-    blocks : (y : ℕ) → image told (BlockPlace y) ≡ or_else (puts_of (m w) (supplied_sum a.given) a.command (BlockPlace y)) (image o (BlockPlace y))
+    blocks : (y : ℕ) → image told (BlockPlace y) ≡ or_else (puts_of (m w) (supplied_sums a.given) a.command (BlockPlace y)) (image o (BlockPlace y))
 
   moves : (a : Act) (s u : Replica) (w : Work) (o : Told) (mid : Option Told) (x : Answer) → Seen s w o → Calls a s u (Some o) mid (Some x) → Moves a u w o mid x
   moves a s u w o mid x is c =
@@ -135,8 +135,8 @@ module _ (file : DataFile) where
         seen = record { same = c.call.file ∙ is.same; stands = behind.1; whole = subst IsImage (sym (shown_on es o)) leaves.whole };
         blocks = λ y.
             ap (λ i. unit_at file.layout file.cluster i (BlockPlace y)) (shown_on es o)
-            ∙ subst (λ (f : DataFile). unit_at f.layout f.cluster (image_after es o.shown) (BlockPlace y) ≡ or_else (puts_of (m w) (supplied_sum a.given) a.command (BlockPlace y)) (unit_at f.layout f.cluster o.shown (BlockPlace y))) is.same
-            (leaves.units.block y ∙ ap (λ (k : Memory). or_else (puts_of k (supplied_sum a.given) a.command (BlockPlace y)) (unit_at s.file.layout s.file.cluster o.shown (BlockPlace y))) own);
+            ∙ subst (λ (f : DataFile). unit_at f.layout f.cluster (image_after es o.shown) (BlockPlace y) ≡ or_else (puts_of (m w) (supplied_sums a.given) a.command (BlockPlace y)) (unit_at f.layout f.cluster o.shown (BlockPlace y))) is.same
+            (leaves.units.block y ∙ ap (λ (k : Memory). or_else (puts_of k (supplied_sums a.given) a.command (BlockPlace y)) (unit_at s.file.layout s.file.cluster o.shown (BlockPlace y))) own);
       }
 
   module _ (t : Replica) (new : Option Told) where
@@ -157,7 +157,7 @@ module _ (file : DataFile) where
       told : Told
       seen : Seen replica (next file w first.given c).0 told
       accepted : IsAccepted (next file w first.given c).1
-      blocks : (y : ℕ) → image told (BlockPlace y) ≡ or_else (puts_of (m w) (supplied_sum first.given) c (BlockPlace y)) (image o (BlockPlace y))
+      blocks : (y : ℕ) → image told (BlockPlace y) ≡ or_else (puts_of (m w) (supplied_sums first.given) c (BlockPlace y)) (image o (BlockPlace y))
       made : MakeAll cs replica t (Some told) new
 
     next_made : (c : Command) (cs : List Command) (s : Replica) (w : Work) (o : Told) → Seen s w o → MakeAll (c ∷ cs) s t (Some o) new → Next c cs w o
@@ -171,7 +171,7 @@ module _ (file : DataFile) where
           told = go.told;
           seen = subst (λ (k : Command). Seen f.replica (next file w f.act.given k).0 go.told) f.is go.seen;
           accepted = subst IsAccepted (go.answer ∙ ap (λ (k : Command). (next file w f.act.given k).1) f.is) f.accepted;
-          blocks = subst (λ (k : Command). (y : ℕ) → image go.told (BlockPlace y) ≡ or_else (puts_of (m w) (supplied_sum f.act.given) k (BlockPlace y)) (image o (BlockPlace y))) f.is go.blocks;
+          blocks = subst (λ (k : Command). (y : ℕ) → image go.told (BlockPlace y) ≡ or_else (puts_of (m w) (supplied_sums f.act.given) k (BlockPlace y)) (image o (BlockPlace y))) f.is go.blocks;
           made = subst (λ (p : Option Told). MakeAll cs f.replica t p new) go.is f.rest;
         }
 
@@ -202,7 +202,7 @@ module _ (file : DataFile) where
         let b = block_of (m w).content.boot sum 1 body in
         let did = wrote file w n.first.given body n.accepted in
         let least = block_may_law (shape file) (spelling file) w 1 body did.0 in
-        let puts : (y : ℕ) → puts_of (m w) sum (WriteBlock 1 body) (BlockPlace y) ≡ put_one (BlockPlace address) (BlockUnit b) (BlockPlace y) = λ y. ap (λ (e : Option BlockError). unless e (put_one (BlockPlace address) (BlockUnit b)) (BlockPlace y)) did.0 in
+        let puts : (y : ℕ) → puts_of (m w) (supplied_sums n.first.given) (WriteBlock 1 body) (BlockPlace y) ≡ put_one (BlockPlace address) (BlockUnit b) (BlockPlace y) = λ y. ap (λ (e : Option BlockError). unless e (put_one (BlockPlace address) (BlockUnit b)) (BlockPlace y)) did.0 in
         let there : image n.told (BlockPlace address) ≡ Some (BlockUnit b) = n.blocks address ∙ ap (λ (u : Option AnyUnit). or_else u (image o (BlockPlace address))) (puts address ∙ put_there address b) in
         let apart : (y d : ℕ) → w.live y ≡ Some d → image n.told (BlockPlace y) ≡ image o (BlockPlace y) = λ y d live.
         let below = lower w address y d low least.inside.0 least.free live in

@@ -124,7 +124,7 @@ module _ (layout : Layout) (t : Told) (s : Replica) (mended : Option Told) (whol
 
   -- the opening begins with it
   pub begun : IsBegun layout (begun_work s.file t.shown view) s
-  begun = record { stands = begun_here t s mended over view whole is_found; layout_is = of; idle = refl; live = refl }
+  begun = record { stands = begun_here t s mended over view whole is_found; layout_is = of; idle = refl; unstaged = refl; live = refl }
 
   -- what it finds over what the disk then shows it finds over what it showed at first
   slots_inside : (op : ℕ) → IsReadPlace s.file.layout (PreparePlace (op % s.file.layout.slots))

@@ -82,19 +82,13 @@ module _ (t : Told) (s : Replica) (mended : Option Told) (over : MendsAll t s me
       (u : Replica) (mid : Option Told) (view : View) (base : Told) (table : Table) → base.shown ≡ t.shown → MayOpen s.file view base → IsTable s.file (unit_at s.file.layout s.file.cluster t.shown) view table
       → KeptAll s.file failed u mid s mended (begun_work s.file t.shown view) (begins base) table acts answers
 
-  module _ (made : CallsMade) (acts : List Act) (answers : List Answer) (failed : Option Act) (from_is : made.from ≡ s) (old_is : made.old ≡ mended) (acts_is : made.acts ≡ acts) (answers_is : made.answers ≡ answers) (failed_is : made.failed ≡ failed) (have : ActsHave acts × FailHas failed)
-      (each : EachKept acts answers failed) where
-    abbrev there : (changes : List Change) × AreChanges acts answers changes
-    there = changes_there acts answers have.0
+  module _ (made : CallsMade) (acts : List Act) (answers : List Answer) (failed : Option Act) (from_is : made.from ≡ s) (old_is : made.old ≡ mended) (acts_is : made.acts ≡ acts) (answers_is : made.answers ≡ answers) (failed_is : made.failed ≡ failed)
+      (have : ActsHave made.acts × FailHas made.failed) (each : EachKept acts answers failed) where
+    abbrev there : (changes : List Change) × AreChanges made.acts made.answers changes
+    there = changes_there made.acts made.answers have.0
 
-    abbrev pends : (pending : List Change) × IsPending failed pending
-    pends = pending_there failed have.1
-
-    are : AreChanges made.acts made.answers there.0
-    are = subst (λ (l : List Act). AreChanges l made.answers there.0) (sym acts_is) (subst (λ (l : List Answer). AreChanges acts l there.0) (sym answers_is) there.1)
-
-    is_pending : IsPending made.failed pends.0
-    is_pending = subst (λ (f : Option Act). IsPending f pends.0) (sym failed_is) pends.1
+    abbrev pends : (pending : List Change) × IsPending made.failed pending
+    pends = pending_there made.failed have.1
 
     made_kept : (u : Replica) (mid : Option Told) (w : Work) (n : Told) (table : Table) → KeptAll s.file failed u mid s mended w n table acts answers → KeptAll s.file made.failed u mid made.from made.old w n table made.acts made.answers
     made_kept u mid w n table kept =
@@ -107,8 +101,8 @@ module _ (t : Told) (s : Replica) (mended : Option Told) (over : MendsAll t s me
     keeps_table = record {
       changes = there.0;
       pending = pends.0;
-      are = are;
-      is_pending = is_pending;
+      are = there.1;
+      is_pending = pends.1;
       keeps = λ view base table same may is.
           let w = begun_work s.file t.shown view in
           let n = begins base in
@@ -120,15 +114,31 @@ module _ (t : Told) (s : Replica) (mended : Option Told) (over : MendsAll t s me
               is = refl;
               moments =
                   joined (did Sync base).log n.log after.log (IsMidway s.file table (there.0 ++ pends.0)) (grew (events_made made) n) (mending_moments t s mended over whole live view base table same may is (there.0 ++ pends.0))
-                  (moments_all s.file made.from made.to made.old made.new made.acts made.answers w n table at there.0 pends.0 are made.failed made.calls kept is_pending);
+                  (moments_all s.file made.from made.to made.old made.new made.acts made.answers w n table at there.0 pends.0 there.1 made.failed made.calls kept pends.1);
               answered = λ k log some more before behind had until.
-                  answered_all s.file made.from made.to made.old made.new made.acts made.answers w n table at there.0 pends.0 are made.failed made.calls kept is_pending k log some more before behind had until;
-              end_safe = end_all s.file made.from made.to made.old made.new made.acts made.answers w n table at there.0 pends.0 are made.failed made.calls kept is_pending;
+                  answered_all s.file made.from made.to made.old made.new made.acts made.answers w n table at there.0 pends.0 there.1 made.failed made.calls kept pends.1 k log some more before behind had until;
+              end_safe = end_all s.file made.from made.to made.old made.new made.acts made.answers w n table at there.0 pends.0 there.1 made.failed made.calls kept pends.1;
             },
           );
     }
 
 -- ---- a session
+
+-- what is told before its calls, and behind them
+pub called_told : (layout : Layout) (s : Replica) (told : Option Told) (old new : Outside) (status : Status) (opened : Result Table Ending) (serves : Serves layout s told old new status opened) (c : CallsMade) → AreCallsOf layout s told old new status opened serves c → (c.old ≡ told) × (c.new ≡ new.told)
+called_told layout s told old new status opened (NotOpened ending last ends unread writes) c are = (are.1, are.2)
+called_told layout s told old new status opened (Served found r mid opens lines) c are = (are.1, are.2)
+
+-- a table's program asks for each of them
+pub called_have : (layout : Layout) (s : Replica) (told : Option Told) (old new : Outside) (status : Status) (opened : Result Table Ending) (serves : Serves layout s told old new status opened) (c : CallsMade) → AreCallsOf layout s told old new status opened serves c → ActsHave c.acts × FailHas c.failed
+called_have layout s told old new status opened (NotOpened ending last ends unread writes) c are =
+    let have = asked_have (Unit {0}) ends.failed (opening (memory s)) ends.acts ends.answers (asks_ends (opening (memory s)) s last told new.told ending ends) (opening_has (memory s)) in
+    (subst ActsHave (sym are.3) have.0, subst FailHas (sym are.5) have.1)
+called_have layout s told old new status opened (Served found r mid opens lines) c are =
+    let asks = asks_made (opening (memory s)) s r told mid opens.acts opens.answers opens.calls opens.are opens.accepted in
+    let first = asked_have ⊥ None (opening (memory s)) opens.acts opens.answers asks (opening_has (memory s)) in
+    let rest = lines_have layout lines.turns r lines.replica lines.last mid lines.mid new.told found lines.table lines.halt lines.are lines.halts in
+    (subst ActsHave (sym are.3) (acts_have opens.acts _ first.0 rest.0), subst FailHas (sym are.5) rest.1)
 
 -- of all calls of a session the table is kept
 abbrev pub SessionsKeepTable : Type 0
@@ -142,7 +152,7 @@ no_disk x is = cc
 pub sessions_keep : SessionsKeepTable
 sessions_keep layout t s mended over old new status opened (NotOpened ending last ends unread writes) made whole live own finds are =
     let asks = asks_ends (opening (memory s)) s last mended new.told ending ends in
-    keeps_table t s mended over whole live made ends.acts ends.answers ends.failed are.0 are.1 are.3 are.4 are.5 (asked_have (Unit {0}) ends.failed (opening (memory s)) ends.acts ends.answers asks (opening_has (memory s)))
+    keeps_table t s mended over whole live made ends.acts ends.answers ends.failed are.0 are.1 are.3 are.4 are.5 (called_have layout s mended old new status opened (NotOpened ending last ends unread writes) made are)
     (λ u mid view base table same may is.
     opening_to_end s.file ends.failed u mid s mended (begun_work s.file t.shown view) (told_after over.mending.events (did Sync base)) table (at_begin t s mended over whole live view base table same may is) ends.acts ends.answers (memory s) asks)
 sessions_keep layout t s mended over old new status opened (Served found r mid opens lines) made whole live own finds are =
@@ -150,9 +160,8 @@ sessions_keep layout t s mended over old new status opened (Served found r mid o
     let answers = halted_answers layout lines.replica lines.mid lines.table lines.halt lines.last new.told lines.halts in
     let failed = halted_failed layout lines.replica lines.mid lines.table lines.halt lines.last new.told lines.halts in
     let asks = asks_made (opening (memory s)) s r mended mid opens.acts opens.answers opens.calls opens.are opens.accepted in
-    let rest = lines_have layout lines.turns r lines.replica lines.last mid lines.mid new.told found lines.table lines.halt lines.are lines.halts in
     keeps_table t s mended over whole live made (opens.acts ++ (all_acts lines.turns ++ acts)) (opens.answers ++ (all_answers lines.turns ++ answers)) failed are.0 are.1 are.3 are.4 are.5
-    (acts_have opens.acts (all_acts lines.turns ++ acts) (asked_have ⊥ None (opening (memory s)) opens.acts opens.answers asks (opening_has (memory s))).0 rest.0, rest.1)
+    (called_have layout s mended old new status opened (Served found r mid opens lines) made are)
     (λ u new_told view base table same may is.
     let w = begun_work s.file t.shown view in
     let n = told_after over.mending.events (did Sync base) in

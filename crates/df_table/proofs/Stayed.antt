@@ -1,7 +1,7 @@
 -- What a command makes of the view: no other one than an append or a checkpoint's last step changes its checkpoint or its tail.
 use Rattle.std.proofs.Common.{◌≡◌, ◌≤◌, ◌-◌, ℕ, zero, suc, List, [], ◌∷◌, length, drop, Option, Some, None, refl, arith}
 use Rattle.df_model.specs.After.{outcome, with_live, with_reply, with_running, begun}
-use Rattle.df_model.specs.Commands.{Advance, Append, Begin, Command, Given, ReadBlock, ReadPrepare, ReadReply, Recent, Release, Reply, Scrub, WriteBlock, supplied_sum, ToBegin, ToRelease, ToWriteBlock}
+use Rattle.df_model.specs.Commands.{Advance, Append, Begin, Command, Flush, Given, ReadBlock, ReadPrepare, ReadReply, Recent, Release, Reply, Scrub, Stage, ToBegin, ToRelease, ToWriteBlock, WriteBlock, supplied_sum}
 use Rattle.df_model.specs.Making.{needed_of, next_address, place_of_reply, reply_of}
 use Rattle.df_model.specs.Memory.{Memory, memory_of}
 use Rattle.df_model.specs.Refusals.{begin_refusals, block_refusals, first_refusal, release_refusals, reply_refusals}
@@ -31,6 +31,8 @@ outcome_stays (Some e) w u x is = stays w
 -- neither an append nor a step
 abbrev pub IsPlain : Command → Type 0
 IsPlain (Append client request body) = ⊥
+IsPlain (Stage client request body) = ⊥
+IsPlain Flush = ⊥
 IsPlain (Reply op body) = Unit {0}
 IsPlain (WriteBlock kind body) = Unit {0}
 IsPlain (Release address) = Unit {0}
@@ -48,6 +50,8 @@ module _ (file : DataFile) (w : Work) (given : Given) where
 
   pub plain_stays : (c : Command) → IsPlain c → Stays w (next file w given c).0
   plain_stays (Append client request body) plain = absurd plain
+  plain_stays (Stage client request body) plain = absurd plain
+  plain_stays Flush plain = absurd plain
   plain_stays (Reply op body) plain =
       outcome_stays (first_refusal (reply_refusals m op body)) w (with_reply w (place_of_reply m) (reply_of m (supplied_sum given) body)) (supplied_sum given) (record { checkpoint = refl; tail = refl })
   plain_stays (WriteBlock kind body) plain =

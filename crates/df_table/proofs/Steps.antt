@@ -40,6 +40,7 @@ pub record IsUnder (r : RunningState) (s t : Replica) : Type 0 where
   pub file : t.file ≡ s.file
   pub head : t.head ≡ s.head
   pub replies : t.replies ≡ s.replies
+  pub staged : t.staged ≡ s.staged
   pub table : t.table ≡ s.table
   pub live : t.blocks.live ≡ s.blocks.live
   pub captured : t.blocks.captured ≡ s.blocks.captured
@@ -51,6 +52,7 @@ under_start r s is = record {
   file = refl;
   head = refl;
   replies = refl;
+  staged = refl;
   table = refl;
   live = refl;
   captured = refl;
@@ -73,6 +75,7 @@ module _ (r : RunningState) (s t u : Replica) (is : IsUnder r s t) where
         file = is.file;
         head = is.head;
         replies = is.replies;
+        staged = is.staged;
         table = is.table;
         live = one.0 ∙ is.live;
         captured = one.1 ∙ is.captured;
@@ -92,6 +95,7 @@ module _ (r : RunningState) (s t u : Replica) (is : IsUnder r s t) where
         file = is.file;
         head = is.head;
         replies = is.replies;
+        staged = is.staged;
         durable = is.captured;
         table = is.table;
         live = is.live;

@@ -79,6 +79,7 @@ module _ (layout : Layout) (s : Replica) (ready : IsReady layout s) (request : �
     own = record {
       idle = ready.own.idle;
       answered = ap (λ (n : ℕ). n + 1) ready.own.answered;
+      unstaged = ready.own.unstaged;
       alone = own_all _ (reply_own h.slot h.checksum _ (request_own request (s.head + 1) s.table.sessions (own_each s.table.sessions ready.own.alone)));
     };
     space = record { live = ready.space.live; few = ready.space.few; chain = ready.space.chain };

@@ -61,7 +61,7 @@ module _ (layout : Layout) (before after : Outside) (old new : Session) (room : 
   )
   by_turn (Ends ends) (inl did) = λ origin turns so_far. ends_unanswered layout (state before old) (state after new) (said_with room.body line) takes origin turns so_far did.0 ends did.1 did.2
   by_turn (Ends ends) (inr did) = λ origin turns so_far.
-      ends_within layout (state before old) (state after new) (said_with room.body line) takes origin turns so_far did.0 did.1 ends did.2 did.3 (undone did.0 before.written after.written ends did.3) did.4
+      ends_within layout (state before old) (state after new) (said_with room.body line) takes origin turns so_far did.0 did.1 ends did.2 did.3 (undone did.0 before.written after.written ends did.3) did.4 did.5
 
 -- ---- no line was taken
 

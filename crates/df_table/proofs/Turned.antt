@@ -19,7 +19,7 @@ use Rattle.df_table.specs.Outside.{Writes}
 use Rattle.df_table.specs.Serving.{Ended, EndsIn, Executed, GoesOn, IsExecuted, State}
 use Rattle.df_table.specs.Session.{EndsText, EndsWith, closing}
 use Rattle.df_table.specs.Statuses.{ending_text, status_of}
-use Rattle.df_table.specs.Turns.{AreFit, AreTurns, EndIn, Turn, all_said, commands_of}
+use Rattle.df_table.specs.Turns.{AreFit, AreTurns, EndIn, IsOfCall, Turn, all_said, commands_of}
 
 -- ---- lines
 
@@ -144,8 +144,8 @@ module _ (layout : Layout) (old new : State) (said : Said) (takes : (rest : List
 
   -- something ended it within the line
   pub ends_within : (ending : Ending) (steps : ℕ) (status : Status) → EndIn (commands_of layout old.replica old.table steps said) old.replica new.replica old.outside.told new.outside.told ending
-      → Writes (ending_text ending) (status_of ending) old.outside.written new.outside.written status → (status ≡ Done → ⊥) → AreFit (accepted old.table said) → Ended layout origin new status
-  ends_within ending steps status ends wrote undone fit = record {
+      → Writes (ending_text ending) (status_of ending) old.outside.written new.outside.written status → (status ≡ Done → ⊥) → AreFit (accepted old.table said) → IsOfCall new.outside.told ending → Ended layout origin new status
+  ends_within ending steps status ends wrote undone fit of_call = record {
     turns = turns;
     replica = old.replica;
     mid = old.outside.told;
@@ -153,7 +153,7 @@ module _ (layout : Layout) (old new : State) (said : Said) (takes : (rest : List
     are = before.calls;
     halt = Some (record { said = said; ending = ending });
     cut = false;
-    halts = (steps, ends, fit);
+    halts = (steps, ends, fit, of_call);
     text = λ text is.
         let begins = begins_too text is in
         (new.budget, begins.0, begins.2, record { refused = λ no. absurd (cc); held = λ no. absurd (cc); finished = λ done. absurd (undone done) });

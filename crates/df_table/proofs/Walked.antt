@@ -9,7 +9,7 @@ use Rattle.df_theory.specs.Units.{BlockPlace, BlockUnit, Message}
 use Rattle.df_theory.specs.View.{head}
 use Rattle.df_model.specs.After.{after_running, after_step_of, begun, outcome, with_live, with_prepare, with_running}
 use Rattle.df_model.specs.Blocks.{addresses, entries, sum_at}
-use Rattle.df_model.specs.Commands.{Advance, Answer, Append, Begin, Command, ReadBlock, ReadPrepare, ReadReply, Recent, Release, Reply, Scrub, ToAppend, WriteBlock, supplied_sum}
+use Rattle.df_model.specs.Commands.{Advance, Answer, Append, Begin, Command, Flush, ReadBlock, ReadPrepare, ReadReply, Recent, Release, Reply, Scrub, Stage, ToAppend, WriteBlock, supplied_sum}
 use Rattle.df_model.specs.Making.{block_of, next_address, prepare_of}
 use Rattle.df_model.specs.Memory.{Memory, memory_of}
 use Rattle.df_model.specs.Refusals.{append_refusals, block_refusals, first_refusal, next_request, session_of_client}
@@ -60,6 +60,8 @@ ArePlain (c ∷ cs) = IsPlain c × ArePlain cs
 -- of a command that leaves the view no change comes
 pub plain_changes : (c : Command) (x : Answer) (some : List Change) → IsPlain c → Changes c x some → some ≡ []
 plain_changes (Append client request body) x some plain changes = absurd plain
+plain_changes (Stage client request body) x some plain changes = absurd plain
+plain_changes Flush x some plain changes = absurd plain
 plain_changes (Reply op body) x some plain changes = changes
 plain_changes (WriteBlock kind body) x some plain changes = changes
 plain_changes (Release address) x some plain changes = changes

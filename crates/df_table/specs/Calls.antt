@@ -1,5 +1,5 @@
 -- What each call of a session comes to, where nothing refuses it but want of ops or of sequences.
-use Rattle.std.specs.Prelude.{◌≡◌, ◌≢◌, ◌⊎◌, ◌+◌, ℕ, Bool, true, false, List, [], ◌∷◌, ◌++◌, replicate, Option, Some, None, Result, Ok, Err, IfOk, OnOk}
+use Rattle.std.specs.Prelude.{◌≡◌, ◌≢◌, ◌⊎◌, ◌+◌, ℕ, Bool, true, false, List, [], ◌∷◌, ◌++◌, replicate, Option, Some, None, Result, Ok, Err, IfErr, IfOk, OnOk}
 use Rattle.df_disk.specs.Told.{Told}
 use Rattle.df_layout.specs.declared.layout.Layout.{Layout}
 use Rattle.df_model.specs.Commands.{Advance, Begin, Command}
@@ -18,7 +18,7 @@ use Rattle.df_table.specs.declared.ending.Ending.{Ending}
 use Rattle.df_table.specs.declared.ending.Ending.TheVariants.{OpsSpent}
 use Rattle.df_table.specs.Policy.{checkpoint, line_commands, opening, room_for, the_client, writes}
 use Rattle.df_table.specs.Ready.{IsReady}
-use Rattle.df_table.specs.Turns.{EndIn, MakeAll}
+use Rattle.df_table.specs.Turns.{EndIn, IsOfCall, MakeAll}
 
 -- all of these commands were made and accepted; or the first of them were made, and this ended them
 abbrev pub Comes : {T : Type 0} → List Command → (s t : Replica) → (old new : Option Told) → Result T Ending → Type 0
@@ -101,6 +101,7 @@ pub record IsChanged (layout : Layout) (rows : Map) (c : Change) (s t : Replica)
   pub op : IfOk result (λ op. op ≡ s.head + 1)
   pub head : OnOk result (t.head ≡ s.head + 1)
   pub ready : OnOk result (IsReady layout t)
+  pub ends : IfErr result (IsOfCall new)
 
 -- those of the opening
 abbrev pub Opens : {T : Type 0} → (s t : Replica) → (old new : Option Told) → Result T Ending → Type 0

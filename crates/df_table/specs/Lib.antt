@@ -12,3 +12,5 @@ pub mod Written
 pub mod Keeping
 pub mod Run
 pub mod Laws
+pub mod Lives
+pub mod Completeness

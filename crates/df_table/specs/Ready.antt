@@ -15,10 +15,11 @@ use Rattle.df_session.specs.Serving.{Firm, Keeps}
 use Rattle.df_table.specs.Policy.{is_full, the_client}
 use Rattle.df_table.specs.declared.session.Session.{Session as Serving}
 
--- what a session keeps of memory: no checkpoint runs, nothing waits for its reply, and all sessions are the one client's
+-- what a session keeps of memory: no checkpoint runs, nothing waits for its reply or is staged, and all sessions are the one client's
 pub record IsOwn (m : Memory) : Type 0 where
   pub idle : m.running ≡ None
   pub answered : m.replies ≡ m.head
+  pub unstaged : m.staged ≡ []
   pub alone : (place : ℕ) (s : Session) → slice_get m.sessions place ≡ Some s → s.client ≡ the_client
 
 -- the addresses of entries
@@ -50,17 +51,19 @@ pub record IsSteady (layout : Layout) (s : Replica) (t : Table) : Type 0 where
   pub max : t.max ≡ most_rows layout
   pub few : maps.len t.rows ≤ most_rows layout
 
--- an open found it: it stands for this state, in which no checkpoint runs, and all that is referenced is live
+-- an open found it: it stands for this state, in which no checkpoint runs, nothing is staged, and all that is referenced is live
 pub record IsBegun (layout : Layout) (w : Work) (s : Replica) : Type 0 where
   pub stands : Keeps Firm s w None
   pub layout_is : s.file.layout ≡ layout
   pub idle : w.running ≡ None
+  pub unstaged : w.staged ≡ []
   pub live : w.live ≡ w.view.checkpoint.parts.references
 
 -- what waited was replied to, and nothing else has changed but the replies
 pub record HasCaughtUp (s t : Replica) : Type 0 where
   pub head : t.head ≡ s.head
   pub replies : s.replies ≤ s.head → t.replies ≡ s.head
+  pub staged : t.staged ≡ s.staged
   pub file : t.file ≡ s.file
   pub blocks : t.blocks ≡ s.blocks
   pub running : t.running ≡ s.running
@@ -91,6 +94,7 @@ pub record IsFinished (r : RunningState) (s t : Replica) : Type 0 where
   pub file : t.file ≡ s.file
   pub head : t.head ≡ s.head
   pub replies : t.replies ≡ s.replies
+  pub staged : t.staged ≡ s.staged
   pub table : t.table ≡ s.table
   pub op : t.fields.op ≡ r.op
   pub live : t.blocks.live ≡ s.blocks.live

@@ -24,7 +24,7 @@ use Rattle.df_table.specs.Outside.{Blames, Outside, Writes}
 use Rattle.df_table.specs.Ready.{IsSteady, Leaves}
 use Rattle.df_table.specs.Session.{EndsText, EndsWith, Halt, HaltsIn, closing, said_in}
 use Rattle.df_table.specs.Statuses.{ending_text, status_of}
-use Rattle.df_table.specs.Turns.{AreFit, AreTurns, EndIn, IsAccepted, Turn, all_said, commands_of}
+use Rattle.df_table.specs.Turns.{AreFit, AreTurns, EndIn, IsAccepted, IsOfCall, Turn, all_said, commands_of}
 
 -- ---- how far it has come
 
@@ -89,7 +89,8 @@ abbrev pub Answers : Layout → Said → (s t : Replica) → (old new : Option T
 Answers layout said s t old new table later written took Goes = IsExecuted layout said s t old new table later × Appends written took (text_of table s.head said)
 Answers layout said s t old new table later written took (Ends status) =
     (IsExecuted layout said s t old new table later × (status ≡ WriteFault) × AppendsPart written took (text_of table s.head said))
-    ⊎ ((ending : Ending) × (steps : ℕ) × EndIn (commands_of layout s table steps said) s t old new ending × Writes (ending_text ending) (status_of ending) written took status × AreFit (change_of table said))
+    ⊎ ((ending : Ending) × (steps : ℕ) × EndIn (commands_of layout s table steps said) s t old new ending × Writes (ending_text ending) (status_of ending) written took status × AreFit (change_of table said)
+    × IsOfCall new ending)
 
 -- where the session goes on
 abbrev pub OnGoing : Step → Type 0 → Type 0

@@ -22,7 +22,7 @@ use Rattle.df_table.specs.Opening.{FindsOf}
 use Rattle.df_table.specs.Outside.{Outside, Writes}
 use Rattle.df_table.specs.Policy.{opening}
 use Rattle.df_table.specs.Statuses.{ending_text, status_of}
-use Rattle.df_table.specs.Turns.{AreFit, AreTurns, EndIn, MakeAll, Turn, all_acts, all_answers, all_said, commands_of}
+use Rattle.df_table.specs.Turns.{AreFit, AreTurns, EndIn, IsOfCall, MakeAll, Turn, all_acts, all_answers, all_said, commands_of}
 
 -- how many bytes a script may have
 abbrev pub script_budget : ℕ
@@ -71,7 +71,7 @@ EndsWith text halt cut old new status = (EndsAs halt cut status × Appends old n
 -- the calls of the line within which it ended
 abbrev pub HaltsIn : Layout → (s : Replica) (old : Option Told) (t : Table) → Option Halt → (u : Replica) (new : Option Told) → Type 0
 HaltsIn layout s old t None u new = (u ≡ s) × (new ≡ old)
-HaltsIn layout s old t (Some h) u new = (steps : ℕ) × EndIn (commands_of layout s t steps h.said) s u old new h.ending × AreFit (accepted t h.said)
+HaltsIn layout s old t (Some h) u new = (steps : ℕ) × EndIn (commands_of layout s t steps h.said) s u old new h.ending × AreFit (accepted t h.said) × IsOfCall new h.ending
 
 -- ---- the lines of a script
 

@@ -2,7 +2,7 @@
 use Rattle.std.specs.Prelude.{◌≡◌, ◌⊎◌, ℕ, List, [], ◌∷◌, ◌++◌, map, All, Option, Some, None, Err}
 use Rattle.df_disk.specs.Told.{Told}
 use Rattle.df_layout.specs.declared.layout.Layout.{Layout}
-use Rattle.df_model.specs.Commands.{Answer, Command, ToAdvance, ToAppend, ToBegin, ToReadBlock, ToReadPrepare, ToReadReply, ToRelease, ToReply, ToWriteBlock}
+use Rattle.df_model.specs.Commands.{Answer, Command, ToAdvance, ToAppend, ToBegin, ToReadBlock, ToReadPrepare, ToFlush, ToReadReply, ToRelease, ToReply, ToStage, ToWriteBlock}
 use Rattle.df_model.specs.declared.errors.AppendError.TheVariants as append
 use Rattle.df_model.specs.declared.errors.BeginError.TheVariants as begin
 use Rattle.df_model.specs.declared.reading.PrepareError.TheVariants as prepare
@@ -27,6 +27,8 @@ use Rattle.df_table.specs.Policy.{line_commands}
 -- it is no refusal, and no read of what isn't shown
 abbrev pub IsAccepted : Answer → Type 0
 IsAccepted (ToAppend (Err e)) = ⊥
+IsAccepted (ToStage (Err e)) = ⊥
+IsAccepted (ToFlush (Err e)) = ⊥
 IsAccepted (ToReply (Err e)) = ⊥
 IsAccepted (ToWriteBlock (Err e)) = ⊥
 IsAccepted (ToRelease (Err e)) = ⊥
@@ -67,6 +69,14 @@ EndsFor (Damaged place class) new answers failed =
 EndsFor (NotTable place) new answers failed = failed ≡ None
 EndsFor OpsSpent new answers failed = (failed ≡ None) × LastIs (ToAppend (Err append.OpsSpent)) answers
 EndsFor SequenceSpent new answers failed = (failed ≡ None) × LastIs (ToBegin (Err begin.SequenceSpent)) answers
+
+-- a call of a line ends it: the disk failed, or no op or no sequence is left; or it tells nothing, and the copies of a superblock aren't read back as they were written
+abbrev pub IsOfCall : Option Told → Ending → Type 0
+IsOfCall told Disk = Unit {0}
+IsOfCall told (Damaged place class) = told ≡ None
+IsOfCall told (NotTable place) = ⊥
+IsOfCall told OpsSpent = Unit {0}
+IsOfCall told SequenceSpent = Unit {0}
 
 -- the first of these commands were made, and no further one, since this ended them
 pub record EndIn (commands : List Command) (s t : Replica) (old new : Option Told) (ending : Ending) : Type 0 where

@@ -1,5 +1,5 @@
 // A put or a drop: room in the ring, the append, the empty reply to it, and then the table.
-ghost use Rattle.std.specs.Prelude.{◌≡◌, ◌+◌, ◌*◌, ◌≤◌, true, false, vec_len, IfOk, OnOk};
+ghost use Rattle.std.specs.Prelude.{◌≡◌, ◌+◌, ◌*◌, ◌≤◌, true, false, vec_len, IfErr, IfOk, OnOk};
 ghost use Rattle.std.specs.FinMap as map;
 ghost use Rattle.df_base.specs.Causes.{IsBlamed};
 ghost use Rattle.df_layout.specs.declared.layout.Layout.{Layout as Shape};
@@ -12,6 +12,7 @@ ghost use Rattle.df_table.specs.Calls.{Comes, IsChanged, MakesRoom};
 ghost use Rattle.df_table.specs.Policy.{is_full, request, the_client};
 ghost use Rattle.df_table.specs.Ready.{HasRoom, IsReady, Leaves};
 ghost use Rattle.df_table.specs.Statuses.{is_disk};
+ghost use Rattle.df_table.specs.Turns.{IsOfCall};
 
 use crate::calls::{append, reply};
 use crate::checkpointing::{checkpoint, is_full};
@@ -42,6 +43,7 @@ fn make_room<D: Disk>(disk: &mut D, session: &mut Session) -> Result<(), Ending>
     ensures live { OnOk result (session.new.replica.live ≡ true) }
     ensures table { session.new.table ≡ session.old.table }
     ensures leaves { Leaves session.old session.new }
+    ensures ends { IfErr result (IsOfCall (D.told disk.new)) }
     ensures disk { IsBlamed is_disk (D.faults disk.old) (D.faults disk.new) result }
 {
     if is_full(&session.replica) {
@@ -67,6 +69,7 @@ fn store<D: Disk>(disk: &mut D, replica: &mut Replica, command: &Command) -> Res
     ensures head { OnOk result (replica.new.head ≡ replica.old.head + 1) }
     ensures ready { (layout : Shape) → IsReady layout replica.old → is_full (memory replica.old) ≡ false → OnOk result (IsReady layout replica.new) }
     ensures live { OnOk result (replica.new.live ≡ true) }
+    ensures ends { IfErr result (IsOfCall (D.told disk.new)) }
     ensures disk { IsBlamed is_disk (D.faults disk.old) (D.faults disk.new) result }
 {
     let number = next_request(replica);

@@ -13,6 +13,7 @@ ghost use Rattle.df_result.specs.Replying.{next_reply, replied};
 ghost use Rattle.df_table.specs.Calls.{Comes, IsRunning, IsStepped, MayAppend, MayBegin, Stepped, accepted_or, done_of, op_of};
 ghost use Rattle.df_table.specs.Policy.{the_client};
 ghost use Rattle.df_table.specs.Statuses.{is_disk};
+ghost use Rattle.df_table.specs.Turns.{IsOfCall};
 
 use crate::ending::{Ending, ended_by};
 use df_disk::Disk;
@@ -29,6 +30,8 @@ fn op_in(answer: &Answer) -> Result<u64, Ending>
     match answer {
         Answer::Append(Ok(receipt)) => Ok(receipt.op),
         Answer::Append(Err(_))
+        | Answer::Stage(_)
+        | Answer::Flush(_)
         | Answer::Reply(_)
         | Answer::WriteBlock(_)
         | Answer::Release(_)
@@ -54,6 +57,7 @@ pub(crate) fn append<D: Disk>(
     ensures state { OnOk result (replica.new ≡ appended replica.old (next_unit replica.old the_client request body.now)) }
     ensures op { IfOk result (λ op. op ≡ replica.old.head + 1) }
     ensures live { OnOk result (replica.new.live ≡ true) }
+    ensures ends { IfErr result (IsOfCall (D.told disk.new)) }
     ensures disk { IsBlamed is_disk (D.faults disk.old) (D.faults disk.new) result }
 {
     let call = Call::Append {
@@ -77,6 +81,8 @@ fn accepted_or(answer: &Answer, otherwise: Ending) -> Result<(), Ending>
         | Answer::WriteBlock(Err(_))
         | Answer::Begin(Err(_))
         | Answer::Append(_)
+        | Answer::Stage(_)
+        | Answer::Flush(_)
         | Answer::Release(_)
         | Answer::Advance(_)
         | Answer::ReadPrepare(_)
@@ -94,6 +100,7 @@ pub(crate) fn reply<D: Disk>(disk: &mut D, replica: &mut Replica, op: u64) -> Re
     ensures state { OnOk result (replica.new ≡ replied replica.old (next_reply replica.old []).header) }
     ensures fails { first_refusal (reply_refusals (memory replica.old) op []) ≡ None → IfErr result (λ ending. ending ≡ Ending.Disk) }
     ensures live { OnOk result (replica.new.live ≡ true) }
+    ensures ends { IfErr result (IsOfCall (D.told disk.new)) }
     ensures disk { IsBlamed is_disk (D.faults disk.old) (D.faults disk.new) result }
 {
     match make(disk, replica, Call::Reply { op, body: &[] }) {
@@ -113,6 +120,7 @@ pub(crate) fn release<D: Disk>(
     ensures makes { Comes (Release address ∷ []) replica.old replica.new (D.told disk.old) (D.told disk.new) result }
     ensures state { OnOk result (replica.new ≡ released replica.old address) }
     ensures live { OnOk result (replica.new.live ≡ true) }
+    ensures ends { IfErr result (IsOfCall (D.told disk.new)) }
     ensures disk { IsBlamed is_disk (D.faults disk.old) (D.faults disk.new) result }
 {
     match make(disk, replica, Call::Release { address }) {
@@ -127,6 +135,7 @@ pub(crate) fn write<D: Disk>(disk: &mut D, replica: &mut Replica, body: &[u8]) -
     ensures makes { first_refusal (block_refusals (memory replica.old) 1 body.now) ≡ None → Comes (WriteBlock 1 body.now ∷ []) replica.old replica.new (D.told disk.old) (D.told disk.new) result }
     ensures state { OnOk result (replica.new ≡ written replica.old (next_block replica.old 1 body.now).header) }
     ensures live { OnOk result (replica.new.live ≡ true) }
+    ensures ends { IfErr result (IsOfCall (D.told disk.new)) }
     ensures disk { IsBlamed is_disk (D.faults disk.old) (D.faults disk.new) result }
 {
     match make(disk, replica, Call::WriteBlock { kind: 1, body }) {
@@ -141,6 +150,7 @@ pub(crate) fn begin<D: Disk>(disk: &mut D, replica: &mut Replica) -> Result<(), 
     ensures makes { MayBegin replica.old → Comes (Begin [] ∷ []) replica.old replica.new (D.told disk.old) (D.told disk.new) result }
     ensures state { OnOk result (replica.new ≡ begun replica.old []) }
     ensures live { OnOk result (replica.new.live ≡ true) }
+    ensures ends { IfErr result (IsOfCall (D.told disk.new)) }
     ensures disk { IsBlamed is_disk (D.faults disk.old) (D.faults disk.new) result }
 {
     match make(disk, replica, Call::Begin { root: &[] }) {
@@ -159,6 +169,8 @@ fn is_done(answer: &Answer) -> bool
         Answer::Advance(Ok(Progress::Done { sequence: _ })) => true,
         Answer::Advance(Err(_))
         | Answer::Append(_)
+        | Answer::Stage(_)
+        | Answer::Flush(_)
         | Answer::Reply(_)
         | Answer::WriteBlock(_)
         | Answer::Release(_)
@@ -178,6 +190,7 @@ pub(crate) fn step<D: Disk>(disk: &mut D, replica: &mut Replica) -> Result<bool,
     ensures makes { Comes (Advance ∷ []) replica.old replica.new (D.told disk.old) (D.told disk.new) result }
     ensures state { IfOk result (λ done. Stepped done replica.old replica.new) }
     ensures live { OnOk result (replica.new.live ≡ true) }
+    ensures ends { IfErr result (IsOfCall (D.told disk.new)) }
     ensures disk { IsBlamed is_disk (D.faults disk.old) (D.faults disk.new) result }
 {
     match make(disk, replica, Call::Advance) {

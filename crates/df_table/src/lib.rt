@@ -17,6 +17,7 @@ mod turns;
 pub use ending::Ending;
 pub use engine::{USAGE, run_table};
 pub use laws::{
-    a_table_is_one, an_opening_finds_one_thing, rows_are_in_order, what_is_found_is_the_table,
+    a_safe_table_is_served, a_table_is_one, an_opening_finds_one_thing, rows_are_in_order,
+    runs_compose, what_is_found_is_the_table,
 };
 pub use status::Status;

@@ -45,6 +45,8 @@ const WHOLE_AT_EACH_OP: Pace = ["0", "1", "64"];
 
 const AT_EACH_SECOND_OP: Pace = ["0", "2", "1"];
 
+const AT_EACH_THIRD_OP: Pace = ["0", "3", "1"];
+
 const SCRUBS: Pace = ["1", "0", "0"];
 
 // A new small file behind a script with this work beside it, to which this is answered.
@@ -86,8 +88,8 @@ fn with_no_work_the_ring_is_full(rt: HostRuntime) -> Result<(), Fail> {
     Ok(())
 }
 
-// A begin is due behind the first append, and behind a begin of the script none is; what the scrubber finds beside a script a later
-// line of it tells, and its steps come behind refused lines, too.
+// A begin is due behind the first append, and behind a begin of the script none is; a flush counts as many as it appends, and what is
+// staged doesn't count. What the scrubber finds beside a script a later line of it tells, and its steps come behind refused lines, too.
 #[test]
 fn the_work_is_done_behind_each_line(rt: HostRuntime) -> Result<(), Fail> {
     for (pace, script, told) in [
@@ -105,6 +107,16 @@ fn the_work_is_done_behind_each_line(rt: HostRuntime) -> Result<(), Fail> {
             AT_EACH_SECOND_OP,
             "append 1 1 -\ncheckpoint -\nreply 1 -\nappend 1 2 -\nstep\n",
             "appended 1\nbegun 1\nreplied 1\nappended 2\ndone 3\n",
+        ),
+        (
+            AT_EACH_SECOND_OP,
+            "stage 1 1 -\nstage 2 1 -\nstep\nflush\nstep\nstep\n",
+            "staged 1\nstaged 2\nrefused NotRunning\nflushed 2\ndone 2\nrefused NotRunning\n",
+        ),
+        (
+            AT_EACH_THIRD_OP,
+            "stage 1 1 -\nstage 2 1 -\nflush\nstep\nappend 3 1 -\nstep\n",
+            "staged 1\nstaged 2\nflushed 2\nrefused NotRunning\nappended 3\ndone 2\n",
         ),
         (
             SCRUBS,

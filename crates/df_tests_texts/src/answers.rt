@@ -4,10 +4,18 @@ use df_base::{Failed, Sink};
 use df_format::Kind;
 use df_inspect::{print_formatted, print_prepare, print_reply, print_script, print_upgraded};
 use df_layout::{Class, Place, Zone};
-use df_model::{Answer, AppendError, Command, LookupError, PrepareError, Receipt, ReplyError};
+use df_model::{
+    Answer, AppendError, Command, FlushError, LookupError, PrepareError, Receipt, ReplyError,
+};
 use std::alloc::{AllocError, Global};
 
 const APPEND: Command = Command::Append {
+    client: 5,
+    request: 1,
+    body: b"",
+};
+
+const STAGE: Command = Command::Stage {
     client: 5,
     request: 1,
     body: b"",
@@ -19,7 +27,7 @@ const READ: Command = Command::ReadPrepare { op: 3 };
 
 const LOOKUP: Command = Command::ReadReply { client: 5 };
 
-const APPENDS: [Answer; 12] = [
+const APPENDS: [Answer; 13] = [
     Answer::Append(Ok(Receipt {
         op: 1,
         checksum: [1; 16],
@@ -40,6 +48,7 @@ const APPENDS: [Answer; 12] = [
         checkpoint_op: 0,
     })),
     Answer::Append(Err(AppendError::OpsSpent)),
+    Answer::Append(Err(AppendError::Staged { count: 8 })),
     Answer::Append(Err(AppendError::DiskFault)),
 ];
 
@@ -53,7 +62,27 @@ const APPEND_LINES: &str = "appended 1\n\
     refused RequestOrder expected 2\n\
     refused PipelineFull waiting 8\n\
     refused WalFull op 33 checkpoint_op 0\n\
-    refused OpsSpent\n";
+    refused OpsSpent\n\
+    refused Staged count 8\n";
+
+const STAGES: [Answer; 3] = [
+    Answer::Stage(Ok(3)),
+    Answer::Stage(Err(AppendError::ReplyPending { op: 1 })),
+    Answer::Stage(Err(AppendError::PipelineFull { waiting: 8 })),
+];
+
+const STAGE_LINES: &str = "staged 3\n\
+    refused ReplyPending op 1\n\
+    refused PipelineFull waiting 8\n";
+
+const FLUSHES: [Answer; 3] = [
+    Answer::Flush(Ok(8)),
+    Answer::Flush(Err(FlushError::NothingStaged)),
+    Answer::Flush(Err(FlushError::DiskFault)),
+];
+
+const FLUSH_LINES: &str = "flushed 8\n\
+    refused NothingStaged\n";
 
 const REPLIES: [Answer; 5] = [
     Answer::Reply(Ok([1; 16])),
@@ -103,8 +132,10 @@ const LOOKUP_LINES: &str = "refused NoClient\n\
     refused ReplyPending op 2\n\
     refused Damaged ClientReplies 0 Garbled\n";
 
-const ROWS: [Row; 4] = [
+const ROWS: [Row; 6] = [
     (APPEND, &APPENDS, APPEND_LINES),
+    (STAGE, &STAGES, STAGE_LINES),
+    (Command::Flush, &FLUSHES, FLUSH_LINES),
     (REPLY, &REPLIES, REPLY_LINES),
     (READ, &READS, READ_LINES),
     (LOOKUP, &LOOKUPS, LOOKUP_LINES),

@@ -13,6 +13,14 @@ fn append(client: u128, request: u64, length: u64) -> Line {
     }
 }
 
+fn stage(client: u128, request: u64, length: u64) -> Line {
+    Line::Stage {
+        client,
+        request,
+        length,
+    }
+}
+
 const MOST: u64 = u64::MAX;
 
 // Lines with the greatest number.
@@ -25,7 +33,7 @@ const LAST_READ: Line = Line::Read { address: MOST };
 #[test]
 fn lines_on_messages_are_read_with_their_bodies(rt: HostRuntime) {
     one_meaning();
-    let rows: [Row; 11] = [
+    let rows: [Row; 15] = [
         (b"append 5 1 -", append(5, 1, 0), b""),
         (b"append 0 0 00", append(0, 0, 1), b"\x00"),
         (b"append 10 90 aBcDeF", append(10, 90, 3), b"\xab\xcd\xef"),
@@ -34,6 +42,14 @@ fn lines_on_messages_are_read_with_their_bodies(rt: HostRuntime) {
             append(u128::MAX, MOST, 1),
             b"\x7f",
         ),
+        (b"stage 5 1 -", stage(5, 1, 0), b""),
+        (b"stage 10 90 aBcDeF", stage(10, 90, 3), b"\xab\xcd\xef"),
+        (
+            b"stage 340282366920938463463374607431768211455 18446744073709551615 7f",
+            stage(u128::MAX, MOST, 1),
+            b"\x7f",
+        ),
+        (b"flush", Line::Flush, b""),
         (b"reply 1 aa", Line::Reply { op: 1, length: 1 }, b"\xaa"),
         (b"reply 0 -", Line::Reply { op: 0, length: 0 }, b""),
         (

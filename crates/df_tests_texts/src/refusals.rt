@@ -18,6 +18,11 @@ const NO_APPENDS: &str =
     append 5 1 ag|append 5 1 --|append  5 1 -|append 5 1  -|append 5 1 - |append 5 1 - -| append 5 1 -|\
     Append 5 1 -|append +5 1 -|append 5 -1 -|append\t5 1 -|append 5 1 -\r";
 
+const NO_GROUPS: &str =
+    "stage|stage |stage 5 1|stage 5  -|stage 5 01 -|stage 340282366920938463463374607431768211456 1 -|\
+    stage 5 18446744073709551616 -|stage 5 1 abc|stage 5 1 - | stage 5 1 -|Stage 5 1 -|staged 5 1 -|\
+    flush |flush 1|flush -| flush|flushed|Flush|flus";
+
 const NO_READINGS: &str =
     "reply|reply 1|reply 1 |reply  -|reply 01 -|reply 18446744073709551616 -|reply 1 a|reply 1 - -|\
     prepare|prepare |prepare 02|prepare 18446744073709551616|prepare 2 -|prepare  2|lookup |\
@@ -35,7 +40,13 @@ const NO_CHECKPOINTS: &str =
 
 #[test]
 fn other_lines_are_refused(rt: HostRuntime) {
-    for lines in &[NO_APPENDS, NO_READINGS, NO_BLOCKS, NO_CHECKPOINTS] {
+    for lines in &[
+        NO_APPENDS,
+        NO_GROUPS,
+        NO_READINGS,
+        NO_BLOCKS,
+        NO_CHECKPOINTS,
+    ] {
         expect_no_line(&rt, lines);
     }
 }

@@ -11,7 +11,8 @@ pub use Rattle.df_theory.proofs.Standing.{standing_after, standing_all}
 pub use Rattle.df_theory.proofs.Tidy.{spare_append, spare_table, spare_update, standing_update, tidy_append_law, tidy_block_law, tidy_finish_law, tidy_idle_law, tidy_mend_law, tidy_reply_law, tidy_sync_law}
 pub use Rattle.df_theory.proofs.TidyMakes.{tidy_format_law}
 pub use Rattle.df_theory.proofs.FlushLaws.{flush_law}
-pub use Rattle.df_theory.proofs.TidyGroups.{clear_law, tidy_boot_law, tidy_flush_law}
+pub use Rattle.df_theory.proofs.TidyGroups.{clear_law, flush_ring_law, tidy_boot_law, tidy_flush_law}
+pub use Rattle.df_theory.proofs.Slots.{mod_apart}
 pub use Rattle.df_theory.proofs.TidyRuns.{standing_run_law, tidy_run_law}
 -- ---- images, and what an open finds
 pub use Rattle.df_theory.proofs.OneFound.{found_law, one_chosen_law, one_found_law, one_view_law}

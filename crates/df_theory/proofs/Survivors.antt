@@ -174,12 +174,17 @@ all_table = (
 
 is_table : IsGroupTable shape (now log4) again table headers
 is_table = record {
-  from = λ s. elim (cases_eq s 1) [
+  from = λ s below. elim (cases_eq s 1) [
     | inl one ↦ inr (third, inl refl, one, ap table one)
     | inr no_one ↦ elim (cases_eq s 2) [
       | inl two ↦ inr (fourth, inr (inl refl), two, ap table two)
       | inr no_two ↦ inl (ap (λ (h : Header). Some (HeaderUnit h)) (sym (else_reserved s no_one no_two)))
     ]
+  ];
+  inside = λ s reaches. elim reaches [
+    | inl (y, is) ↦ let at : HeaderPlace s ≡ HeaderPlace 1 = ((put_one_law (HeaderPlace 1) (HeaderUnit third.header)).only (HeaderPlace s) y is).0 in let e : s ≡ 1 = cc (at) in omega (arith, e)
+    | inr (inl (y, is)) ↦ let at : HeaderPlace s ≡ HeaderPlace 2 = ((put_one_law (HeaderPlace 2) (HeaderUnit fourth.header)).only (HeaderPlace s) y is).0 in let e : s ≡ 2 = cc (at) in omega (arith, e)
+    | inr (inr none) ↦ absurd none
   ];
   own = λ p at. elim at [
     | inl is ↦ subst (λ (q : Message). table (q.header.op % 16) ≡ q.header) (sym is) refl

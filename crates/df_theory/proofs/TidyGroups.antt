@@ -15,7 +15,7 @@ use Rattle.df_theory.specs.MendLaws.{AllPutTable, Reaches}
 use Rattle.df_theory.specs.CopyPuts.{update_steps}
 use Rattle.df_theory.specs.WriterLaws.{AllPutPrepare, AreGroupSectors, Flushes, flush_steps}
 use Rattle.df_theory.specs.WholeLaws.{AllSpare}
-use Rattle.df_theory.specs.GroupLaws.{ClearLaw, IsGroupTable, TidyBootLaw, TidyFlushLaw, boot_command, flush_command}
+use Rattle.df_theory.specs.GroupLaws.{ClearLaw, FlushRingLaw, IsGroupTable, TidyBootLaw, TidyFlushLaw, boot_command, flush_command}
 use Rattle.df_theory.proofs.Tails.{in_either}
 use Rattle.df_theory.proofs.Agreeing.{prepare_agrees}
 use Rattle.df_theory.proofs.Clear.{IsLow, clear_one, low_steps, low_update}
@@ -50,16 +50,30 @@ spare_prepares sh v (q ∷ qs) (put ∷ puts) all = (spares_one v put (PreparePl
 spare_prepares sh v [] (put ∷ puts) all = absurd all
 spare_prepares sh v (q ∷ qs) [] all = absurd all
 
-table_sectors : (sh : Shape) (image : Units) (ps : List Message) (table : ℕ → Header) (headers puts : List Units) → IsGroupTable sh image ps table headers → AllPutTable table puts → AreGroupSectors sh image ps puts
-table_sectors sh image ps table headers [] is all = tt
-table_sectors sh image ps table headers (put ∷ puts) is all = (
+table_sectors : (sh : Shape) (image : Units) (ps : List Message) (table : ℕ → Header) (headers puts : List Units) → IsGroupTable sh image ps table headers → ((s : ℕ) → Reaches puts (HeaderPlace s) → s < sh.layout.slots) → AllPutTable table puts → AreGroupSectors sh image ps puts
+table_sectors sh image ps table headers [] is inside all = tt
+table_sectors sh image ps table headers (put ∷ puts) is inside all = (
   record {
     each = λ place y shown.
         let e = all.0 place y shown in
-        (e.0, table e.0, e.1, e.2, elim (is.from e.0) [ inl old ↦ inl old | inr new ↦ inr (new.0, new.1, new.2, new.3) ]);
+        (e.0, table e.0, e.1, e.2, elim (is.from e.0 (inside e.0 (inl (y, ap put (sym e.1) ∙ shown)))) [ inl old ↦ inl old | inr new ↦ inr (new.0, new.1, new.2, new.3) ]);
   },
-  table_sectors sh image ps table headers puts is all.1,
+  table_sectors sh image ps table headers puts is (λ s more. inside s (inr more)) all.1,
 )
+
+-- the log behind a flush, part by part
+flush_ends : (prepares headers : List Units) (log : UnitLog) → after_steps (flush_steps prepares headers) log ≡ add Synced (after_steps (all_puts headers) (add Synced (after_steps (all_puts prepares) log)))
+flush_ends prepares headers log = after_append (all_puts prepares) (Syncs ∷ (all_puts headers ++ Syncs ∷ [])) log ∙ after_append (all_puts headers) (Syncs ∷ []) (add Synced (after_steps (all_puts prepares) log))
+
+pub flush_ring_law : FlushRingLaw
+flush_ring_law sh log ps qs prepares table headers all all_table is s below =
+    let log1 = add Synced (after_steps (all_puts prepares) log) in
+    let still : now log1 (HeaderPlace s) ≡ now log (HeaderPlace s) = missed (HeaderPlace s) (all_puts prepares) log (prepares_miss sh qs prepares (HeaderPlace s) all (λ t e. cc (e))) in
+    ap (λ (l : UnitLog). now l (HeaderPlace s)) (flush_ends prepares headers log)
+    ∙ headers_shown table headers log1 all_table s (elim (is.from s below) [
+      | inl old ↦ inl (still ∙ old)
+      | inr new ↦ inr (subst (λ (k : ℕ). Reaches headers (HeaderPlace k)) (sym new.2) (is.reached new.0 new.1))
+    ])
 
 pub tidy_flush_law : TidyFlushLaw
 tidy_flush_law sh log v ps qs prepares table headers tidy may boots same all all_table is = (
@@ -68,7 +82,7 @@ tidy_flush_law sh log v ps qs prepares table headers tidy may boots same all all
 )
   where
     flush : Flushes sh log v (appended v ps) prepares headers
-    flush = flush_law sh log v ps qs prepares headers tidy.rests tidy.quiet tidy.clear may boots same all (table_sectors sh (now log) ps table headers headers is all_table)
+    flush = flush_law sh log v ps qs prepares headers tidy.rests tidy.quiet tidy.clear may boots same all (table_sectors sh (now log) ps table headers headers is is.inside all_table)
 
     done : UnitLog
     done = after_steps (all_puts prepares) log
@@ -80,27 +94,21 @@ tidy_flush_law sh log v ps qs prepares table headers tidy may boots same all all
     log2 = after_steps (all_puts headers) log1
 
     end_is : after_steps (flush_steps prepares headers) log ≡ add Synced log2
-    end_is = after_append (all_puts prepares) (Syncs ∷ (all_puts headers ++ Syncs ∷ [])) log ∙ after_append (all_puts headers) (Syncs ∷ []) log1
+    end_is = flush_ends prepares headers log
 
     quiet : IsQuiet (after_steps (flush_steps prepares headers) log)
     quiet = subst IsQuiet (sym end_is) (quiet_synced log2)
 
-    header_still : (s : ℕ) → now log1 (HeaderPlace s) ≡ now log (HeaderPlace s)
-    header_still s = missed (HeaderPlace s) (all_puts prepares) log (prepares_miss sh qs prepares (HeaderPlace s) all (λ t e. cc (e)))
-
     copy_still : (n : ℕ) → now log2 (CopyPlace n) ≡ now log (CopyPlace n)
     copy_still n = missed (CopyPlace n) (all_puts headers) log1 (headers_miss table headers all_table n) ∙ missed (CopyPlace n) (all_puts prepares) log (prepares_miss sh qs prepares (CopyPlace n) all (λ t e. cc (e)))
 
-    shown : (s : ℕ) → now log2 (HeaderPlace s) ≡ Some (HeaderUnit (table s))
-    shown s = headers_shown table headers log1 all_table s (elim (is.from s) [
-      | inl old ↦ inl (header_still s ∙ old)
-      | inr new ↦ inr (subst (λ (k : ℕ). Reaches headers (HeaderPlace k)) (sym new.2) (is.reached new.0 new.1))
-    ])
+    shown : (s : ℕ) → s < sh.layout.slots → now log2 (HeaderPlace s) ≡ Some (HeaderUnit (table s))
+    shown s below = sym (ap (λ (l : UnitLog). now l (HeaderPlace s)) end_is) ∙ flush_ring_law sh log ps qs prepares table headers all all_table is s below
 
     right : (s : ℕ) → s < sh.layout.slots → (q : Message) → In q (v.tail ++ ps) → s ≡ q.header.op % sh.layout.slots → q.header ≡ table s
     right s below q at slot = elim (in_either q v.tail ps at) [
       | inr new ↦ sym (ap table slot ∙ is.own q new)
-      | inl old ↦ elim (is.from s) [
+      | inl old ↦ elim (is.from s below) [
         | inl before ↦
             let h = tidy.whole.headers s below in
             let one : h.0 ≡ table s = (let both : Some (HeaderUnit h.0) ≡ Some (HeaderUnit (table s)) = sym h.1 ∙ before in cc) in
@@ -112,7 +120,7 @@ tidy_flush_law sh log v ps qs prepares table headers tidy may boots same all all
     whole : IsWhole sh (now (after_steps (flush_steps prepares headers) log)) (appended v ps)
     whole = subst (λ (l : UnitLog). IsWhole sh (now l) (appended v ps)) (sym end_is) (record {
       copies = λ n below. copy_still n ∙ tidy.whole.copies n below;
-      headers = λ s below. (table s, shown s, λ q at slot. right s below q at slot);
+      headers = λ s below. (table s, shown s below, λ q at slot. right s below q at slot);
     })
 
 -- ---- a boot update

@@ -12,7 +12,7 @@ use Rattle.df_theory.specs.Grown.{IsClear}
 use Rattle.df_theory.specs.Rests.{IsQuiet, RestsOn}
 use Rattle.df_theory.specs.Cases.{IsEmpty, Takes, decision}
 use Rattle.df_theory.specs.Found.{AreOfPlaces, IsFound, IsReach, IsTail, NotLost}
-use Rattle.df_theory.specs.Runs.{Command, Syncs}
+use Rattle.df_theory.specs.Runs.{Command, Syncs, after_steps}
 use Rattle.df_theory.specs.CopyPuts.{PutsCopies, update_steps}
 use Rattle.df_theory.specs.WriterLaws.{AllPutPrepare, AreSame, flush_steps}
 use Rattle.df_theory.specs.MendLaws.{AllPutTable, Reaches}
@@ -125,9 +125,10 @@ LostLaw = (image : Units) (c : Content) (top : ℕ) (more : List Message) → Ha
 abbrev pub flush_command : View → List Message → List Units → List Units → Command
 flush_command v ps prepares headers = record { steps = flush_steps prepares headers; view = appended v ps }
 
--- what the header of each slot is to be: that of its prepare of the group, or the one that is shown; and those of the group are written
+-- what the header of each slot of the ring is to be: that of its prepare of the group, or the one that is shown; and those of the group are written, and no header beside the ring
 pub record IsGroupTable (sh : Shape) (image : Units) (ps : List Message) (table : ℕ → Header) (headers : List Units) : Type 0 where
-  pub from : (s : ℕ) → (image (HeaderPlace s) ≡ Some (HeaderUnit (table s))) ⊎ ((p : Message) × In p ps × (s ≡ p.header.op % slots sh) × (table s ≡ p.header))
+  pub from : (s : ℕ) → s < slots sh → (image (HeaderPlace s) ≡ Some (HeaderUnit (table s))) ⊎ ((p : Message) × In p ps × (s ≡ p.header.op % slots sh) × (table s ≡ p.header))
+  pub inside : (s : ℕ) → Reaches headers (HeaderPlace s) → s < slots sh
   pub own : (p : Message) → In p ps → table (p.header.op % slots sh) ≡ p.header
   pub reached : (p : Message) → In p ps → Reaches headers (HeaderPlace (p.header.op % slots sh))
 
@@ -136,6 +137,13 @@ TidyFlushLaw =
     (sh : Shape) (log : UnitLog) (v : View) (ps qs : List Message) (prepares : List Units) (table : ℕ → Header) (headers : List Units)
     → IsTidy sh log v → MayAppend sh v ps → (1 < length ps → 0 < boot_of v) → AreSame qs ps → AllPutPrepare sh qs prepares → AllPutTable table headers → IsGroupTable sh (now log) ps table headers
     → LeadsTidily sh log v (flush_command v ps prepares headers) × (IsStanding log v → KeepsStanding sh log v (flush_command v ps prepares headers))
+
+-- and behind it the ring shows the table
+abbrev pub FlushRingLaw : Type 0
+FlushRingLaw =
+    (sh : Shape) (log : UnitLog) (ps qs : List Message) (prepares : List Units) (table : ℕ → Header) (headers : List Units)
+    → AllPutPrepare sh qs prepares → AllPutTable table headers → IsGroupTable sh (now log) ps table headers
+    → (s : ℕ) → s < slots sh → now (after_steps (flush_steps prepares headers) log) (HeaderPlace s) ≡ Some (HeaderUnit (table s))
 
 -- a file that is mended: it is tidy, but for what survived above its head
 pub record IsMended (sh : Shape) (log : UnitLog) (v : View) : Type 0 where

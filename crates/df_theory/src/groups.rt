@@ -1,6 +1,6 @@
 // Groups of prepares, of which a stop may leave a part.
 
-ghost use Rattle.df_theory.specs.GroupLaws.{AloneLaw, ClearLaw, ClearSlotLaw, GroupRuleLaw, LostLaw, TidyBootLaw, TidyFlushLaw, WalkLaw};
+ghost use Rattle.df_theory.specs.GroupLaws.{AloneLaw, ClearLaw, ClearSlotLaw, FlushRingLaw, GroupRuleLaw, LostLaw, TidyBootLaw, TidyFlushLaw, WalkLaw};
 
 /// In a file without boots nothing survives a stop but whole prepares.
 pub fn nothing_survives_without_boots()
@@ -24,9 +24,10 @@ pub fn lost_case_by_case()
     ensures { LostLaw }
 {}
 
-/// A group leads from one tidy file to the next.
+/// A group leads from one tidy file to the next, whose header ring shows its table.
 pub fn flush_leads_tidily()
-    ensures { TidyFlushLaw }
+    ensures tidy { TidyFlushLaw }
+    ensures ring { FlushRingLaw }
 {}
 
 /// A boot update leads from a mended file to a tidy one, whatever survived.

@@ -3,13 +3,13 @@ use Rattle.std.proofs.Common.{◌≡◌, ◌<◌, ℕ, Bool, true, false, if◌t
 use Rattle.std.proofs.lemmas.Option.{none-some}
 use Rattle.df_base.specs.Causes.{IsBlamed}
 use Rattle.df_disk.specs.Told.{Told}
-use Rattle.df_model.specs.Commands.{Answer as Said, Command, ToAdvance, ToAppend, ToBegin, ToReadBlock, ToReadPrepare, ToReadReply, ToRelease, ToReply, ToScrub, ToWriteBlock}
+use Rattle.df_model.specs.Commands.{Answer as Said, Command, ToAdvance, ToAppend, ToBegin, ToFlush, ToReadBlock, ToReadPrepare, ToReadReply, ToRelease, ToReply, ToScrub, ToStage, ToWriteBlock}
 use Rattle.df_model.specs.declared.answers.Progress.TheVariants as progress
 use Rattle.df_model.specs.declared.answers.Progress.TheVariants.{Working}
 use Rattle.df_model.specs.declared.commands.Answer.{Answer}
 use Rattle.df_model.specs.declared.commands.Answer.TheVariants as answers
 use Rattle.df_model.specs.declared.errors.StepError.TheVariants as step
-use Rattle.df_model.specs.Faults.{is_append_fault, is_block_fault, is_lookup_fault, is_prepare_fault, is_read_fault, is_reply_fault}
+use Rattle.df_model.specs.Faults.{is_append_fault, is_block_fault, is_flush_fault, is_lookup_fault, is_prepare_fault, is_read_fault, is_reply_fault}
 use Rattle.df_units.specs.Meaning.{number_of}
 use Rattle.df_session.specs.Calls.{machine_answer}
 use Rattle.df_pace.specs.Beats.{command_of, is_begun, next_piece, pieces_left}
@@ -52,6 +52,9 @@ begun_same x (answers.Begin (Ok blocks)) is = begun_of x (ToBegin (Ok blocks)) t
 begun_same x (answers.Begin (Err e)) is = begun_of x (ToBegin (Err e)) false refl is
 begun_same x (answers.Append (Ok receipt)) is = begun_of x (ToAppend (Ok (receipt.op, number_of receipt.checksum))) false refl is
 begun_same x (answers.Append (Err e)) is = begun_if (is_append_fault e) x (ToAppend (Err e)) refl is
+begun_same x (answers.Stage r) is = begun_of x (ToStage r) false refl is
+begun_same x (answers.Flush (Ok count)) is = begun_of x (ToFlush (Ok count)) false refl is
+begun_same x (answers.Flush (Err e)) is = begun_if (is_flush_fault e) x (ToFlush (Err e)) refl is
 begun_same x (answers.Reply (Ok check)) is = begun_of x (ToReply (Ok (number_of check))) false refl is
 begun_same x (answers.Reply (Err e)) is = begun_if (is_reply_fault e) x (ToReply (Err e)) refl is
 begun_same x (answers.WriteBlock (Ok reference)) is = begun_of x (ToWriteBlock (Ok (reference.address, number_of reference.checksum))) false refl is

@@ -2,11 +2,12 @@
 use Rattle.std.proofs.Common.{◌≡◌, ◌<◌, ℕ, Bool, true, List, [], ◌∷◌, length, Option, Some, None, refl, sym, ap, subst, Result, Ok, Err, arith}
 use Rattle.std.proofs.lemmas.Option.{none-some}
 use Rattle.df_disk.specs.Told.{Told}
-use Rattle.df_model.specs.Commands.{Advance, Answer as Answered, Append, Begin, Command, ReadBlock, ReadPrepare, ReadReply, Recent, Release, Reply, Scrub, WriteBlock}
+use Rattle.df_model.specs.Commands.{Advance, Answer as Answered, Append, Begin, Command, Flush, ReadBlock, ReadPrepare, ReadReply, Recent, Release, Reply, Scrub, Stage, WriteBlock}
 use Rattle.df_model.specs.declared.answers.Progress.{Progress}
 use Rattle.df_model.specs.declared.answers.Progress.TheVariants.{Done, Working}
 use Rattle.df_model.specs.declared.commands.Answer.{Answer}
 use Rattle.df_model.specs.declared.commands.Answer.TheVariants as answers
+use Rattle.df_model.specs.declared.errors.AppendError.{AppendError}
 use Rattle.df_model.specs.declared.errors.BeginError.{BeginError}
 use Rattle.df_model.specs.declared.errors.NotLive.{NotLive}
 use Rattle.df_model.specs.declared.errors.StepError.{StepError}
@@ -14,13 +15,14 @@ use Rattle.df_model.specs.declared.errors.StepError.TheVariants as step
 use Rattle.df_session.specs.Beginning.{IsBegin}
 use Rattle.df_session.specs.Below.{RunningState, State as Replica}
 use Rattle.df_session.specs.Blocks.{IsRelease}
+use Rattle.df_session.specs.Flushing.{IsStage}
 use Rattle.df_session.specs.Stepping.{IsStep, OfRunning, advanced, finished}
 use Rattle.df_workload.specs.Hearing.{outcome_in}
 use Rattle.df_workload.specs.declared.outcome.Outcome.{Outcome}
 use Rattle.df_session.specs.Calls.{IsExact, machine_answer}
 use Rattle.df_session.specs.Endings.{GivesAnswer}
 use Rattle.df_top.specs.Works.{HearsOf, IsRunning, RunsOn, StepsOn}
-use Rattle.df_session.proofs.Laws.{append_moves, on_running, reply_moves, write_moves}
+use Rattle.df_session.proofs.Laws.{append_moves, flush_moves, on_running, reply_moves, write_moves}
 use Rattle.df_top.proofs.SameWords.{same_words}
 
 -- ---- a running checkpoint
@@ -36,6 +38,12 @@ module _ (s t : Replica) (same : t.running ≡ s.running) where
   append_on : (client request : ℕ) (body : List ℕ) (o : Outcome) → RunsOn (Append client request body) s t (Ok o)
   append_on client request body o = stays s t same
 
+  stage_on : (client request : ℕ) (body : List ℕ) (o : Outcome) → RunsOn (Stage client request body) s t (Ok o)
+  stage_on client request body o = stays s t same
+
+  flush_on : (o : Outcome) → RunsOn Flush s t (Ok o)
+  flush_on o = stays s t same
+
   reply_on : (op : ℕ) (body : List ℕ) (o : Outcome) → RunsOn (Reply op body) s t (Ok o)
   reply_on op body o = stays s t same
 
@@ -48,6 +56,10 @@ module _ (s t : Replica) (same : t.running ≡ s.running) where
 release_running : (s t : Replica) (address : ℕ) (r : Result (Unit {0}) NotLive) → IsRelease address s t r → t.running ≡ s.running
 release_running s t address (Ok done) is = ap (λ (r : Replica). r.running) is.1
 release_running s t address (Err e) is = same_running s t is.1
+
+stage_running : (s t : Replica) (client request : ℕ) (body : List ℕ) (r : Result ℕ AppendError) → IsStage client request body s t r → t.running ≡ s.running
+stage_running s t client request body (Ok op) is = ap (λ (r : Replica). r.running) is.2
+stage_running s t client request body (Err e) is = same_running s t is.1
 
 begin_on : (s t : Replica) (root : List ℕ) (r : Result ℕ BeginError) → IsBegin root s t r → RunsOn (Begin root) s t (Ok (outcome_in (answers.Begin r)))
 begin_on s t root (Ok blocks) is = λ flag had set. subst (λ (r : Replica). IsRunning r) (sym is.2) tt
@@ -101,6 +113,8 @@ pub record Call (command : Command) (s t : Replica) (old new : Option Told) (out
 module _ (s t : Replica) (old new : Option Told) (a : Answer) (x : Answered) (said : machine_answer a ≡ Some x) where
   exact_on : (command : Command) → IsExact command s t old new a → RunsOn command s t (Ok (outcome_in a))
   exact_on (Append client request body) is = append_on s t (append_moves s t old new client request body is.0 is.2).1 client request body (outcome_in a)
+  exact_on (Stage client request body) is = stage_on s t (stage_running s t client request body is.0 is.2) client request body (outcome_in a)
+  exact_on Flush is = flush_on s t (flush_moves s t old new is.0 is.2).1 (outcome_in a)
   exact_on (Reply op body) is = reply_on s t (reply_moves s t old new op body is.0 is.2).1 op body (outcome_in a)
   exact_on (WriteBlock kind body) is = write_on s t (write_moves s t old new kind body is.0 is.2).1 kind body (outcome_in a)
   exact_on (Release address) is = release_on s t (release_running s t address is.0 is.2) address (outcome_in a)

@@ -2,12 +2,12 @@
 use Rattle.std.proofs.Common.{◌≡◌, Bool, true, false, Some, None, if◌then◌else◌, refl, subst, Ok, Err}
 use Rattle.std.proofs.lemmas.Option.{none-some}
 use Rattle.df_inspect.specs.Answers.{text_of}
-use Rattle.df_model.specs.Commands.{Answer as Answered, Command, ToAdvance, ToAppend, ToBegin, ToReadBlock, ToReadPrepare, ToReadReply, ToRelease, ToReply, ToScrub, ToWriteBlock}
+use Rattle.df_model.specs.Commands.{Answer as Answered, Command, ToAdvance, ToAppend, ToBegin, ToFlush, ToReadBlock, ToReadPrepare, ToReadReply, ToRelease, ToReply, ToScrub, ToStage, ToWriteBlock}
 use Rattle.df_model.specs.declared.answers.Progress.TheVariants.{Done, Working}
 use Rattle.df_model.specs.declared.commands.Answer.{Answer}
 use Rattle.df_model.specs.declared.commands.Answer.TheVariants as answers
 use Rattle.df_model.specs.declared.errors.StepError.TheVariants as step
-use Rattle.df_model.specs.Faults.{is_append_fault, is_block_fault, is_lookup_fault, is_prepare_fault, is_read_fault, is_reply_fault}
+use Rattle.df_model.specs.Faults.{is_append_fault, is_block_fault, is_flush_fault, is_lookup_fault, is_prepare_fault, is_read_fault, is_reply_fault}
 use Rattle.df_script_model.specs.Script.{answer_text}
 use Rattle.df_units.specs.Meaning.{number_of}
 use Rattle.df_workload.specs.Hearing.{outcome_in, outcome_of}
@@ -27,6 +27,10 @@ module _ (c : Command) (x : Answered) where
   pub same_words : (a : Answer) → machine_answer a ≡ Some x → SameWords c a x
   same_words (answers.Append (Ok receipt)) is = said (answers.Append (Ok receipt)) (ToAppend (Ok (receipt.op, number_of receipt.checksum))) (refl, refl) is
   same_words (answers.Append (Err e)) is = refused (is_append_fault e) (answers.Append (Err e)) (ToAppend (Err e)) (refl, refl) is
+  same_words (answers.Stage (Ok op)) is = said (answers.Stage (Ok op)) (ToStage (Ok op)) (refl, refl) is
+  same_words (answers.Stage (Err e)) is = said (answers.Stage (Err e)) (ToStage (Err e)) (refl, refl) is
+  same_words (answers.Flush (Ok count)) is = said (answers.Flush (Ok count)) (ToFlush (Ok count)) (refl, refl) is
+  same_words (answers.Flush (Err e)) is = refused (is_flush_fault e) (answers.Flush (Err e)) (ToFlush (Err e)) (refl, refl) is
   same_words (answers.Reply (Ok check)) is = said (answers.Reply (Ok check)) (ToReply (Ok (number_of check))) (refl, refl) is
   same_words (answers.Reply (Err e)) is = refused (is_reply_fault e) (answers.Reply (Err e)) (ToReply (Err e)) (refl, refl) is
   same_words (answers.WriteBlock (Ok reference)) is = said (answers.WriteBlock (Ok reference)) (ToWriteBlock (Ok (reference.address, number_of reference.checksum))) (refl, refl) is

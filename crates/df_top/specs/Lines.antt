@@ -3,7 +3,7 @@ use Rattle.std.specs.Prelude.{◌+◌, ℕ, Bool, true, false, List, [], ◌∷�
 use Rattle.df_inspect.specs.Opening.{script_text}
 use Rattle.df_lines.specs.Grammar.{Said}
 use Rattle.df_lines.specs.Grammar as lines
-use Rattle.df_model.specs.Commands.{Advance, Answer, Append, Begin, Command, ReadBlock, ReadPrepare, ReadReply, Recent, Release, Reply, Scrub, WriteBlock}
+use Rattle.df_model.specs.Commands.{Advance, Answer, Append, Begin, Command, Flush, ReadBlock, ReadPrepare, ReadReply, Recent, Release, Reply, Scrub, Stage, WriteBlock}
 use Rattle.df_pace.specs.declared.beat.Piece.{Piece}
 use Rattle.df_session.specs.Session.{Act}
 use Rattle.df_script_model.specs.Script.{answer_text}
@@ -11,6 +11,8 @@ use Rattle.df_script_model.specs.Script.{answer_text}
 -- the call that a line asks for
 abbrev pub command_of : Said → Command
 command_of (lines.Append client request body) = Append client request body
+command_of (lines.Stage client request body) = Stage client request body
+command_of lines.Flush = Flush
 command_of (lines.Reply op body) = Reply op body
 command_of (lines.Block kind body) = WriteBlock kind body
 command_of (lines.Release address) = Release address

@@ -41,6 +41,8 @@ fn is_begun(answer: &Answer) -> bool
         Answer::Begin(Ok(_)) => true,
         Answer::Begin(Err(_))
         | Answer::Append(_)
+        | Answer::Stage(_)
+        | Answer::Flush(_)
         | Answer::Reply(_)
         | Answer::WriteBlock(_)
         | Answer::Release(_)

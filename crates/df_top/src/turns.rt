@@ -73,6 +73,24 @@ fn execute<D: Disk, W: Sink>(disk: &mut D, sink: &mut W, session: &mut Session, 
                 },
             )
         }
+        Line::Stage {
+            client,
+            request,
+            length,
+        } => {
+            let body = lines.body(length);
+            serve(
+                disk,
+                sink,
+                replica,
+                Command::Stage {
+                    client,
+                    request,
+                    body,
+                },
+            )
+        }
+        Line::Flush => serve(disk, sink, replica, Command::Flush),
         Line::Reply { op, length } => {
             let body = lines.body(length);
             serve(disk, sink, replica, Command::Reply { op, body })

@@ -19,7 +19,7 @@ use Rattle.df_model.specs.Work.{opened}
 use Rattle.df_damage.specs.Below.{IsState, MayRecord, State, memory}
 use Rattle.df_damage.specs.Surveying.{state_found}
 use Rattle.df_damage.specs.Types.{Surveyed}
-use Rattle.df_damage.proofs.Laws.{found_awaits, found_ends, numbers_as, recorded_content, recorded_is_super}
+use Rattle.df_damage.proofs.Laws.{found_awaits, found_ends, found_staging, numbers_as, recorded_content, recorded_is_super}
 use Rattle.df_upgrade.specs.Base.{base_fields}
 use Rattle.df_upgrade.specs.Old.{IsOld}
 use Rattle.df_upgrade.specs.Upgrading.{second}
@@ -64,6 +64,7 @@ module _ (y : Surveyed) (old : IsOld y) (usable : IsUsable y.scanned.copies.foun
     booted = λ live. absurd (let none : false ≡ true = live in cc);
     ends = found_ends y old.found usable.rules;
     awaits = found_awaits y old.found;
+    staging = found_staging y [] refl old.found;
     captured = tt;
     course = old.found.read.idle;
   }

@@ -69,10 +69,11 @@ impl Surveyed {
             grid,
             trailer,
             scrub,
+            staging,
             ..
         } = scanned;
         let written = restore_rooms(disk, &file, &copies.found, &mut log);
-        let rooms = rooms_of(file.layout, log, grid, trailer, scrub);
+        let rooms = rooms_of(file.layout, log, grid, trailer, scrub, staging);
         match written {
             Ok(()) => Ok(rooms),
             Err(failed) => Err((rooms, failed)),

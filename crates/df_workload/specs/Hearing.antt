@@ -1,6 +1,6 @@
 -- What an answer makes of a generated run.
 use Rattle.std.specs.Prelude.{◌+◌, Bool, true, false, [], ◌∷◌, ◌++◌, drop, Ok, Err}
-use Rattle.df_model.specs.Commands.{Advance, Answer, Begin, Command, ToAdvance, ToAppend, ToBegin, ToReadBlock, ToReadPrepare, ToReadReply, ToRecent, ToRelease, ToReply, ToScrub, ToWriteBlock}
+use Rattle.df_model.specs.Commands.{Advance, Answer, Begin, Command, ToAdvance, ToAppend, ToBegin, ToFlush, ToReadBlock, ToReadPrepare, ToReadReply, ToRecent, ToRelease, ToReply, ToScrub, ToStage, ToWriteBlock}
 use Rattle.df_model.specs.declared.answers.Progress.TheVariants as progress
 use Rattle.df_model.specs.declared.commands.Answer.{Answer as Called}
 use Rattle.df_model.specs.declared.commands.Answer.TheVariants as answers
@@ -17,6 +17,10 @@ use Rattle.df_workload.specs.declared.state.State.{State}
 abbrev pub outcome_of : Answer → Outcome
 outcome_of (ToAppend (Ok receipt)) = Accepted
 outcome_of (ToAppend (Err e)) = Refused
+outcome_of (ToStage (Ok op)) = Accepted
+outcome_of (ToStage (Err e)) = Refused
+outcome_of (ToFlush (Ok count)) = Accepted
+outcome_of (ToFlush (Err e)) = Refused
 outcome_of (ToReply (Ok checksum)) = Accepted
 outcome_of (ToReply (Err e)) = Refused
 outcome_of (ToWriteBlock (Ok reference)) = Wrote reference.0
@@ -39,6 +43,8 @@ abbrev pub outcome_in : Called → Outcome
 outcome_in (answers.WriteBlock (Ok reference)) = Wrote reference.address
 outcome_in (answers.Advance (Ok (progress.Done sequence))) = Finished
 outcome_in (answers.Append (Err e)) = Refused
+outcome_in (answers.Stage (Err e)) = Refused
+outcome_in (answers.Flush (Err e)) = Refused
 outcome_in (answers.Reply (Err e)) = Refused
 outcome_in (answers.WriteBlock (Err e)) = Refused
 outcome_in (answers.Release (Err e)) = Refused

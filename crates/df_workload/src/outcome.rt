@@ -27,12 +27,16 @@ pub fn outcome_in(answer: &Answer) -> Outcome
         },
         Answer::Advance(Ok(Progress::Done { sequence: _ })) => Outcome::Finished,
         Answer::Append(Err(_))
+        | Answer::Stage(Err(_))
+        | Answer::Flush(Err(_))
         | Answer::Reply(Err(_))
         | Answer::WriteBlock(Err(_))
         | Answer::Release(Err(_))
         | Answer::Begin(Err(_))
         | Answer::Advance(Err(_)) => Outcome::Refused,
         Answer::Append(Ok(_))
+        | Answer::Stage(Ok(_))
+        | Answer::Flush(Ok(_))
         | Answer::Reply(Ok(_))
         | Answer::Release(Ok(()))
         | Answer::Begin(Ok(_))

@@ -1,8 +1,24 @@
-use Rattle.std.proofs.Common.{arith, ◌∙◌, ap}
-use Rattle.df_format.specs.declared.header.Header.{Header}
+-- The body was put there.
+use Rattle.std.proofs.Common.{◌≡◌, ℕ, List, length, take, drop, sym, ◌∙◌, ap, subst, arith}
+use Rattle.df_format.specs.Making.{for_body}
+use Rattle.df_format.specs.Message.{sectors_of}
+use Rattle.df_format.specs.Rules.{ObeysRules}
 use Rattle.df_format.specs.Spelling.{sealed}
-use Rattle.df_format.proofs.Makes.{made_is_unit}
+use Rattle.df_format.specs.UnitLaws.{MadeIsUnit}
+use Rattle.df_format.proofs.Makes.{body_put, further}
 use Rattle.df_format.proofs.make.make_unit.Goals as goal
 
+pub seal_unit-requires-clause-rules : goal.seal_unit-requires-clause-rules
+seal_unit-requires-clause-rules c = subst (λ (l : List ℕ). ObeysRules (for_body c.args.header l)) (sym (body_put c.args.body.now c.args.into.now c.put_bytes.new.into (omega (arith, c.requires.room)) c.put_bytes.ensures.front)) c.requires.rules
+
+pub returns-clause-header : goal.returns-clause-header
+returns-clause-header c = c.seal_unit.ensures.header ∙ ap (λ (l : List ℕ). sealed (for_body c.args.header l)) (body_put c.args.body.now c.args.into.now c.put_bytes.new.into (omega (arith, c.requires.room)) c.put_bytes.ensures.front)
+
 pub returns-clause-unit : goal.returns-clause-unit
-returns-clause-unit c = made_is_unit c.args.header c.seal_header-header.result c.args.body.now (c.seal_header-header.ensures.value ∙ ap (λ (h : Header). sealed h) c.for_body.ensures) c.seal_header-header.ensures.sealed (λ i. omega (arith, c.type_inv.body i))
+returns-clause-unit c = subst (λ (l : List ℕ). MadeIsUnit (record { header = c.seal_unit.result.header; body = l })) (body_put c.args.body.now c.args.into.now c.put_bytes.new.into (omega (arith, c.requires.room)) c.put_bytes.ensures.front) c.seal_unit.ensures.unit
+
+pub returns-clause-sectors : goal.returns-clause-sectors
+returns-clause-sectors c = c.seal_unit.ensures.sectors ∙ ap (λ (l : List ℕ). sectors_of (record { header = c.seal_unit.result.header; body = l })) (body_put c.args.body.now c.args.into.now c.put_bytes.new.into (omega (arith, c.requires.room)) c.put_bytes.ensures.front)
+
+pub returns-clause-rest : goal.returns-clause-rest
+returns-clause-rest c = c.seal_unit.ensures.rest ∙ further _ _ c.put_bytes.new.into c.args.into.now (omega (arith, c.seal_unit.ensures.length)) c.put_bytes.ensures.rest

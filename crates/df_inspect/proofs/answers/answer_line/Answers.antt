@@ -6,6 +6,12 @@ use Rattle.df_inspect.proofs.answers.answer_line.Goals as goal
 pub returns-in-Append : goal.returns-in-Append
 returns-in-Append c = c.append_line.ensures (command_of c.args.command.now) ∙ ap (text_of (command_of c.args.command.now)) (sym c.in-Append.is)
 
+pub returns-in-Stage : goal.returns-in-Stage
+returns-in-Stage c = c.stage_line.ensures (command_of c.args.command.now) ∙ ap (text_of (command_of c.args.command.now)) (sym c.in-Stage.is)
+
+pub returns-in-Flush : goal.returns-in-Flush
+returns-in-Flush c = c.flush_line.ensures (command_of c.args.command.now) ∙ ap (text_of (command_of c.args.command.now)) (sym c.in-Flush.is)
+
 pub returns-in-WriteBlock : goal.returns-in-WriteBlock
 returns-in-WriteBlock c = c.wrote_line.ensures (command_of c.args.command.now) ∙ ap (text_of (command_of c.args.command.now)) (sym c.in-WriteBlock.is)
 

@@ -1,10 +1,11 @@
 -- The parts make sense by themselves: what was found is in its ranges, and the table is one of the file.
-use Rattle.std.proofs.Common.{◌≡◌, ◌∙◌, ℕ, refl, sym, ◌<◌, ◌^◌, subst}
+use Rattle.std.proofs.Common.{◌≡◌, ◌∙◌, ℕ, List, refl, sym, ◌<◌, ◌^◌, ap, subst}
 use Rattle.std.specs.Prelude.{None, false, true}
 use Rattle.df_format.specs.SuperRules.{IsUsable}
-use Rattle.df_damage.specs.Below.{ScrubState}
+use Rattle.df_damage.specs.Below.{ScrubState, Staged}
+use Rattle.df_model.specs.Work.{Request}
 use Rattle.df_opening.specs.Survey.{Survey}
-use Rattle.df_damage.proofs.Laws.{found_awaits, found_ends, second_super}
+use Rattle.df_damage.proofs.Laws.{found_awaits, found_ends, found_staging, second_super}
 use Rattle.df_opening.proofs.surveying.parts_of.Goals as goal
 
 pub returns-clause-found : goal.returns-clause-found
@@ -27,6 +28,7 @@ returns-clause-found c =
           booted = λ live. absurd (let none : false ≡ true = live in cc);
           ends = found_ends c.args.surveyed found usable.rules;
           awaits = found_awaits c.args.surveyed found;
+          staging = found_staging c.args.surveyed c.clear.new.self.requests (ap (λ (x : Staged). x.requests) c.clear.ensures) found;
           captured = tt;
           course = found.read.idle;
         };
@@ -34,12 +36,14 @@ returns-clause-found c =
           rooms_fit = c.args.surveyed.scanned.log_fits;
           trailer_fits = c.args.surveyed.scanned.trailer_fits;
           scrub_fits = c.cleared-scrub.ensures.layout ∙ c.args.surveyed.scanned.scrub_fits;
+          staging_fits = ap (λ (x : Staged). x.layout) c.clear.ensures ∙ c.args.surveyed.scanned.staging_fits;
         };
         grid = record { grid_fits = c.args.surveyed.scanned.grid_fits; grid_named = c.args.surveyed.scanned.grid_named };
       };
       dead = refl;
       unspent = found.ends.unspent;
       unbooted = c.args.surveyed.scanned.grid_unbooted;
+      unstaged = ap (λ (x : Staged). x.requests) c.clear.ensures;
       idle = refl;
       fresh = c.cleared-scrub.ensures.cleared;
     }
@@ -48,7 +52,7 @@ pub returns-clause-seen : goal.returns-clause-seen
 returns-clause-seen c =
     let s = c.args.surveyed.scanned in
     let traces = c.args.surveyed.traces in
-    let seen : ScrubState → ℕ → Survey = λ x boot. record {
+    let seen : List Request → ScrubState → ℕ → Survey = λ requests x boot. record {
       state = record {
         file = s.file;
         fields = s.copies.found.content;
@@ -58,6 +62,7 @@ returns-clause-seen c =
         replies = traces.replies;
         table = s.sessions;
         waiting = c.args.surveyed.waiting.items;
+        staged = requests;
         headers = s.log.headers;
         blocks = s.grid.blocks;
         running = None;
@@ -69,4 +74,4 @@ returns-clause-seen c =
       chosen = s.copies.found.chosen;
       mends = s.log.mends.items;
     } in
-    (λ i. seen (c.cleared-scrub.ensures.cleared i) (s.grid_unbooted i))
+    (λ i. seen (c.clear.ensures i).requests (c.cleared-scrub.ensures.cleared i) (s.grid_unbooted i))

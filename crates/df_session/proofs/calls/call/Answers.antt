@@ -1,10 +1,20 @@
 -- Each call is exact, and its answer is the machine's.
-use Rattle.df_session.proofs.Exact.{append_called, begin_called, for_command, release_called, reply_called, step_called, write_called}
+use Rattle.df_session.proofs.Exact.{append_called, begin_called, flush_called, for_command, release_called, reply_called, stage_called, step_called, write_called}
 use Rattle.df_session.proofs.calls.call.Goals as goal
 
 pub returns-in-Append : goal.returns-in-Append
 returns-in-Append g c =
     let called = for_command c.in-Append.is (append_called c.args.replica.now c.append.new.self (g.D.Disk.told c.args.disk.now) (g.D.Disk.told c.append.new.disk) (g.D.Disk.faults c.args.disk.now) (g.D.Disk.faults c.append.new.disk) c.in-Append.client c.in-Append.request c.in-Append.body.now c.append.result c.append.ensures.exact c.append.ensures.call c.append.ensures.cause) in
+    record { exact = called.exact; makes = called.makes; cause = called.cause }
+
+pub returns-in-Stage : goal.returns-in-Stage
+returns-in-Stage g c =
+    let called = for_command c.in-Stage.is (stage_called c.args.replica.now c.stage.new.self (g.D.Disk.told c.args.disk.now) (g.D.Disk.faults c.args.disk.now) c.in-Stage.client c.in-Stage.request c.in-Stage.body.now c.stage.result c.stage.ensures.exact (c.stage.ensures.call (g.D.Disk.told c.args.disk.now))) in
+    record { exact = called.exact; makes = called.makes; cause = called.cause }
+
+pub returns-in-Flush : goal.returns-in-Flush
+returns-in-Flush g c =
+    let called = for_command c.in-Flush.is (flush_called c.args.replica.now c.flush.new.self (g.D.Disk.told c.args.disk.now) (g.D.Disk.told c.flush.new.disk) (g.D.Disk.faults c.args.disk.now) (g.D.Disk.faults c.flush.new.disk) c.flush.result c.flush.ensures.exact c.flush.ensures.call c.flush.ensures.cause) in
     record { exact = called.exact; makes = called.makes; cause = called.cause }
 
 pub returns-in-Reply : goal.returns-in-Reply

@@ -19,6 +19,7 @@ returns-in-Ok-store-clause-changed g c = λ ready few.
       op = c.in-Ok-store.ensures.op ∙ ap (λ (h : ℕ). h + 1) room.head;
       head = c.in-Ok-store.ensures.head ∙ ap (λ (h : ℕ). h + 1) room.head;
       ready = c.in-Ok-store.ensures.ready layout room.ready room.room;
+      ends = tt;
     }
 
 pub returns-in-Err-store-clause-changed : goal.returns-in-Err-store-clause-changed
@@ -32,6 +33,7 @@ returns-in-Err-store-clause-changed g c = λ ready few.
       op = tt;
       head = tt;
       ready = tt;
+      ends = c.in-Err-store.ensures.ends;
     }
 
 pub returns-in-Err-clause-changed : goal.returns-in-Err-clause-changed
@@ -40,6 +42,7 @@ returns-in-Err-clause-changed g c = λ ready few. record {
   op = tt;
   head = tt;
   ready = tt;
+  ends = c.in-Err.ensures.ends;
 }
 
 pub apply-requires : goal.apply-requires

@@ -1,15 +1,16 @@
 -- The prepare was appended, no op is left, or the call has no answer.
 use Rattle.std.proofs.Common.{subst, sym, ℕ, ◌+◌, [], ◌∷◌, Err, Result}
-use Rattle.std.specs.Prelude.{IfOk, OnOk}
+use Rattle.std.specs.Prelude.{IfErr, IfOk, OnOk}
 use Rattle.df_base.specs.Causes.{Blamed, IsBlamed}
 use Rattle.df_model.specs.Commands.{Append}
 use Rattle.df_result.specs.Appending.{appended, next_unit}
 use Rattle.df_table.specs.declared.ending.Ending.{Ending}
 use Rattle.df_table.specs.Calls.{Comes}
 use Rattle.df_table.specs.Statuses.{is_disk}
+use Rattle.df_table.specs.Turns.{IsOfCall}
 use Rattle.std.proofs.Common.{◌≡◌}
 use Rattle.df_table.specs.Policy.{the_client}
-use Rattle.df_table.proofs.Called.{append_comes, blamed_so, on_ok}
+use Rattle.df_table.proofs.Called.{append_comes, blamed_so, fault_ends, on_ok}
 use Rattle.df_table.proofs.Joined.{one_failed}
 use Rattle.df_table.proofs.calls.append.Goals as goal
 
@@ -21,6 +22,7 @@ returns-in-Ok g c =
       state = subst (λ (r : Result ℕ Ending). OnOk r (c.make.new.replica ≡ appended c.args.replica.now (next_unit c.args.replica.now the_client c.args.request c.args.body.now))) (sym c.op_in.ensures) comes.state;
       op = subst (λ (r : Result ℕ Ending). IfOk r (λ op. op ≡ c.args.replica.now.head + 1)) (sym c.op_in.ensures) comes.op;
       live = on_ok c.op_in.result c.in-Ok.ensures.live;
+      ends = subst (λ (r : Result ℕ Ending). IfErr r (IsOfCall (g.D.Disk.told c.make.new.disk))) (sym c.op_in.ensures) comes.ends;
       disk = subst (λ (r : Result ℕ Ending). IsBlamed is_disk (g.D.Disk.faults c.args.disk.now) (g.D.Disk.faults c.make.new.disk) r) (sym c.op_in.ensures) (comes.blames (g.D.Disk.faults c.args.disk.now) (g.D.Disk.faults c.make.new.disk) c.in-Ok.ensures.disk);
     }
 
@@ -32,5 +34,6 @@ returns-in-Err g c =
       state = tt;
       op = tt;
       live = tt;
+      ends = subst (IsOfCall (g.D.Disk.told c.make.new.disk)) (sym c.ended_by.ensures) (fault_ends (Append the_client c.args.request c.args.body.now) (g.D.Disk.told c.make.new.disk) c.in-Err.fault c.in-Err.ensures.makes.1);
       disk = subst (λ (e : Ending). Blamed (is_disk e) (g.D.Disk.faults c.args.disk.now) (g.D.Disk.faults c.make.new.disk)) (sym c.ended_by.ensures) (blamed_so c.in-Err.fault (g.D.Disk.faults c.args.disk.now) (g.D.Disk.faults c.make.new.disk) c.in-Err.ensures.disk);
     }

@@ -8,7 +8,8 @@ use Rattle.df_table.specs.declared.ending.Ending.{Ending}
 use Rattle.df_table.specs.declared.ending.Ending.TheVariants.{Disk}
 use Rattle.df_table.specs.Calls.{Comes}
 use Rattle.df_table.specs.Statuses.{is_disk}
-use Rattle.df_table.proofs.Called.{blamed_so, on_ok, reply_comes, reply_fails}
+use Rattle.df_table.specs.Turns.{IsOfCall}
+use Rattle.df_table.proofs.Called.{blamed_so, fault_ends, on_ok, reply_comes, reply_fails}
 use Rattle.df_table.proofs.Joined.{one_failed}
 use Rattle.df_table.proofs.calls.reply.Goals as goal
 
@@ -20,6 +21,7 @@ returns-in-Ok g c =
       state = subst (λ (r : Result (Unit {0}) Ending). OnOk r (c.make.new.replica ≡ replied c.args.replica.now (next_reply c.args.replica.now []).header)) (sym c.accepted_or.ensures) comes.state;
       fails = λ may. subst (λ (r : Result (Unit {0}) Ending). IfErr r (λ e. e ≡ Disk)) (sym c.accepted_or.ensures) (comes.fails may);
       live = on_ok c.accepted_or.result c.in-Ok.ensures.live;
+      ends = subst (λ (r : Result (Unit {0}) Ending). IfErr r (IsOfCall (g.D.Disk.told c.make.new.disk))) (sym c.accepted_or.ensures) comes.ends;
       disk = subst (λ (r : Result (Unit {0}) Ending). IsBlamed is_disk (g.D.Disk.faults c.args.disk.now) (g.D.Disk.faults c.make.new.disk) r) (sym c.accepted_or.ensures) (comes.blames (g.D.Disk.faults c.args.disk.now) (g.D.Disk.faults c.make.new.disk) c.in-Ok.ensures.disk);
     }
 
@@ -31,5 +33,6 @@ returns-in-Err g c =
       state = tt;
       fails = λ may. c.ended_by.ensures ∙ reply_fails c.args.op (g.D.Disk.told c.make.new.disk) c.in-Err.fault c.in-Err.ensures.makes.1;
       live = tt;
+      ends = subst (IsOfCall (g.D.Disk.told c.make.new.disk)) (sym c.ended_by.ensures) (fault_ends (Reply c.args.op []) (g.D.Disk.told c.make.new.disk) c.in-Err.fault c.in-Err.ensures.makes.1);
       disk = subst (λ (e : Ending). Blamed (is_disk e) (g.D.Disk.faults c.args.disk.now) (g.D.Disk.faults c.make.new.disk)) (sym c.ended_by.ensures) (blamed_so c.in-Err.fault (g.D.Disk.faults c.args.disk.now) (g.D.Disk.faults c.make.new.disk) c.in-Err.ensures.disk);
     }

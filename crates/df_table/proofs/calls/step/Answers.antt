@@ -5,7 +5,8 @@ use Rattle.df_model.specs.Commands.{Advance}
 use Rattle.df_table.specs.declared.ending.Ending.{Ending}
 use Rattle.df_table.specs.Calls.{Comes, Stepped}
 use Rattle.df_table.specs.Statuses.{is_disk}
-use Rattle.df_table.proofs.Called.{blamed_so, step_comes}
+use Rattle.df_table.specs.Turns.{IsOfCall}
+use Rattle.df_table.proofs.Called.{blamed_so, fault_ends, step_comes}
 use Rattle.df_table.proofs.Joined.{one_failed}
 use Rattle.df_table.proofs.calls.step.Goals as goal
 
@@ -19,6 +20,7 @@ returns-in-Ok g c =
       makes = comes.comes;
       state = subst (λ (done : Bool). Stepped done c.args.replica.now c.make.new.replica) (sym c.is_done.ensures) comes.state;
       live = c.in-Ok.ensures.live;
+      ends = tt;
       disk = c.in-Ok.ensures.disk;
     }
 
@@ -29,5 +31,6 @@ returns-in-Err g c =
       makes = subst (λ (e : Ending). Comes {T = Bool} (Advance ∷ []) c.args.replica.now c.make.new.replica (g.D.Disk.told c.args.disk.now) (g.D.Disk.told c.make.new.disk) (Err e)) (sym c.ended_by.ensures) ends;
       state = tt;
       live = tt;
+      ends = subst (IsOfCall (g.D.Disk.told c.make.new.disk)) (sym c.ended_by.ensures) (fault_ends Advance (g.D.Disk.told c.make.new.disk) c.in-Err.fault c.in-Err.ensures.makes.1);
       disk = subst (λ (e : Ending). Blamed (is_disk e) (g.D.Disk.faults c.args.disk.now) (g.D.Disk.faults c.make.new.disk)) (sym c.ended_by.ensures) (blamed_so c.in-Err.fault (g.D.Disk.faults c.args.disk.now) (g.D.Disk.faults c.make.new.disk) c.in-Err.ensures.disk);
     }

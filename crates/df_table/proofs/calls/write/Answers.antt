@@ -1,13 +1,14 @@
 -- The call was made and accepted, it was refused, or it has no answer.
 use Rattle.std.proofs.Common.{◌≡◌, subst, sym, [], ◌∷◌, Err, Result}
-use Rattle.std.specs.Prelude.{OnOk}
+use Rattle.std.specs.Prelude.{IfErr, OnOk}
 use Rattle.df_base.specs.Causes.{Blamed, IsBlamed}
 use Rattle.df_model.specs.Commands.{WriteBlock}
 use Rattle.df_session.specs.Blocks.{next_block, written}
 use Rattle.df_table.specs.declared.ending.Ending.{Ending}
 use Rattle.df_table.specs.Calls.{Comes}
 use Rattle.df_table.specs.Statuses.{is_disk}
-use Rattle.df_table.proofs.Called.{blamed_so, on_ok, write_comes}
+use Rattle.df_table.specs.Turns.{IsOfCall}
+use Rattle.df_table.proofs.Called.{blamed_so, fault_ends, on_ok, write_comes}
 use Rattle.df_table.proofs.Joined.{one_failed}
 use Rattle.df_table.proofs.calls.write.Goals as goal
 
@@ -18,6 +19,7 @@ returns-in-Ok g c =
       makes = λ may. subst (λ (r : Result (Unit {0}) Ending). Comes (WriteBlock 1 c.args.body.now ∷ []) c.args.replica.now c.make.new.replica (g.D.Disk.told c.args.disk.now) (g.D.Disk.told c.make.new.disk) r) (sym c.accepted_or.ensures) (comes.comes may);
       state = subst (λ (r : Result (Unit {0}) Ending). OnOk r (c.make.new.replica ≡ written c.args.replica.now (next_block c.args.replica.now 1 c.args.body.now).header)) (sym c.accepted_or.ensures) comes.state;
       live = on_ok c.accepted_or.result c.in-Ok.ensures.live;
+      ends = subst (λ (r : Result (Unit {0}) Ending). IfErr r (IsOfCall (g.D.Disk.told c.make.new.disk))) (sym c.accepted_or.ensures) comes.ends;
       disk = subst (λ (r : Result (Unit {0}) Ending). IsBlamed is_disk (g.D.Disk.faults c.args.disk.now) (g.D.Disk.faults c.make.new.disk) r) (sym c.accepted_or.ensures) (comes.blames (g.D.Disk.faults c.args.disk.now) (g.D.Disk.faults c.make.new.disk) c.in-Ok.ensures.disk);
     }
 
@@ -28,5 +30,6 @@ returns-in-Err g c =
       makes = λ may. subst (λ (e : Ending). Comes {T = Unit {0}} (WriteBlock 1 c.args.body.now ∷ []) c.args.replica.now c.make.new.replica (g.D.Disk.told c.args.disk.now) (g.D.Disk.told c.make.new.disk) (Err e)) (sym c.ended_by.ensures) ends;
       state = tt;
       live = tt;
+      ends = subst (IsOfCall (g.D.Disk.told c.make.new.disk)) (sym c.ended_by.ensures) (fault_ends (WriteBlock 1 c.args.body.now) (g.D.Disk.told c.make.new.disk) c.in-Err.fault c.in-Err.ensures.makes.1);
       disk = subst (λ (e : Ending). Blamed (is_disk e) (g.D.Disk.faults c.args.disk.now) (g.D.Disk.faults c.make.new.disk)) (sym c.ended_by.ensures) (blamed_so c.in-Err.fault (g.D.Disk.faults c.args.disk.now) (g.D.Disk.faults c.make.new.disk) c.in-Err.ensures.disk);
     }

@@ -1,5 +1,6 @@
 -- The file is opened and served, or it isn't.
-use Rattle.std.proofs.Common.{ℕ, refl, ap, ◌∙◌, subst}
+use Rattle.std.proofs.Common.{◌≡◌, ℕ, true, false, refl, sym, ap, ◌∙◌, subst, arith}
+use Rattle.df_lines.specs.Text.{Reading}
 use Rattle.df_session.specs.Below.{State}
 use Rattle.df_top.specs.Outside.{Blames, Outside}
 use Rattle.df_model.specs.declared.answers.Summary.{Summary}
@@ -10,6 +11,14 @@ use Rattle.df_top.specs.Session.{state}
 use Rattle.df_top.proofs.Causes.{ended_never, open_causes, refused_never}
 use Rattle.df_top.proofs.Served.{executed, from_start, not_executed, serves}
 use Rattle.df_top.proofs.serving.serve_file.Goals as goal
+
+-- a reader that has read nothing hasn't ended, and has its whole budget
+pub serve_script-requires-clause-ready : goal.serve_script-requires-clause-ready
+serve_script-requires-clause-ready g c = record {
+  live = c.in-Ok.ensures.live;
+  count = omega (arith, ap (λ (r : Reading). r.budget) c.requires.lines.reading);
+  at_end = λ ended. absurd (let both : false ≡ true = sym c.requires.lines.ended ∙ ended in cc);
+}
 
 pub returns-in-Ok-clause-serves : goal.returns-in-Ok-clause-serves
 returns-in-Ok-clause-serves g c = λ mode executes t told whole.

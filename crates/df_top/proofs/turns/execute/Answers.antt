@@ -3,7 +3,7 @@ use Rattle.std.proofs.Common.{◌≡◌, List, ℕ, Option, subst, sym}
 use Rattle.df_disk.specs.Told.{Told}
 use Rattle.df_lines.specs.declared.line.Line.{Line}
 use Rattle.df_lines.specs.Grammar.{said_with}
-use Rattle.df_model.specs.Commands.{Append, Begin, Reply, WriteBlock}
+use Rattle.df_model.specs.Commands.{Append, Begin, Reply, Stage, WriteBlock}
 use Rattle.df_session.specs.Below.{State as Replica}
 use Rattle.df_top.specs.Lines.{command_of}
 use Rattle.df_top.specs.Step.{Answers}
@@ -17,6 +17,12 @@ served body line l s t old new written took turn is did = subst (λ (x : Line). 
 
 pub returns-in-Append-clause-answers : goal.returns-in-Append-clause-answers
 returns-in-Append-clause-answers g c = served c.args.session.now.lines.body _ _ _ _ _ _ _ _ _ c.in-Append.is (subst (λ (b : List ℕ). Answers (Append c.in-Append.client c.in-Append.request b) c.args.session.now.replica c.serve.new.replica (g.D.Disk.told c.args.disk.now) (g.D.Disk.told c.serve.new.disk) (g.W.Sink.written c.args.sink.now) (g.W.Sink.written c.serve.new.sink) c.serve.result) c.body-body.ensures c.serve.ensures.answers)
+
+pub returns-in-Stage-clause-answers : goal.returns-in-Stage-clause-answers
+returns-in-Stage-clause-answers g c = served c.args.session.now.lines.body _ _ _ _ _ _ _ _ _ c.in-Stage.is (subst (λ (b : List ℕ). Answers (Stage c.in-Stage.client c.in-Stage.request b) c.args.session.now.replica c.serve-in-Stage.new.replica (g.D.Disk.told c.args.disk.now) (g.D.Disk.told c.serve-in-Stage.new.disk) (g.W.Sink.written c.args.sink.now) (g.W.Sink.written c.serve-in-Stage.new.sink) c.serve-in-Stage.result) c.body-body-in-Stage.ensures c.serve-in-Stage.ensures.answers)
+
+pub returns-in-Flush-clause-answers : goal.returns-in-Flush-clause-answers
+returns-in-Flush-clause-answers g c = served c.args.session.now.lines.body _ _ _ _ _ _ _ _ _ c.in-Flush.is c.serve-in-Flush.ensures.answers
 
 pub returns-in-Reply-clause-answers : goal.returns-in-Reply-clause-answers
 returns-in-Reply-clause-answers g c = served c.args.session.now.lines.body _ _ _ _ _ _ _ _ _ c.in-Reply.is (subst (λ (b : List ℕ). Answers (Reply c.in-Reply.op b) c.args.session.now.replica c.serve-in-Reply.new.replica (g.D.Disk.told c.args.disk.now) (g.D.Disk.told c.serve-in-Reply.new.disk) (g.W.Sink.written c.args.sink.now) (g.W.Sink.written c.serve-in-Reply.new.sink) c.serve-in-Reply.result) c.body-body-in-Reply.ensures c.serve-in-Reply.ensures.answers)

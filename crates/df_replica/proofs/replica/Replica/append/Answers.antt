@@ -1,13 +1,26 @@
 -- What isn't refused may be the next prepare, and each call is the machine's.
 use Rattle.std.proofs.Common.{◌≡◌, refl, sym, ap, subst, ◌∙◌}
-use Rattle.df_opening.specs.Below.{State}
+use Rattle.df_model.specs.Faults.{is_append_fault}
+use Rattle.df_model.specs.declared.answers.Receipt.{Receipt}
+use Rattle.df_opening.specs.Below.{State, memory}
 use Rattle.df_replica.specs.Stopping.{stopped}
-use Rattle.df_replica.proofs.AppendAnswers.{fault_serves, receipt_serves, refusal_serves}
+use Rattle.df_replica.proofs.AppendAnswers.{fault_serves, receipt_serves, refusal_serves, refused_exact}
 use Rattle.df_replica.proofs.AppendTests.{may_next}
+use Rattle.df_replica.proofs.Unblamed.{append_unblamed, refused_blames}
 use Rattle.df_replica.proofs.replica.Replica.append.Goals as goal
 
 pub append_next-requires : goal.append_next-requires
 append_next-requires g c = may_next c.args.self.now c.args.client c.args.request c.args.body.now c.append_refusal.ensures.state c.append_refusal.ensures.table c.requires.live (sym (c.append_refusal.ensures.why c.args.body.now refl) ∙ c.in_default.is)
+
+pub returns-in-Some-clause-exact : goal.returns-in-Some-clause-exact
+returns-in-Some-clause-exact g c =
+    let some = sym (c.in-Some.ensures.why c.args.body.now refl) in
+    refused_exact c.args.client c.args.request c.args.body.now c.args.self.now (g.D.Disk.told c.args.disk.now) c.in-Some.error some (append_unblamed (memory c.args.self.now) c.args.client c.args.request c.args.body.now c.in-Some.error some)
+
+pub returns-in-Some-clause-cause : goal.returns-in-Some-clause-cause
+returns-in-Some-clause-cause g c =
+    let some = sym (c.in-Some.ensures.why c.args.body.now refl) in
+    refused_blames is_append_fault c.in-Some.error (append_unblamed (memory c.args.self.now) c.args.client c.args.request c.args.body.now c.in-Some.error some) Receipt (g.D.Disk.faults c.args.disk.now)
 
 pub returns-in-Some-clause-call : goal.returns-in-Some-clause-call
 returns-in-Some-clause-call g c = refusal_serves c.args.self.now c.args.client c.args.request c.args.body.now c.append_refusal.ensures.state c.requires.live c.ranges.client.fits c.in-Some.error (sym (c.in-Some.ensures.why c.args.body.now refl)) (g.D.Disk.told c.args.disk.now)

@@ -1,11 +1,13 @@
--- The refusal is the machine's, by the client's session.
-use Rattle.std.proofs.Common.{◌≡◌, ◌≤◌, ◌^◌, map, Option, Some, None, refl, ◌∙◌, sym, ap}
+-- The refusal is the machine's, by the client's session, and behind it by what is staged.
+use Rattle.std.proofs.Common.{◌≡◌, ◌≤◌, ◌^◌, ℕ, nat_lt, List, [], ◌∷◌, length, map, Option, Some, None, refl, ◌∙◌, sym, ap}
 use Rattle.std.specs.Prelude.{IfSome, option_map}
 use Rattle.std.specs.List.{position}
 use Rattle.df_sessions.specs.declared.session.Session as told
 use Rattle.df_sessions.specs.Requests.{session_of}
 use Rattle.df_sessions.specs.Table.{has_client}
-use Rattle.df_model.specs.Refusals.{session_of_client}
+use Rattle.df_model.specs.Refusals.{first_refusal, is_staged, request_refusals, session_of_client}
+use Rattle.df_model.specs.declared.errors.AppendError.TheVariants as append
+use Rattle.df_model.proofs.Laws.{behind_decides, first_refuses}
 use Rattle.df_opening.specs.Below.{State, memory}
 use Rattle.df_replica.proofs.AppendTests.{session_found, small_session}
 use Rattle.df_replica.proofs.replica.Replica.append_refusal.Goals as goal
@@ -14,10 +16,23 @@ each_small : (o : Option told.Session) → ((s : told.Session) → o ≡ Some s 
 each_small None small = tt
 each_small (Some s) small = small s refl
 
-pub append_refusal-requires-clause-last : goal.append_refusal-requires-clause-last
-append_refusal-requires-clause-last c =
+pub request_refusal-requires-clause-last : goal.request_refusal-requires-clause-last
+request_refusal-requires-clause-last c =
     each_small c.session_of-last.result (λ s is. small_session c.self.inside.parts.sessions.sessions (position (has_client c.args.client) c.self.inside.parts.sessions.sessions) s c.self.invariant.state.requests (sym c.session_of-last.ensures ∙ is))
 
-pub returns-clause-why : goal.returns-clause-why
-returns-clause-why c = λ body size.
-    c.append_refusal.ensures (memory c.args.self.now) body c.counters.ensures (ap (λ (t : State). session_of_client c.args.client (map session_of t.table.sessions)) (sym c.self.view_is) ∙ session_found c.args.client c.self.inside.parts.sessions.sessions ∙ ap (option_map session_of) (sym c.session_of-last.ensures)) size
+pub returns-in-Some-clause-why : goal.returns-in-Some-clause-why
+returns-in-Some-clause-why c = λ body size.
+    let m = memory c.args.self.now in
+    let there : session_of_client c.args.client m.sessions ≡ option_map session_of c.session_of-last.result =
+    ap (λ (t : State). session_of_client c.args.client (map session_of t.table.sessions)) (sym c.self.view_is) ∙ session_found c.args.client c.self.inside.parts.sessions.sessions ∙ ap (option_map session_of) (sym c.session_of-last.ensures) in
+    sym (first_refuses (request_refusals m c.args.client c.args.request body) ((is_staged m, append.Staged (length m.staged)) ∷ []) c.in-Some.error (sym (c.in-Some.ensures m body c.counters.ensures there size)))
+
+pub returns-in-None-clause-why : goal.returns-in-None-clause-why
+returns-in-None-clause-why c = λ body size.
+    let m = memory c.args.self.now in
+    let there : session_of_client c.args.client m.sessions ≡ option_map session_of c.session_of-last.result =
+    ap (λ (t : State). session_of_client c.args.client (map session_of t.table.sessions)) (sym c.self.view_is) ∙ session_found c.args.client c.self.inside.parts.sessions.sessions ∙ ap (option_map session_of) (sym c.session_of-last.ensures) in
+    let count : c.len.result ≡ length m.staged = c.len.ensures.count ∙ ap (λ (t : State). length t.staged) c.self.view_is in
+    c.staged_refusal.ensures
+    ∙ ap (λ (n : ℕ). first_refusal ((nat_lt 0 n, append.Staged n) ∷ [])) count
+    ∙ sym (behind_decides (request_refusals m c.args.client c.args.request body) ((is_staged m, append.Staged (length m.staged)) ∷ []) (sym (c.in-None.ensures m body c.counters.ensures there size)))

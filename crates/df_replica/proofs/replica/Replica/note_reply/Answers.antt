@@ -1,9 +1,9 @@
 -- The state behind a reply that is noted makes sense.
-use Rattle.std.proofs.Common.{◌≡◌, ◌<◌, ◌+◌, length, sym, subst, ◌∙◌, arith}
+use Rattle.std.proofs.Common.{◌≡◌, ◌<◌, ◌+◌, length, refl, sym, subst, ◌∙◌, arith}
 use Rattle.df_sessions.specs.Requests.{sessions_of}
 use Rattle.df_theory.specs.Sessions.{Tracks}
-use Rattle.df_opening.specs.Below.{AreAsked, State}
-use Rattle.df_opening.proofs.Laws.{numbered_by}
+use Rattle.df_opening.specs.Below.{AreAsked, State, state_in}
+use Rattle.df_opening.proofs.Laws.{numbered_by, staging_on}
 use Rattle.df_replica.proofs.replica.Replica.note_reply.Goals as goal
 
 pub invariant_of-self : goal.invariant_of-self
@@ -27,6 +27,7 @@ invariant_of-self c =
               subst (Tracks (c.self.inside.parts.replies + 1) c.self.inside.parts.head) (sym same)
               (record { below = old.tracks.below; apart = old.tracks.apart; pending = λ o above within. old.tracks.pending o (omega (arith, above)) within });
         };
+        staging = staging_on (state_in c.self.inside.parts) (record (state_in c.self.inside.parts) { replies = c.self.inside.parts.replies + 1; waiting = c.remove.new.self.items; table = c.store.new.self }) refl refl refl (omega arith) (omega arith) same old.staging;
         captured = old.captured;
         course = old.course;
       };

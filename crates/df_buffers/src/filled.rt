@@ -1,0 +1,110 @@
+// Rooms with a body in them: the header that is to stand before it is made later, so that the body is copied once.
+ghost use Rattle.std.specs.Prelude.{◌≡◌, ◌≤◌, ◌+◌, length, take, drop, IsSome};
+ghost use Rattle.df_buffers.specs.Below.{sealed, ObeysRules, sectors_of, sectors_end, own_place, greatest_size, for_body, MadeIsUnit};
+
+use crate::{Raw, Sound, UnitKind};
+use df_base::HEADER;
+use df_format::{Header, seal_unit};
+use df_layout::Layout;
+use std::marker::{Model, PhantomData};
+
+/// A room with a body behind the place of a header that isn't made yet. Contracts see the layout and the body.
+#[derive(Drop)]
+pub struct Filled<K: UnitKind> {
+    pub(crate) layout: Layout,
+    pub(crate) count: usize,
+    pub(crate) bytes: Vec<u8>,
+    pub(crate) kind: PhantomData<K>,
+}
+
+impl<K: UnitKind> Model for Filled<K> {
+    ghost use Rattle.df_buffers.specs.Fillings.{Filling, filling_of, IsFilled};
+
+    ghost Value = { Filling };
+
+    ghost view = { λ s. filling_of s.layout s.count s.bytes.items };
+
+    ghost invariant = { λ s. IsFilled K.ZONE s.layout s.count s.bytes.items };
+}
+
+// Copies a body behind the place of a header.
+fn put_body(bytes: &mut [u8], body: &[u8])
+    requires { 256 + length body.now ≤ length bytes.old }
+    ensures body { take (length body.now) (drop 256 bytes.new) ≡ body.now }
+    ensures size { length bytes.new ≡ length bytes.old }
+{
+    bytes[HEADER..HEADER + body.len()].copy_from_slice(body);
+}
+
+impl<K: UnitKind> Raw<K> {
+    /// Puts a body into the room, behind the place of its header.
+    pub fn fill(self, body: &[u8]) -> Filled<K>
+        requires { 256 + length body.now ≤ greatest_size self.layout K.ZONE }
+        ensures { result ≡ record { layout = self.layout; body = body.now } }
+    {
+        let Raw {
+            layout,
+            mut bytes,
+            kind,
+        } = self;
+        put_body(&mut bytes, body);
+        Filled {
+            layout,
+            count: body.len(),
+            bytes,
+            kind,
+        }
+    }
+}
+
+impl<K: UnitKind> Filled<K> {
+    /// How many bytes the body has.
+    pub fn len(&self) -> usize
+        ensures { result ≡ length self.now.body }
+    {
+        self.count
+    }
+
+    /// Makes a unit of a header and the body that is in the room: it sets the header's size and checksums from the body, writes the
+    /// header before it, and zeros behind it up to the last whole sector.
+    pub fn seal(self, header: Header) -> Sound<K>
+        requires rules { ObeysRules (for_body header self.body) }
+        requires kind { header.kind ≡ K.KIND }
+        requires own { IsSome (own_place self.layout K.ZONE header) }
+        ensures unit { result.unit ≡ record { header = sealed (for_body header self.body); body = self.body } }
+        ensures valid { MadeIsUnit result.unit }
+        ensures sectors { take (sectors_end (256 + length self.body)) result.bytes ≡ sectors_of result.unit }
+        ensures layout { result.layout ≡ self.layout }
+    {
+        let Filled {
+            layout,
+            count,
+            mut bytes,
+            kind,
+        } = self;
+        let made = seal_unit(header, count, &mut bytes);
+        Sound {
+            layout,
+            header: made.header,
+            bytes,
+            kind,
+        }
+    }
+
+    /// The room with its bytes as they are.
+    pub fn loosen(self) -> Raw<K>
+        ensures { result.layout ≡ self.layout }
+    {
+        let Filled {
+            layout,
+            count: _,
+            bytes,
+            kind,
+        } = self;
+        Raw {
+            layout,
+            bytes,
+            kind,
+        }
+    }
+}

@@ -1,0 +1,100 @@
+-- A request that is staged.
+use Rattle.std.proofs.Common.{◌≡◌, ℕ, ◌+◌, ◌<◌, List, [], ◌∷◌, ◌++◌, length, None, refl, sym, subst, arith, length-append}
+use Rattle.std.specs.Prelude.{◌^◌}
+use Rattle.df_theory.specs.Units.{Message, Parts, Session}
+use Rattle.df_theory.specs.Sessions.{MayAsk, noted, sessions_after}
+use Rattle.df_theory.specs.Shape.{Shape}
+use Rattle.df_theory.specs.View.{View, head, sessions}
+use Rattle.df_model.specs.Work.{Request, Work}
+use Rattle.df_model.specs.Codec.{AreLawful}
+use Rattle.df_model.specs.Memory.{Memory, memory_of}
+use Rattle.df_model.specs.Making.{group_of, prepare_in, prepares_in}
+use Rattle.df_model.specs.Refusals.{counted, first_refusal, session_of_client, stage_refusals}
+use Rattle.df_model.specs.After.{with_staged}
+use Rattle.df_model.specs.Sense.{AreStaged, IsWork}
+use Rattle.df_model.proofs.Appends.{IsAllowed, allowed, allowed_asks, some_request}
+use Rattle.df_model.proofs.Groups.{alike_sessions, ask_on, asks_more, length_in, sessions_more, staged_on}
+use Rattle.df_model.proofs.Knows.{one_fewer, stage_knows}
+use Rattle.df_model.proofs.Sessions.{noted_lawful}
+
+-- ---- a request is staged
+
+module _ (sh : Shape) (spell : Parts → List ℕ) (w : Work) (client request : ℕ) (body : List ℕ) (work : IsWork sh spell w) (none : first_refusal (stage_refusals (memory_of sh spell w) client request body) ≡ None) where
+  abbrev v : View
+  v = w.view
+
+  abbrev m : Memory
+  m = memory_of sh spell w
+
+  abbrev r : Request
+  r = record { client = client; request = request; body = body }
+
+  abbrev u : Work
+  u = with_staged w r
+
+  abbrev n : Memory
+  n = memory_of sh spell u
+
+  abbrev many : ℕ
+  many = length (w.staged ++ r ∷ [])
+
+  -- those that are staged already, with the numbers of the longer group
+  abbrev ps : List Message
+  ps = prepares_in n (head v + 1) (head v + many) (head v + 1) n.head_checksum w.staged []
+
+  abbrev counts : List Session
+  counts = sessions_after (sessions v) (group_of m [])
+
+  is : IsAllowed (counted m) client request (session_of_client client counts)
+  is = allowed (counted m) client request body none
+
+  longer : many ≡ length w.staged + 1
+  longer = length-append w.staged (r ∷ [])
+
+  before : AreStaged sh v ps
+  before = staged_on sh v v m n (head v + 1) (head v + length w.staged) (head v + 1) (head v + many) (head v + 1) (head v + 1) m.head_checksum n.head_checksum w.staged [] [] refl (omega arith) (omega arith) refl (omega arith) refl work.staged
+
+  same : counts ≡ sessions_after (sessions v) ps
+  same = alike_sessions m n (head v + 1) (head v + length w.staged) (head v + 1) (head v + many) (head v + 1) (head v + 1) m.head_checksum n.head_checksum w.staged [] [] (sessions v) refl
+
+  abbrev q : ℕ → Message
+  q op = prepare_in n (head v + 1) (head v + many) op 0 0 r
+
+  asks : MayAsk sh.layout.clients (q (head v + 1 + length w.staged)).header (sessions_after (sessions v) ps)
+  asks = subst (MayAsk sh.layout.clients (q (head v + 1 + length w.staged)).header) same (allowed_asks (counted m) (q (head v + 1 + length w.staged)).header body work.staged.sessions.few (omega arith) is)
+
+  lawful : client < 2 ^ 128 → AreLawful sh.layout.clients (noted (q (head v + 1 + length w.staged)).header (sessions_after (sessions v) ps))
+  lawful fits = noted_lawful sh.layout.clients (q (head v + 1 + length w.staged)).header (sessions_after (sessions v) ps) before.sessions asks (record {
+    client = ((let named = is.named in omega arith), fits);
+    request = (omega (arith, is.next, some_request (session_of_client client counts)), is.request_to);
+    op = (omega arith, omega (arith, is.op, before.unspent, length_in n (head v + 1) (head v + many) (head v + 1) n.head_checksum w.staged []));
+  })
+
+  staged : client < 2 ^ 128 → AreStaged sh v (group_of n [])
+  staged fits =
+      let long = length_in n (head v + 1) (head v + many) (head v + 1) n.head_checksum w.staged [] in
+      let all = length_in n (head v + 1) (head v + many) (head v + 1) n.head_checksum (w.staged ++ r ∷ []) [] in
+      record {
+        room = omega (arith, is.room, all, longer);
+        pipeline = omega (arith, is.pipeline, before.pipeline, long, all, longer);
+        unspent = omega (arith, is.op, before.unspent, long, all, longer);
+        asks = asks_more n (head v + 1) (head v + many) sh.layout.clients (head v + 1) n.head_checksum w.staged r [] (sessions v) before.asks
+            (ask_on sh.layout.clients (q (head v + 1 + length w.staged)).header (q 0).header (sessions_after (sessions v) ps) refl refl (omega arith) asks);
+        sessions = subst (AreLawful sh.layout.clients) (sym (sessions_more n (head v + 1) (head v + many) (head v + 1) n.head_checksum (head v + 1 + length w.staged) w.staged r [] (sessions v) refl)) (lawful fits);
+      }
+
+  pub stage_keeps : client < 2 ^ 128 → IsWork sh spell u
+  stage_keeps fits = record {
+    codec = work.codec;
+    version = work.version;
+    view = work.view;
+    sessions = work.sessions;
+    grid = work.grid;
+    waiting = work.waiting;
+    staged = staged fits;
+    running = work.running;
+    one = one_fewer w u (stage_knows w r) work.one;
+    sums = work.sums;
+    few = work.few;
+    clear = work.clear;
+  }

@@ -1,0 +1,37 @@
+-- What the maker says obeys the rules of a prepare, with any body that fits.
+use Rattle.std.proofs.Common.{ℕ, ◌^◌, ◌<◌, ◌≤◌, ◌%◌, [], sym, subst, arith, rules, refl}
+use Rattle.std.proofs.Math.Nat.{mod-lt}
+use Rattle.df_format.specs.declared.header.Header.{Header}
+use Rattle.df_format.specs.declared.kind.Kind.TheVariants.{Prepare as AsPrepare}
+use Rattle.df_format.specs.Making.{for_body}
+use Rattle.df_format.specs.Rules.{ObeysRules}
+use Rattle.df_format.proofs.Laws.{given_obeys, of_second}
+use Rattle.df_replica.specs.Flushing.{header_in, request_of}
+use Rattle.df_replica.proofs.flush.header_in.Goals as goal
+
+small_slot : (op slots : ℕ) → 0 < slots → slots ≤ 1024 → op % slots < 2 ^ 32
+small_slot op slots some few = omega (arith, mod-lt op some, few)
+
+pub returns-clause-value : goal.returns-clause-value
+returns-clause-value c = search rules
+
+pub returns-clause-rules : goal.returns-clause-rules
+returns-clause-rules c = λ body fits.
+    let g = c.args.group.now in
+    let may = c.requires.may in
+    let h : Header = header_in g c.args.op c.args.parent (request_of c.args.client c.args.request []) in
+    subst (λ (x : Header). ObeysRules (for_body x body)) (sym (returns-clause-value c))
+    (given_obeys g.file.cluster (g.file.named, may.group.cluster) h body AsPrepare
+    (of_second AsPrepare h refl may.group.boot (record { begins = (omega (arith, may.group.mark), may.from); ends = (c.requires.last, omega (arith, may.group.few, may.from)) })) (
+      record {
+        parent = may.parent_is;
+        first = may.first;
+        client = (c.requires.client, c.ranges.client.fits);
+        op = (omega (arith, may.from, may.group.mark), omega (arith, c.requires.last, may.group.unspent));
+        request = c.requires.request;
+        mark = omega (arith, may.group.mark, may.from);
+        checkpoint = may.group.sequence;
+        slot = small_slot c.args.op g.file.layout.slots (omega (arith, g.file.layout.slots_within.0)) (omega (arith, g.file.layout.slots_within.1));
+      },
+      omega (arith, fits, g.file.layout.message_size_within.1),
+    ))

@@ -1,0 +1,47 @@
+-- How a run ends where nothing fails, over a file that may be opened and has a table that the opening finds.
+use Rattle.std.specs.Prelude.{◌≡◌, ◌⊎◌, ◌<◌, ◌^◌, ℕ, List, [], Option, Some}
+use Rattle.df_disk.specs.Told.{Told}
+use Rattle.df_layout.specs.declared.layout.Layout.{Layout}
+use Rattle.df_theory.specs.View.{View, boot_of}
+use Rattle.df_lines.specs.Room.{line_bound}
+use Rattle.df_rows.specs.Grammar.{Said}
+use Rattle.df_rows.specs.Script.{Begins}
+use Rattle.df_rows.specs.Tables.{Table}
+use Rattle.df_session.specs.Below.{DataFile, State as Replica}
+use Rattle.df_session.specs.Following.{MayOpen}
+use Rattle.df_table.specs.declared.ending.Ending.{Ending}
+use Rattle.df_table.specs.declared.ending.Ending.TheVariants.{OpsSpent, SequenceSpent}
+use Rattle.df_table.specs.declared.status.Status.{Status}
+use Rattle.df_table.specs.declared.status.Status.TheVariants.{Done, Memory}
+use Rattle.df_table.specs.Laws.{FindsIn}
+use Rattle.df_table.specs.Outside.{Faults, HasCauses, NoneFailed, Outside}
+use Rattle.df_table.specs.Run.{Runs}
+use Rattle.df_table.specs.Session.{Halt, ServesLines, script_budget}
+
+-- each line of the text is one of a table's script, within the bound of a layout and the budget
+pub record IsWhole (layout : Layout) (text : List ℕ) : Type 0 where
+  pub lines : List Said
+  pub left : ℕ
+  pub begins : Begins (line_bound layout) script_budget text lines left []
+
+-- no op, or no sequence, is left
+abbrev pub IsSpent : Ending → Type 0
+IsSpent OpsSpent = Unit {0}
+IsSpent SequenceSpent = Unit {0}
+IsSpent ending = ⊥
+
+-- from this table on lines were executed, until one for which no op, or no sequence, is left
+pub record EndsSpent (layout : Layout) (table : Table) (old new : Outside) (status : Status) : Type 0 where
+  pub replica : Replica
+  pub mid : Option Told
+  pub lines : ServesLines layout table replica mid old new status
+  pub halt : Halt
+  pub is : lines.halt ≡ Some halt
+  pub spent : IsSpent halt.ending
+
+-- Over a file that may be opened, while boots are left, with a table that the opening finds and a script that is whole: where nothing failed all of it was executed, or memory was wanting, or
+-- ops or sequences are spent.
+abbrev pub SafeIsRun : Type 0
+SafeIsRun =
+    (file : DataFile) (view : View) (table : Table) (t : Told) (text : List ℕ) (old new : Outside) (before now : Faults) (status : Status) → MayOpen file view t → boot_of view < 2 ^ 62 → FindsIn file t view table → old.told ≡ Some t → old.left ≡ Some text → IsWhole file.layout text
+    → HasCauses before now status → NoneFailed before now → Runs old new status → (status ≡ Done) ⊎ (status ≡ Memory) ⊎ EndsSpent file.layout table old new status
