@@ -7,7 +7,7 @@ ghost use Rattle.df_format.specs.Making.{for_body};
 use crate::room_examples::{header_of, identity_at};
 use df_buffers::{Block, Prepare, Raw, Reply, Trailer, UnitKind, Wanted};
 use df_format::{Header, Kind, own_place};
-use df_layout::Layout;
+use df_layout::{Layout, Zone};
 
 // Whether a sector holds the body behind a header, and zeros up to its end.
 fn is_padded(sectors: &[u8], body: &[u8]) -> bool {
@@ -51,6 +51,36 @@ fn is_made_at<K: UnitKind>(
     }
 }
 
+// Whether a unit whose body waits for its header in a room is the one that is made in another room, byte for byte. The room had another
+// body before.
+fn is_sealed_as_made(
+    used: Raw<Prepare>,
+    room: Raw<Prepare>,
+    layout: Layout,
+    header: Header,
+    body: &[u8],
+    before: &[u8],
+) -> bool
+    requires used { used.layout ≡ layout }
+    requires layout { room.layout ≡ layout }
+    requires rules { ObeysRules (for_body header body.now) }
+    requires kind { header.kind ≡ Kind.Prepare }
+    requires fits { 256 + length body.now ≤ greatest_size layout Zone.WalPrepares }
+    requires before { 256 + length before.now ≤ greatest_size layout Zone.WalPrepares }
+{
+    let Some(_) = own_place(&layout, Zone::WalPrepares, &header) else {
+        return false;
+    };
+    let filled = used.fill(before).loosen().fill(body);
+    let length = filled.len();
+    let sealed = filled.seal(header);
+    let made = room.make(header, body);
+    length == body.len()
+        && sealed.body() == body
+        && sealed.header() == made.header()
+        && sealed.sectors() == made.sectors()
+}
+
 #[test]
 fn makes_and_proves_units_of_each_kind(rt: HostRuntime) {
     let layout = Layout::small();
@@ -71,4 +101,14 @@ fn makes_and_proves_units_of_each_kind(rt: HostRuntime) {
     );
     let room = Raw::<Trailer>::reserve(alloc, &layout).expect(&rt, "memory of a trailer block");
     assert!(rt; is_made_at(room, layout, header_of(Kind::Trailer, b"a"), b"a", 9));
+}
+
+#[test]
+fn a_body_that_waits_for_its_header_is_sealed_as_made(rt: HostRuntime) {
+    let layout = Layout::small();
+    let alloc = rt.alloc();
+    let used = Raw::<Prepare>::reserve(alloc, &layout).expect(&rt, "memory of a prepare");
+    let room = Raw::<Prepare>::reserve(alloc, &layout).expect(&rt, "memory of another prepare");
+    let header = header_of(Kind::Prepare, b"abc");
+    assert!(rt; is_sealed_as_made(used, room, layout, header, b"abc", b"a longer body"));
 }
