@@ -1,5 +1,0 @@
-pub mod Finds
-pub mod Making
-pub mod Bodies
-pub mod Probes
-pub mod Laws

@@ -1,8 +1,0 @@
-use Rattle.std.proofs.Common.{List, ℕ, take, ap, ◌∙◌}
-use Rattle.std.specs.Str.{bytes_eq}
-use Rattle.std.proofs.lemmas.List.{take_rest}
-use Rattle.df_base.specs.Fields.{check_of}
-use Rattle.df_format.proofs.super_codec.has_checksum.Goals as goal
-
-pub returns : goal.returns
-returns c = c.eq.ensures ∙ ap (λ (l : List ℕ). bytes_eq (take 16 c.args.bytes.now) l) (c.as_slice.ensures ∙ c.check.ensures ∙ ap check_of (take_rest c.args.bytes.now 32))

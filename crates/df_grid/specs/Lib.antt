@@ -1,7 +1,0 @@
-pub mod Entries
-pub mod Table
-pub mod Grid
-pub mod Reads
-pub mod Writes
-pub mod Laws
-pub mod Below

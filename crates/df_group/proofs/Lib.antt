@@ -1,7 +1,0 @@
-pub mod Asks
-pub mod Cutting
-pub mod Fronts
-pub mod Grouping
-pub mod Heads
-pub mod Walks
-pub mod Laws

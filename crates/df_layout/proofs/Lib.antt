@@ -1,5 +1,0 @@
-pub mod Same
-pub mod Sizes
-pub mod Spans
-pub mod Zones
-pub mod Laws

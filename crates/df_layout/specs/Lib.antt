@@ -1,4 +1,0 @@
-pub mod Limits
-pub mod Order
-pub mod Spans
-pub mod Zones

@@ -1,8 +1,0 @@
--- The events behind the index gave the sector nothing.
-use Rattle.std.proofs.Common.{◌≡◌, take}
-use Rattle.df_memdisk.specs.History.{events_of}
-use Rattle.df_memdisk.specs.Newest.{newest_of}
-use Rattle.df_memdisk.proofs.history.newest_bytes.Given as goal
-
-abbrev pub invariant-loop-index : goal.invariant-loop-index
-invariant-loop-index l = newest_of (events_of (take l.index l.past)) l.sector ≡ newest_of (events_of l.past) l.sector

@@ -1,4 +1,0 @@
-pub mod Loop
-pub mod Beats
-pub mod Laws
-pub mod Worked

@@ -1,4 +1,0 @@
-pub mod Rooms
-pub mod Shelves
-pub mod Steps
-pub mod Laws

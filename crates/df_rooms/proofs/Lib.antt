@@ -1,5 +1,0 @@
-pub mod Laws
-mod SameFile
-mod Records
-mod Stagings
-mod Asking

@@ -1,7 +1,0 @@
--- The fields are those of the row.
-use Rattle.std.proofs.Common.{ap, subst, ◌∙◌}
-use Rattle.df_rows.specs.Rows.{Entry, IsEntry}
-use Rattle.df_rows.proofs.row.Row.value.Goals as goal
-
-pub returns : goal.returns
-returns c = record { value = c.as_slice.ensures.value ∙ ap (λ (e : Entry). e.1) c.self.view_is; fits = subst IsEntry c.self.view_is c.self.invariant }

@@ -1,4 +1,0 @@
-pub mod Filled
-pub mod Fills
-pub mod Printed
-pub mod Worked

@@ -1,4 +1,0 @@
-pub mod Scrubber
-pub mod Machine
-pub mod Tours
-pub mod Below

@@ -1,2 +1,0 @@
--- What the proofs above cite of this crate's: where a client's session is found.
-pub use Rattle.df_sessions.proofs.Places.{IsFirst, first_place}

@@ -1,8 +1,0 @@
--- How far a checkpoint's trailer is written, for the tests.
-use Rattle.std.specs.Prelude.{◌≡◌, ℕ, length}
-use Rattle.df_model.specs.Blocks.{Blocks}
-
--- so many blocks are written, and so many are still to come
-pub record IsLeft (written left : ℕ) (b : Blocks) : Type 0 where
-  pub done : length b.written ≡ written
-  pub more : length b.left ≡ left

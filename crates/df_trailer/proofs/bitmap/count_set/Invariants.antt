@@ -1,7 +1,0 @@
-use Rattle.std.proofs.Common.{◌≡◌, ◌≤◌, ◌+◌, ◌/◌}
-use Rattle.df_trailer.specs.Rooms.{bits_in_words}
-use Rattle.df_trailer.specs.Text.{bits_of, ones}
-use Rattle.df_trailer.proofs.bitmap.count_set.Given as goal
-
-abbrev pub invariant-loop-place : goal.invariant-loop-place
-invariant-loop-place l = (l.count ≡ ones (bits_of l.place (bits_in_words ((l.blocks + 7) / 8) l.words))) × (l.count ≤ l.place)

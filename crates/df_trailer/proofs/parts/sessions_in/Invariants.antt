@@ -1,8 +1,0 @@
-use Rattle.std.proofs.Common.{◌≡◌, map}
-use Rattle.arrayvec.specs.ArrayVec.{array_vec_len}
-use Rattle.df_trailer.specs.Rooms.{without_reply}
-use Rattle.df_trailer.specs.Text.{read_sessions}
-use Rattle.df_trailer.proofs.parts.sessions_in.Given as goal
-
-abbrev pub invariant-loop-place : goal.invariant-loop-place
-invariant-loop-place l = (array_vec_len l.sessions ≡ l.place) × (l.sessions.items ≡ map without_reply (read_sessions l.place l.from l.head))

@@ -1,9 +1,0 @@
-use Rattle.std.proofs.Common.{◌∙◌, Option, ap}
-use Rattle.df_trailer.specs.declared.fault.Failing.{Failing}
-use Rattle.df_trailer.specs.Text.{answer, fault_in}
-use Rattle.df_trailer.proofs.Fed.{fails_as_read}
-use Rattle.df_trailer.proofs.reader.Reader.end.Goals as goal
-
-pub returns-clause-fault : goal.returns-clause-fault
-returns-clause-fault c = λ layout op text read.
-    c.fault_of.ensures ∙ ap (λ (o : Option Failing). answer (fault_in o)) (c.failing.ensures ∙ fails_as_read layout op text c.args.self.now read)

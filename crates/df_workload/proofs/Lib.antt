@@ -1,5 +1,0 @@
-pub mod Going
-pub mod Nearing
-pub mod Running
-pub mod Laws
-pub mod Worked
