@@ -1,8 +1,8 @@
 use Rattle.std.proofs.Common.{◌∙◌, lit<}
 use Rattle.std.specs.Prelude.{decimal, None, Some}
 use Rattle.std.proofs.lemmas.Str.Pattern.{split_after}
-use Rattle.df_top.proofs.Commas.{no_comma}
-use Rattle.df_top.proofs.mode.number_before_comma.Goals as goal
+use Rattle.df_words.proofs.Commas.{no_comma}
+use Rattle.df_words.proofs.layout.number_before_comma.Goals as goal
 
 pub returns-in_err-digits-clause-none : goal.returns-in_err-digits-clause-none
 returns-in_err-digits-clause-none c =

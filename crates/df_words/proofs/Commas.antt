@@ -8,7 +8,7 @@ use Rattle.std.proofs.lemmas.Fmt.{decimal_is_IsNumeral, decimal_injective}
 use Rattle.df_layout.specs.declared.layout.Layout.{Layout}
 use Rattle.df_layout.specs.declared.fields.Field.{Field}
 use Rattle.df_layout.specs.Limits.{AreWithin}
-use Rattle.df_top.specs.Mode.{numbers_of}
+use Rattle.df_words.specs.Names.{numbers_of}
 
 are_digits : (n : ℕ) → n < 2 ^ 32 → AllDigits 10 (decimal n)
 are_digits n fits = (decimal_is_IsNumeral n (omega arith)).0.1
@@ -84,8 +84,44 @@ past_clients text rest n l cuts is = behind text rest (from_block_size l) n l.cl
 pub past_block_size : (text rest : List ℕ) (n : ℕ) (l : Layout) → Cuts text n rest → text ≡ from_block_size l → (n ≡ l.block_size) × (rest ≡ from_blocks l)
 past_block_size text rest n l cuts is = behind text rest (from_blocks l) n l.block_size cuts.fits (fit l).block_size cuts.is is
 
-pub no_blocks : (text word : List ℕ) (l : Layout) → ((n : ℕ) → n < 2 ^ 32 → word ≡ decimal n → ⊥) → word ≡ text → text ≡ from_blocks l → ⊥
-no_blocks text word l none is blocks = none l.blocks (fit l).blocks (is ∙ blocks)
+-- ---- a text in which a number is missing is no layout's
+
+-- the text isn't what is left of a layout's numbers from one of them on
+abbrev pub IsNone : (from : Layout → List ℕ) → List ℕ → Type 0
+IsNone from text = (l : Layout) → text ≡ from l → ⊥
+
+-- no number stands before a comma
+abbrev pub NoNumber : List ℕ → Type 0
+NoNumber text = (n : ℕ) (rest : List ℕ) → n < 2 ^ 32 → text ≡ decimal n ++ (44 ∷ rest) → ⊥
+
+pub no_slots : (text : List ℕ) → NoNumber text → IsNone numbers_of text
+unfolding numbers_of
+no_slots text none l is = none l.slots (from_message_size l) (fit l).slots is
+
+pub no_message_size : (text : List ℕ) → NoNumber text → IsNone from_message_size text
+no_message_size text none l is = none l.message_size (from_clients l) (fit l).message_size is
+
+pub no_clients : (text : List ℕ) → NoNumber text → IsNone from_clients text
+no_clients text none l is = none l.clients (from_block_size l) (fit l).clients is
+
+pub no_block_size : (text : List ℕ) → NoNumber text → IsNone from_block_size text
+no_block_size text none l is = none l.block_size (from_blocks l) (fit l).block_size is
+
+pub no_blocks : (text word : List ℕ) → ((n : ℕ) → n < 2 ^ 32 → word ≡ decimal n → ⊥) → word ≡ text → IsNone from_blocks text
+no_blocks text word none is l blocks = none l.blocks (fit l).blocks (is ∙ blocks)
+
+-- nor is one whose rest isn't
+pub behind_slots : (text rest : List ℕ) (n : ℕ) → Cuts text n rest → IsNone from_message_size rest → IsNone numbers_of text
+behind_slots text rest n cuts none l is = none l (past_slots text rest n l cuts is).1
+
+pub behind_message_size : (text rest : List ℕ) (n : ℕ) → Cuts text n rest → IsNone from_clients rest → IsNone from_message_size text
+behind_message_size text rest n cuts none l is = none l (past_message_size text rest n l cuts is).1
+
+pub behind_clients : (text rest : List ℕ) (n : ℕ) → Cuts text n rest → IsNone from_block_size rest → IsNone from_clients text
+behind_clients text rest n cuts none l is = none l (past_clients text rest n l cuts is).1
+
+pub behind_block_size : (text rest : List ℕ) (n : ℕ) → Cuts text n rest → IsNone from_blocks rest → IsNone from_block_size text
+behind_block_size text rest n cuts none l is = none l (past_block_size text rest n l cuts is).1
 
 -- The text was cut at four commas, and the last number ends it.
 pub record Five (text : List ℕ) (a b c d e : ℕ) : Type 0 where
