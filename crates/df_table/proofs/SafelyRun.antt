@@ -9,7 +9,7 @@ use Rattle.df_theory.specs.View.{View, boot_of}
 use Rattle.df_lines.specs.Room.{line_bound}
 use Rattle.df_lines.specs.Text.{after_line, line_of, taken}
 use Rattle.df_rows.specs.Grammar.{Count, Drop, Get, Put, Said, Says}
-use Rattle.df_rows.specs.Script.{Begins, IsRefused}
+use Rattle.df_lines.specs.Lines.{Begins, IsRefused}
 use Rattle.df_rows.specs.Tables.{Table}
 use Rattle.df_session.specs.Below.{DataFile, IsNotRefused, State as Replica, memory}
 use Rattle.df_session.specs.Following.{MayOpen}
@@ -38,10 +38,10 @@ says_some (Drop key) text none says = let no : Says [] (Drop key) = subst (λ (l
 says_some (Get key) text none says = let no : Says [] (Get key) = subst (λ (l : List ℕ). Says (line_of l) (Get key)) none says in cc (no.is)
 says_some Count text none says = let no : Says [] Count = subst (λ (l : List ℕ). Says (line_of l) Count) none says in cc (no.is)
 
-whole_uncut : (bound budget : ℕ) (text rest : List ℕ) (all asked : List Said) (spare left : ℕ) → Begins bound budget text all spare [] → Begins bound budget text asked left rest → IsRefused bound left rest → ⊥
+whole_uncut : (bound budget : ℕ) (text rest : List ℕ) (all asked : List Said) (spare left : ℕ) → Begins Says bound budget text all spare [] → Begins Says bound budget text asked left rest → IsRefused Says bound left rest → ⊥
 whole_uncut bound budget text rest [] [] spare left whole begins refused = refused.some (begins.1 ∙ sym whole.1)
 whole_uncut bound budget text rest (a ∷ all) [] spare left whole begins refused =
-    let no : IsRefused bound budget text = subst (λ (n : ℕ). IsRefused bound n text) begins.0 (subst (λ (l : List ℕ). IsRefused bound left l) begins.1 refused) in no.none a whole.0
+    let no : IsRefused Says bound budget text = subst (λ (n : ℕ). IsRefused Says bound n text) begins.0 (subst (λ (l : List ℕ). IsRefused Says bound left l) begins.1 refused) in no.none a whole.0
 whole_uncut bound budget text rest [] (b ∷ asked) spare left whole begins refused = says_some b text (sym whole.1) begins.0.says
 whole_uncut bound budget text rest (a ∷ all) (b ∷ asked) spare left whole begins refused = whole_uncut bound (budget - taken text) (after_line text) rest all asked spare left whole.1 begins.1 refused
 

@@ -12,7 +12,8 @@ use df_base::{OutOfMemory, Sink, Source};
 use df_buffers::ProbeRoom;
 use df_disk::Disk;
 use df_layout::Layout;
-use df_rows::{ObjectTable, ROW, ScriptRoom, rows_in_block};
+use df_lines::LineRoom;
+use df_rows::{ObjectTable, ROW, rows_in_block};
 use df_session::{Rooms, probe};
 use std::alloc::Global;
 
@@ -54,7 +55,7 @@ fn reserve(alloc: Global, layout: &Layout) -> Result<Reserved, OutOfMemory>
     ensures table { IfOk result (λ reserved. reserved.table ≡ empty_table layout.now) }
     ensures block { IfOk result (λ reserved. 64 * limits.rows_in_block layout.now ≤ vec_len reserved.block) }
 {
-    let lines = ScriptRoom::reserve(alloc, layout)?;
+    let lines = LineRoom::reserve(alloc, layout)?;
     let table = ObjectTable::reserve(alloc, layout)?;
     let size = rows_in_block(layout) as usize * ROW;
     let block = vec![in alloc; 0; size]?;

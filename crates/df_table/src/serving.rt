@@ -20,7 +20,8 @@ use df_base::{Sink, Source};
 use df_disk::Disk;
 use df_inspect::print_open_refusal;
 use df_layout::Layout;
-use df_rows::{ObjectTable, ScriptRoom};
+use df_lines::LineRoom;
+use df_rows::ObjectTable;
 use df_session::{OpenError, Replica, Rooms};
 
 /// The memory of a session over a file.
@@ -31,7 +32,7 @@ pub(crate) struct Reserved {
     /// The table's, which is empty.
     pub table: ObjectTable,
     /// The script's.
-    pub lines: ScriptRoom,
+    pub lines: LineRoom,
     /// A block's.
     pub block: Vec<u8>,
 }
@@ -41,7 +42,7 @@ pub(crate) struct Reserved {
 struct Opening {
     layout: Layout,
     table: ObjectTable,
-    lines: ScriptRoom,
+    lines: LineRoom,
     block: Vec<u8>,
 }
 

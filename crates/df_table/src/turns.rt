@@ -17,7 +17,8 @@ use crate::status::Status;
 use df_base::{Failed, Sink, Source};
 use df_disk::Disk;
 use df_inspect::print_script;
-use df_rows::{Answer, Command, Line, Next, Refusal, Row, print_answer};
+use df_lines::Next;
+use df_rows::{Answer, Command, Line, Refusal, Row, print_answer};
 
 /// What became of a session by one turn.
 #[derive(Clone, Copy, Debug, PartialEq, Eq)]
@@ -63,7 +64,7 @@ fn put<D: Disk, W: Sink>(
     ensures disk { BlamesIfEnds Status.DiskFault (D.faults disk.old) (D.faults disk.new) result }
     ensures sink { BlamesIfEnds Status.WriteFault (W.faults sink.old) (W.faults sink.new) result }
 {
-    let row = Row::new(key, session.lines.value(size));
+    let row = Row::new(key, session.lines.body(size));
     match change(disk, session, Command::Put(row)) {
         Ok(op) => printed(print_answer(sink, &Answer::Put { op })),
         Err(ending) => Turn::Ends(tell_ending(sink, ending)),

@@ -1,7 +1,7 @@
 -- What one line does to a session: it goes on with the call that the line asks for, or ends.
 use Rattle.std.proofs.Common.{◌≡◌, ◌⊎◌, ◌<◌, inl, inr, true, ℕ, ◌+◌, List, ◌++◌, length, Option, Some, ◌∙◌, ap, subst}
 use Rattle.df_lines.specs.declared.line.Line.{Line}
-use Rattle.df_lines.specs.Grammar.{Said, said_with}
+use Rattle.df_lines.specs.Grammar.{Said, Says, said_with}
 use Rattle.df_lines.specs.Reads.{RefusesNext, TakesLine}
 use Rattle.df_lines.specs.Room.{Room, Tells}
 use Rattle.df_lines.specs.Script.{IsRefused}
@@ -34,16 +34,16 @@ ends_refused pace bound old new same one idle refused holds status wrote = absur
 
 -- what the reader refuses is refused
 pub refused_next : (outside : Outside) (left : Option (List ℕ)) (old : Session) (room : Room) → EndedIsEnd old outside.left
-    → ((text : List ℕ) → Tells old.lines outside.left text → RefusesNext old.lines.reading room.reading text (unread room.reading.held left))
+    → ((text : List ℕ) → Tells old.lines outside.left text → RefusesNext Says old.lines.reading room.reading text (unread room.reading.held left))
     → (text : List ℕ) → (state outside old).text ≡ Some text → IsRefused old.lines.reading.bound old.lines.reading.budget text
 refused_next outside left old room ended gives text is = (gives text (record { is = is; ended = ended })).refuses
 
 -- and the reader holds it, or more of it than the bound
 pub held_next : (outside : Outside) (left : Option (List ℕ)) (old : Session) (room : Room) → EndedIsEnd old outside.left → room.reading.bound ≡ old.lines.reading.bound
-    → ((text : List ℕ) → Tells old.lines outside.left text → RefusesNext old.lines.reading room.reading text (unread room.reading.held left))
+    → ((text : List ℕ) → Tells old.lines outside.left text → RefusesNext Says old.lines.reading room.reading text (unread room.reading.held left))
     → (text : List ℕ) → (state outside old).text ≡ Some text → (remains : List ℕ) → left ≡ Some remains → HoldsLine old.lines.reading.bound text remains
 held_next outside left old room ended bound gives text is remains has =
-    let refuses : RefusesNext old.lines.reading room.reading text (unread room.reading.held left) = gives text (record { is = is; ended = ended }) in
+    let refuses : RefusesNext Says old.lines.reading room.reading text (unread room.reading.held left) = gives text (record { is = is; ended = ended }) in
     let whole : Some (room.reading.held ++ remains) ≡ Some text = subst (λ (o : Option (List ℕ)). unread room.reading.held o ≡ Some text) has refuses.rest in
     record {
       held = room.reading.held;
@@ -54,7 +54,7 @@ held_next outside left old room ended bound gives text is remains has =
 -- ---- a line was taken
 
 module _ (before after : Outside) (old : Session) (room : Room) (line : Line) (ended : EndedIsEnd old before.left)
-    (gives : (text : List ℕ) → Tells old.lines before.left text → TakesLine old.lines.reading room.reading text (unread room.reading.held after.left) (said_with room.body line)) where
+    (gives : (text : List ℕ) → Tells old.lines before.left text → TakesLine Says old.lines.reading room.reading text (unread room.reading.held after.left) (said_with room.body line)) where
   abbrev said : Said
   said = said_with room.body line
 
