@@ -15,14 +15,14 @@ use Rattle.df_top.specs.Lines.{ByLine, command_of}
 use Rattle.df_top.specs.Outside.{Outside}
 use Rattle.df_top.specs.Pacing.{IsIdle, IsNext, runs}
 use Rattle.df_top.specs.Session.{EndedIsEnd, HoldsLine, State, state}
-use Rattle.df_top.specs.Step.{Answers, EndsIn, GoesOn as GoesOnBy, RefusesLine, Takes, Turns}
+use Rattle.df_top.specs.Step.{Answers, EndsIn, RefusesLine, Takes, Turns}
 use Rattle.df_top.specs.Turning.{OnGoing}
 use Rattle.df_top.specs.declared.session.Session.{Session}
 use Rattle.df_top.specs.declared.turns.Turn.{Turn}
 use Rattle.df_top.specs.declared.turns.Turn.TheVariants.{GoesOn, Ends}
 use Rattle.df_top.specs.declared.status.Status.{Status}
 use Rattle.df_top.specs.declared.status.Status.TheVariants.{Done, Found, Words, Script, Refused, DiskFault, ReadFault, WriteFault, Memory}
-use Rattle.df_top.proofs.Progress.{ends_answer, ends_damaged, ends_damaged_fault, ends_disk, ends_script, ends_script_fault, goes_on, on_ends, on_more}
+use Rattle.df_top.proofs.Progress.{ends_answer, ends_damaged, ends_damaged_fault, ends_disk, ends_script, ends_script_fault, goes_on}
 
 -- the line that refuses the next line ends the session
 pub ends_refused : (pace : Pace) (bound : ℕ) (old new : State) → new.outside.told ≡ old.outside.told → new.replica ≡ old.replica → IsIdle old.beat old.replica → ((rest : List ℕ) → old.text ≡ Some rest → IsRefused bound old.budget rest)
@@ -87,12 +87,6 @@ module _ (before after : Outside) (old : Session) (room : Room) (line : Line) (e
       line_turns (Ends Script) did count beat = absurd did
       line_turns (Ends ReadFault) did count beat = absurd did
       line_turns (Ends Memory) did count beat = absurd did
-
--- ---- the work behind a line
-
-pub then_turns : (pace : Pace) (bound : ℕ) (old mid new : State) → GoesOnBy pace bound old mid → (turn : Turn) → Turns pace bound mid new turn → Turns pace bound old new turn
-then_turns pace bound old mid new line GoesOn work = on_more pace bound old mid new line work
-then_turns pace bound old mid new line (Ends status) work = on_ends pace bound old mid new status line work
 
 -- ---- calls may go on behind a line that was answered
 
