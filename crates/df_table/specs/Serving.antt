@@ -28,17 +28,17 @@ use Rattle.df_table.specs.Turns.{AreFit, AreTurns, EndIn, IsAccepted, IsOfCall, 
 
 -- ---- how far it has come
 
--- what is around it, the text that is unread where the source tells it, how many bytes may still be taken, how many lines were executed, the replica and the table
+-- what is around it, the table and the replica, the text that is unread where the source tells it, how many bytes may still be taken, and how many lines were executed
 pub record State : Type 0 where
   pub outside : Outside
+  pub table : Table
+  pub replica : Replica
   pub text : Option (List ℕ)
   pub budget : ℕ
   pub lines : ℕ
-  pub replica : Replica
-  pub table : Table
 
 abbrev pub state : Outside → Session → State
-state outside s = record { outside = outside; text = unread s.lines.reading.held outside.left; budget = s.lines.reading.budget; lines = s.count; replica = s.replica; table = s.table }
+state outside s = record { outside = outside; table = s.table; replica = s.replica; text = unread s.lines.reading.held outside.left; budget = s.lines.reading.budget; lines = s.count }
 
 -- what is true of it between two lines, whatever the disk tells
 pub record IsServing (layout : Layout) (s : Session) (left : Option (List ℕ)) : Type 0 where
