@@ -1,0 +1,12 @@
+pub mod Afters
+pub mod BlockRead
+pub mod Blocking
+pub mod Grids
+pub mod Joining
+pub mod Listed
+pub mod Piecewise
+pub mod Planning
+pub mod ReplyRead
+pub mod Replying
+pub mod Rings
+pub mod Units
