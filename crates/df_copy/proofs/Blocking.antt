@@ -26,6 +26,7 @@ use Rattle.df_copy.specs.Targets.{IsTarget}
 use Rattle.df_copy.specs.Tests.{block_test, block_tests, block_tests_of, references, references_from}
 use Rattle.df_copy.specs.Units.{IsBlockAt, OverShown, all_events, moved, moved_from}
 use Rattle.df_copy.proofs.Grids.{target_push}
+use Rattle.df_copy.proofs.Planning.{references_next}
 use Rattle.df_copy.proofs.Listed.{events_push, moved_push, over_all, over_both, over_by, push_cases, push_length, split_at}
 
 -- how many addresses the source has
@@ -69,10 +70,7 @@ module _ (layout : Layout) (s : State) (rs : List Message) (from old : Option To
   module _ (t : Target) (new : Option Told) (b : ℕ) (less : b < addresses_of s) (is : IsBlocking layout s rs t from old new b) where
     -- what stands at the next address, and behind it
     next_is : (o : Option ℕ) → sum_at (b + 1) s.blocks.live ≡ o → behind_of s b ≡ entry (b + 1) o (behind_of s (b + 1))
-    next_is o found = ap (λ (k : ℕ). references_from (memory s) (b + 1) k) one_more ∙ ap (λ (q : Option ℕ). entry (b + 1) q (behind_of s (b + 1))) found
-      where
-        one_more : addresses_of s - b ≡ suc (addresses_of s - (b + 1))
-        one_more = omega (arith, less)
+    next_is o found = references_next (memory s) b less o found
 
     -- a live one has room
     pub blocking_room : (sum : ℕ) → sum_at (b + 1) s.blocks.live ≡ Some sum → length (references (memory s)) ≤ layout.blocks → t.copied < layout.blocks

@@ -1,5 +1,5 @@
 -- What the tests that read nothing say: none holds, or the first that does.
-use Rattle.std.proofs.Common.{◌≡◌, ℕ, ◌<◌, ◌≤◌, ◌==◌, Bool, true, false, not, if◌then◌else◌, [], ◌∷◌, length, Option, Some, None, ◌∙◌, ap}
+use Rattle.std.proofs.Common.{◌≡◌, ℕ, suc, ◌+◌, ◌-◌, ◌<◌, ◌≤◌, ◌==◌, Bool, true, false, not, if◌then◌else◌, List, [], ◌∷◌, length, Option, Some, None, sym, ◌∙◌, ap, arith}
 use Rattle.std.specs.Prelude.{nat_lt}
 use Rattle.std.proofs.lemmas.Bool.{eq-eqb, le-ltb, lt-ltb, ne_eqb}
 use Rattle.std.proofs.lemmas.List.{length-map}
@@ -7,11 +7,13 @@ use Rattle.df_layout.specs.declared.layout.Layout.{Layout}
 use Rattle.df_sessions.specs.Requests.{session_of}
 use Rattle.df_trailer.specs.Spelling.{text_size}
 use Rattle.df_units.specs.Meaning.{layout_of}
+use Rattle.df_model.specs.Blocks.{entry, sum_at}
+use Rattle.df_model.specs.Memory.{Memory}
 use Rattle.df_model.specs.Refusals.{first_refusal}
 use Rattle.df_opening.specs.Below.{State, memory}
 use Rattle.df_copy.specs.declared.ending.Ending.{Ending}
 use Rattle.df_copy.specs.declared.ending.Ending.TheVariants.{NotAtRest, TooFewBlocks, TooFewClients}
-use Rattle.df_copy.specs.Tests.{is_at_rest, needed, references, rest_tests, trailer_size}
+use Rattle.df_copy.specs.Tests.{is_at_rest, needed, references, references_from, rest_tests, trailer_size}
 
 -- the three tests
 abbrev three : (a b c : Bool) (x y z : Ending) → Option Ending
@@ -76,3 +78,33 @@ module _ (layout : Layout) (s : State) where
 
   pub size_some : (s.fields.trailer_address ≡ 0 → ⊥) → trailer_size layout (memory s) ≡ text
   size_some is = sized false (ne_eqb s.fields.trailer_address 0 is)
+
+  -- that of a root of so many bytes, so many sessions and so many references
+  pub text_as : (root count references_count : ℕ) → root ≡ length s.root → count ≡ length s.table.sessions → references_count ≡ length (references (memory s)) → (s.fields.trailer_address ≡ 0 → ⊥)
+      → text_size (layout_of layout) root count references_count ≡ trailer_size layout (memory s)
+  text_as root count references_count root_is count_is references_is is =
+      ap (λ (n : ℕ). text_size (layout_of layout) n count references_count) root_is
+      ∙ ap (λ (n : ℕ). text_size (layout_of layout) (length s.root) n references_count) count_is
+      ∙ ap (λ (n : ℕ). text_size (layout_of layout) (length s.root) (length s.table.sessions) n) references_is
+      ∙ sym (size_some is)
+
+-- ---- the references, address by address
+
+module _ (m : Memory) (b : ℕ) (less : b < m.layout.blocks) where
+  -- those behind an address
+  abbrev behind : ℕ → List (ℕ × ℕ)
+  behind a = references_from m (a + 1) (m.layout.blocks - a)
+
+  -- what stands at the next address, and behind it
+  pub references_next : (o : Option ℕ) → sum_at (b + 1) m.blocks.live ≡ o → behind b ≡ entry (b + 1) o (behind (b + 1))
+  references_next o found = ap (λ (k : ℕ). references_from m (b + 1) k) one_more ∙ ap (λ (q : Option ℕ). entry (b + 1) q (behind (b + 1))) found
+    where
+      one_more : m.layout.blocks - b ≡ suc (m.layout.blocks - (b + 1))
+      one_more = omega (arith, less)
+
+  -- they are counted
+  pub counted_live : (count total c : ℕ) → count + length (behind b) ≡ total → sum_at (b + 1) m.blocks.live ≡ Some c → count + 1 + length (behind (b + 1)) ≡ total
+  counted_live count total c is found = let all = ap (λ (l : List (ℕ × ℕ)). length l) (references_next (Some c) found) in omega (arith, is, all)
+
+  pub counted_none : (count total : ℕ) → count + length (behind b) ≡ total → sum_at (b + 1) m.blocks.live ≡ None → count + length (behind (b + 1)) ≡ total
+  counted_none count total is found = let all = ap (λ (l : List (ℕ × ℕ)). length l) (references_next None found) in omega (arith, is, all)

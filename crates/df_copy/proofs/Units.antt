@@ -16,7 +16,8 @@ use Rattle.df_format.specs.Valid.{IsBodyOf, IsUnit}
 use Rattle.df_format.proofs.Laws.{is_own}
 use Rattle.df_model.specs.Blocks.{is_held_in}
 use Rattle.df_grid.specs.Grid.{GridState, HasAddress}
-use Rattle.df_copy.specs.Acts.{IsBlockOf, MayPutBlock, MayPutReply}
+use Rattle.df_replica.specs.Blocks.{MayPut}
+use Rattle.df_copy.specs.Acts.{IsBlockOf, MayPutReply}
 
 -- what follows from a body is what the header says
 pub same_for : (h : Header) (body : List ℕ) → IsBodyOf h body → for_body h body ≡ h
@@ -103,22 +104,6 @@ moved_rules h address kind some small rules = record {
   version = subst (λ (k : Kind). ObeysVersion k (at_address address h)) (sym kind) (block_version h address (subst (λ (k : Kind). ObeysVersion k h) kind rules.version));
 }
 
-module _ (cluster address : ℕ) (u : Message) (is : IsBlockOf cluster address u) where
-  -- as it is made at another address
-  pub moved_made : (to : ℕ) → 0 < to → to < 2 ^ 64 → ObeysRules (for_body (at_address to u.header) u.body)
-  moved_made to some small = subst (λ (x : Header). ObeysRules x) (sym (λ i. record (at_address to u.header) { checksum_body = sym is.is.body.checksum i; size = sym is.is.body.size i })) (moved_rules u.header to is.kind some small is.is.sealed.rules)
-
-  pub may_put_block : (g : GridState) (room : Layout) (to : ℕ) → room ≡ g.layout → g.cluster ≡ cluster → HasAddress g to → is_held_in g.blocks to ≡ false → 256 + length u.body ≤ g.layout.block_size → MayPutBlock g room (at_address to u.header) u.body
-  may_put_block g room to same owner inside free fits = record {
-    room_is = same;
-    cluster = is.is.owner ∙ sym owner;
-    inside = inside;
-    free = free;
-    rules = moved_made to (omega (arith, inside.0)) (omega (arith, inside.1, g.layout.blocks_within));
-    kind = is.kind;
-    fits = fits;
-  }
-
 -- it belongs at that address of the layout
 pub block_owned : (layout : Layout) (h : Header) → h.kind ≡ Block → (1 ≤ h.op) × (h.op ≤ layout.blocks) → own_place layout Grid h ≡ Some (place_in Grid h.op)
 block_owned layout h kind inside = is_own layout Grid h (place_in Grid h.op) (record {
@@ -129,3 +114,16 @@ block_owned layout h kind inside = is_own layout Grid h (place_in Grid h.op) (re
 
 pub block_there : (layout : Layout) (h : Header) → h.kind ≡ Block → (1 ≤ h.op) × (h.op ≤ layout.blocks) → IsSome (own_place layout Grid h)
 block_there layout h kind inside = subst (λ (o : Option Place). IsSome o) (sym (block_owned layout h kind inside)) refl
+
+module _ (cluster address : ℕ) (u : Message) (is : IsBlockOf cluster address u) where
+  -- as it is made at another address
+  pub moved_made : (to : ℕ) → 0 < to → to < 2 ^ 64 → ObeysRules (for_body (at_address to u.header) u.body)
+  moved_made to some small = subst (λ (x : Header). ObeysRules x) (sym (λ i. record (at_address to u.header) { checksum_body = sym is.is.body.checksum i; size = sym is.is.body.size i })) (moved_rules u.header to is.kind some small is.is.sealed.rules)
+
+  pub may_put_block : (room : Layout) (g : GridState) (to : ℕ) → room ≡ g.layout → g.cluster ≡ cluster → HasAddress g to → is_held_in g.blocks to ≡ false → 256 + length u.body ≤ g.layout.block_size → MayPut room g (at_address to u.header) u.body
+  may_put_block room g to same owner inside free fits = record {
+    room_is = same;
+    cluster = is.is.owner ∙ sym owner;
+    may = record { rules = moved_made to (omega (arith, inside.0)) (omega (arith, inside.1, g.layout.blocks_within)); of_kind = is.kind; own = block_there g.layout (at_address to u.header) is.kind inside; fits = fits };
+    free = free;
+  }

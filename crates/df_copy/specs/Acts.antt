@@ -8,13 +8,11 @@ use Rattle.df_format.specs.declared.header.Header.{Header}
 use Rattle.df_format.specs.declared.kind.Kind.TheVariants.{Block, Reply}
 use Rattle.df_format.specs.Message.{Message}
 use Rattle.df_format.specs.Own.{place_in}
-use Rattle.df_format.specs.Rules.{ObeysRules}
-use Rattle.df_format.specs.Making.{for_body}
 use Rattle.df_format.specs.Valid.{IsUnit}
 use Rattle.df_units.specs.Meaning.{number_of}
-use Rattle.df_grid.specs.Grid.{GridState, HasAddress, with_blocks}
+use Rattle.df_grid.specs.Grid.{GridState, with_blocks}
 use Rattle.df_grid.specs.Writes.{made, made_events}
-use Rattle.df_model.specs.Blocks.{block_written, is_held_in}
+use Rattle.df_model.specs.Blocks.{block_written}
 use Rattle.df_model.specs.Commands.{ReadBlock}
 use Rattle.df_model.specs.Memory.{reply_sum}
 use Rattle.df_model.specs.Refusals.{first_refusal}
@@ -76,16 +74,6 @@ CopiesReplies layout s checks from old new (Err e) =
     OverShown s.file from (λ shown. first_refusal (reply_tests layout shown (memory s)) ≡ Some e) × (rs : List Message) × FitReplies layout s from rs × (new ≡ after_all (all_events (reply_events layout) rs) old)
 
 -- ---- blocks
-
--- a block that is made of this header and this body in a room of the grid's layout is valid at its address, which isn't held
-pub record MayPutBlock (g : GridState) (room : Layout) (h : Header) (body : List ℕ) : Type 0 where
-  pub room_is : room ≡ g.layout
-  pub cluster : h.cluster ≡ g.cluster
-  pub inside : HasAddress g h.op
-  pub free : is_held_in g.blocks h.op ≡ false
-  pub rules : ObeysRules (for_body h body)
-  pub kind : h.kind ≡ Block
-  pub fits : 256 + length body ≤ g.layout.block_size
 
 -- the grid with a block more, which is live
 abbrev pub with_block : GridState → Message → GridState

@@ -1,6 +1,5 @@
 pub mod Statuses
 pub mod Texts
-pub mod Outside
 pub mod Tests
 pub mod Units
 pub mod Targets

@@ -17,12 +17,13 @@ use Rattle.df_units.specs.Bytes.{unit_at}
 use Rattle.df_opening.specs.Below.{IsLayoutShown, Refuses, State, Surveys, shape}
 use Rattle.df_opening.specs.Opened.{MendsAll, StopsOpening, begun_state}
 use Rattle.df_words.specs.Names.{NamesLayout}
+use Rattle.df_telling.specs.Telling.{Writes}
+use Rattle.df_telling.specs.Two.{IsSilent, Outside}
 use Rattle.df_copy.specs.declared.ending.Ending.{Ending}
 use Rattle.df_copy.specs.declared.ending.Ending.TheVariants.{Source, Target}
 use Rattle.df_copy.specs.declared.status.Status.{Status}
 use Rattle.df_copy.specs.declared.status.Status.TheVariants as ends
 use Rattle.df_copy.specs.Copying.{CopiesInto}
-use Rattle.df_copy.specs.Outside.{Outside, Writes}
 use Rattle.df_copy.specs.Texts.{copied_text, ending_text}
 use Rattle.df_copy.specs.Views.{HoldsCopy, IsEmpty}
 
@@ -38,51 +39,41 @@ MeansNothing words = (layout : Layout) → Means words layout → ⊥
 
 -- ---- a source that isn't opened
 
--- the target is as it was, and nothing is printed
-pub record IsSilent (old new : Outside) : Type 0 where
-  pub to : new.to ≡ old.to
-  pub written : new.written ≡ old.written
-
 -- memory was wanting, or the source's disk failed in the first reads: nothing was done
-pub record DidNothing (old new : Outside) (status : Status) : Type 0 where
-  pub silent : IsSilent old new
-  pub same : new.from ≡ old.from
-  pub why : (status ≡ ends.Memory) ⊎ (status ≡ ends.DiskFault)
+abbrev pub DidNothing : Outside → Outside → Status → Type 0
+DidNothing old new status = (new ≡ old) × ((status ≡ ends.Memory) ⊎ (status ≡ ends.DiskFault))
 
--- the line of a refusal is printed, and the target is as it was
-pub record Refuse (error : OpenError) (old new : Outside) (status : Status) : Type 0 where
-  pub prints : Writes (open_refusal error) ends.Refused old.written new.written status
-  pub to : new.to ≡ old.to
-
--- the superblock that the source shows can't be used; nothing is written to it
-pub record RefusesSuperblock (t : Told) (old new : Outside) (status : Status) : Type 0 where
+-- the source is refused for a cause of this kind, whose line is printed; the target is as it was, and this is what the source's disk tells
+pub record RefusedFor (Why : OpenError → Type 0) (told : Option Told) (old new : Outside) (status : Status) : Type 0 where
   pub error : OpenError
-  pub is : Refuses t.shown error
-  pub refuse : Refuse error old new status
-  pub same : new.from ≡ old.from
-
--- the source is refused behind the barrier of its open, and nothing is written to it
-pub record RefusesFile (own : Layout) (t : Told) (old new : Outside) (status : Status) : Type 0 where
-  pub error : OpenError
-  pub is : Surveys own t.shown (Err error)
+  pub why : Why error
   pub other : error ≢ opens.DiskFault
-  pub refuse : Refuse error old new status
-  pub barrier : new.from ≡ Some (did Sync t)
+  pub prints : Writes ends.WriteFault (open_refusal error) ends.Refused old.written new.written status
+  pub second : new.second ≡ old.second
+  pub first : new.first ≡ told
+
+-- the superblock that it shows can't be used, and nothing is written to it
+abbrev pub RefusesSuperblock : Told → Outside → Outside → Status → Type 0
+RefusesSuperblock t old new status = RefusedFor (λ e. Refuses t.shown e) old.first old new status
+
+-- it is refused behind the barrier of its open, and nothing is written to it
+abbrev pub RefusesFile : (own : Layout) → Told → Outside → Outside → Status → Type 0
+RefusesFile own t old new status = RefusedFor (λ e. Surveys own t.shown (Err e)) (Some (did Sync t)) old new status
 
 -- the source's disk failed before it was open
 pub record FailsToOpen (own : Layout) (t : Told) (old new : Outside) (status : Status) : Type 0 where
   pub fault : status ≡ ends.DiskFault
   pub silent : IsSilent old new
-  pub disk : StopsOpening own t new.from
+  pub disk : StopsOpening own t new.first
 
 -- ---- a source that is
 
 -- what is printed of a copy: how many sectors the target has, or why there is none; of a failing disk nothing
 abbrev pub Prints : {T : Type 0} → Layout → Result T Ending → (old new : Option (List ℕ)) → Status → Type 0
-Prints layout (Ok x) old new status = Writes (copied_text (file_sectors layout)) ends.Done old new status
+Prints layout (Ok x) old new status = Writes ends.WriteFault (copied_text (file_sectors layout)) ends.Done old new status
 Prints layout (Err Source) old new status = (status ≡ ends.DiskFault) × (new ≡ old)
 Prints layout (Err Target) old new status = (status ≡ ends.DiskFault) × (new ≡ old)
-Prints layout (Err e) old new status = Writes (ending_text e) ends.Refused old new status
+Prints layout (Err e) old new status = Writes ends.WriteFault (ending_text e) ends.Refused old new status
 
 -- the sectors of the superblock are as they were: they show the same, and no stop may change what it couldn't change before
 pub record KeepsCopies (before log : Log) : Type 0 where
@@ -106,12 +97,12 @@ pub record SparesCopies (o : Told) (new : Option Told) : Type 0 where
 -- written of the target, and for what it was refused, is exact. A target on which nothing had been written, and of which nothing is loose, holds the copy whole where it is made.
 pub record CopiesFile (layout : Layout) (t : Told) (old new : Outside) (status : Status) : Type 0 where
   pub state : State
-  pub opened : MendsAll t state new.from
+  pub opened : MendsAll t state new.first
   pub result : Result (Unit {0}) Ending
-  pub copies : CopiesInto layout state new.from old.to new.to result
+  pub copies : CopiesInto layout state new.first old.second new.second result
   pub prints : Prints layout result old.written new.written status
-  pub spares : (o : Told) → old.to ≡ Some o → SparesCopies o new.to
-  pub holds : (m o n : Told) → result ≡ Ok tt → new.from ≡ Some m → old.to ≡ Some o → new.to ≡ Some n → IsEmpty (now o.log)
+  pub spares : (o : Told) → old.second ≡ Some o → SparesCopies o new.second
+  pub holds : (m o n : Told) → result ≡ Ok tt → new.first ≡ Some m → old.second ≡ Some o → new.second ≡ Some n → IsEmpty (now o.log)
       → (view : View) → IsFound (shape state.file) (unit_at state.file.layout state.file.cluster t.shown) view
       → HoldsCopy layout state.file m.shown (kept (begun_state state.file t view state.fields)) (now n.log)
 
@@ -132,4 +123,4 @@ abbrev pub Outcome : Layout → Told → Outside → Outside → Status → Type
 Outcome layout t old new status = DidNothing old new status ⊎ RefusesSuperblock t old new status ⊎ CopiesOwn layout t old new status
 
 abbrev pub Runs : Layout → Outside → Outside → Status → Type 0
-Runs layout old new status = (t : Told) → old.from ≡ Some t → IsImage t.shown → Outcome layout t old new status
+Runs layout old new status = (t : Told) → old.first ≡ Some t → IsImage t.shown → Outcome layout t old new status

@@ -1,5 +1,5 @@
 -- How a copy ends: the numbers of the statuses, and what each ending blames and prints.
-use Rattle.std.specs.Prelude.{ℕ, Bool, true, false, ◌||◌}
+use Rattle.std.specs.Prelude.{◌≡◌, ℕ, Bool, true, false, ◌||◌}
 use Rattle.df_model.specs.declared.errors.FormatError.{FormatError}
 use Rattle.df_model.specs.declared.errors.FormatError.TheVariants as formats
 use Rattle.df_model.specs.declared.reading.LookupError.{LookupError}
@@ -34,17 +34,9 @@ is_target e = false
 abbrev pub is_fault : Ending → Bool
 is_fault e = is_source e || is_target e
 
--- the status of an ending
-abbrev pub status_of : Ending → Status
-status_of Source = ends.DiskFault
-status_of Target = ends.DiskFault
-status_of (NotAtRest checkpoint_op head replies) = ends.Refused
-status_of (TooFewClients sessions clients) = ends.Refused
-status_of (TooFewBlocks needed blocks) = ends.Refused
-status_of (NotBlank copy) = ends.Refused
-status_of (ReplyTooLong place size) = ends.Refused
-status_of (BlockTooLong address size) = ends.Refused
-status_of (Damaged place class) = ends.Refused
+-- it ended by what it did with the files: neither for want of memory nor for its words
+abbrev pub EndsWithFiles : Status → Type 0
+EndsWithFiles status = (status ≡ ends.Memory → ⊥) × (status ≡ ends.Words → ⊥)
 
 -- why the target isn't begun; its cluster is never refused, since a file has one
 abbrev pub blank_ending : FormatError → Ending

@@ -7,7 +7,8 @@ ghost use Rattle.df_grid.specs.Writes.{made, made_events};
 ghost use Rattle.df_model.specs.Blocks.{sum_at};
 ghost use Rattle.df_model.specs.Work.{is_known};
 ghost use Rattle.df_opening.specs.Below.{memory};
-ghost use Rattle.df_copy.specs.Acts.{CopiesAt, CopiesBlock, CopiesBlocks, IsBegun, IsBlockOf, MayPutBlock, PutsBlock, with_block};
+ghost use Rattle.df_replica.specs.Blocks.{MayPut};
+ghost use Rattle.df_copy.specs.Acts.{CopiesAt, CopiesBlock, CopiesBlocks, IsBegun, IsBlockOf, PutsBlock, with_block};
 ghost use Rattle.df_copy.specs.Statuses.{block_ending, is_source, is_target};
 ghost use Rattle.df_copy.specs.Targets.{IsTarget};
 ghost use Rattle.df_copy.specs.Tests.{references};
@@ -41,7 +42,7 @@ fn put_made<B: Disk>(
     header: Header,
     body: &[u8],
 ) -> Result<(), Failed>
-    requires may { MayPutBlock grid.old room.old.layout header body.now }
+    requires may { MayPut room.old.layout grid.old header body.now }
     ensures room { room.new.layout ≡ room.old.layout }
     ensures events { Adds (made_events grid.old.layout (made header body.now)) (B.told to.old) (B.told to.new) result }
     ensures live { OnOk result (grid.new ≡ with_block grid.old (made header body.now)) }
@@ -63,6 +64,7 @@ fn put_block<B: Disk>(
     requires begun { (cluster : ℕ) × (rs : List Message) × (bs : List Message) × IsTarget target.old.layout cluster rs bs target.old }
     requires unit { IsBlockOf target.old.grid.cluster address unit.now.unit }
     ensures puts { PutsBlock address unit.now.unit target.old target.new (B.told to.old) (B.told to.new) result }
+    ensures layout { target.new.layout ≡ target.old.layout }
     ensures disk { IsBlamed is_target (B.faults to.old) (B.faults to.new) result }
 {
     let size = u64::from(unit.header().size);

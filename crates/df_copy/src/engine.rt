@@ -4,19 +4,22 @@ ghost use Rattle.df_base.specs.Image.{IsImage};
 ghost use Rattle.df_disk.specs.Told.{Told};
 ghost use Rattle.df_layout.specs.declared.layout.Layout.{Layout as Shape};
 ghost use Rattle.df_opening.specs.Opened.{MendsAll};
-ghost use Rattle.df_copy.specs.Outside.{Blames, HasCauses, Writes};
-ghost use Rattle.df_copy.specs.Run.{CopiesFile, Does, IsSilent, Means, MeansNothing, Runs};
+ghost use Rattle.df_telling.specs.Telling.{Writes};
+ghost use Rattle.df_telling.specs.Two.{HasCauses, around, counts};
+ghost use Rattle.df_copy.specs.Run.{CopiesFile, Does, Means, MeansNothing, Runs};
+ghost use Rattle.df_copy.specs.Statuses.{EndsWithFiles};
 ghost use Rattle.df_copy.specs.Texts.{usage};
 
 use crate::copying::copy_into;
 use crate::status::Status;
 use crate::target::Target;
-use crate::telling::{print_usage, refuse_file, tell_copied, tell_ending};
+use crate::telling::{refuse_source, tell_copied, tell_ending};
 use df_base::{OutOfMemory, Sink};
 use df_buffers::ProbeRoom;
 use df_disk::Disk;
 use df_layout::Layout;
 use df_replica::{Replica, Rooms, probe};
+use df_telling::end_with;
 use df_words::layout_named;
 use std::alloc::Global;
 
@@ -59,14 +62,9 @@ fn copy_opened<A: Disk, B: Disk, W: Sink>(
     rooms: Rooms,
 ) -> Status
     requires live { replica.live ≡ true }
-    ensures copies { (t : Told) → IsImage t.shown → MendsAll t replica (A.told from.old) → CopiesFile rooms.layout t
-        (record { from = Some t; to = B.told to.old; written = W.written sink.old })
-        (record { from = A.told from.new; to = B.told to.new; written = W.written sink.new }) result }
-    ensures causes { HasCauses
-        (record { from = A.faults from.old; to = B.faults to.old; sink = W.faults sink.old })
-        (record { from = A.faults from.new; to = B.faults to.new; sink = W.faults sink.new }) result }
-    ensures memory { result ≡ Status.Memory → ⊥ }
-    ensures words { result ≡ Status.Words → ⊥ }
+    ensures copies { (t : Told) → IsImage t.shown → MendsAll t replica (A.told from.old) → CopiesFile rooms.layout t (around (Some t) (B.told to.old) (W.written sink.old)) (around (A.told from.new) (B.told to.new) (W.written sink.new)) result }
+    ensures causes { HasCauses Status.DiskFault Status.WriteFault (counts (A.faults from.old) (B.faults to.old) (W.faults sink.old)) (counts (A.faults from.new) (B.faults to.new) (W.faults sink.new)) result }
+    ensures ends { EndsWithFiles result }
 {
     let mut replica = replica;
     let layout = rooms.layout;
@@ -84,19 +82,14 @@ fn copy_reserved<A: Disk, B: Disk, W: Sink>(
     to: &mut B,
     sink: &mut W,
 ) -> Status
-    ensures does { (t : Told) → A.told from.old ≡ Some t → IsImage t.shown → Does reserved.target.layout reserved.source.layout t
-        (record { from = A.told from.old; to = B.told to.old; written = W.written sink.old })
-        (record { from = A.told from.new; to = B.told to.new; written = W.written sink.new }) result }
-    ensures causes { HasCauses
-        (record { from = A.faults from.old; to = B.faults to.old; sink = W.faults sink.old })
-        (record { from = A.faults from.new; to = B.faults to.new; sink = W.faults sink.new }) result }
-    ensures memory { result ≡ Status.Memory → ⊥ }
-    ensures words { result ≡ Status.Words → ⊥ }
+    ensures does { (t : Told) → A.told from.old ≡ Some t → IsImage t.shown → Does reserved.target.layout reserved.source.layout t (around (A.told from.old) (B.told to.old) (W.written sink.old)) (around (A.told from.new) (B.told to.new) (W.written sink.new)) result }
+    ensures causes { HasCauses Status.DiskFault Status.WriteFault (counts (A.faults from.old) (B.faults to.old) (W.faults sink.old)) (counts (A.faults from.new) (B.faults to.new) (W.faults sink.new)) result }
+    ensures ends { EndsWithFiles result }
 {
     let Reserved { source, target } = reserved;
     match Replica::open(from, source) {
         Ok(replica) => copy_opened(from, to, sink, replica, target),
-        Err((_, error)) => refuse_file(sink, &error),
+        Err((_, error)) => refuse_source(sink, &error),
     }
 }
 
@@ -108,16 +101,9 @@ fn copy_file<A: Disk, B: Disk, W: Sink>(
     to: &mut B,
     sink: &mut W,
 ) -> Status
-    ensures runs { Runs layout.now
-        (record { from = A.told from.old; to = B.told to.old; written = W.written sink.old })
-        (record { from = A.told from.new; to = B.told to.new; written = W.written sink.new }) result }
-    ensures causes { HasCauses
-        (record { from = A.faults from.old; to = B.faults to.old; sink = W.faults sink.old })
-        (record { from = A.faults from.new; to = B.faults to.new; sink = W.faults sink.new }) result }
-    ensures memory { result ≡ Status.Memory → IsSilent
-        (record { from = A.told from.old; to = B.told to.old; written = W.written sink.old })
-        (record { from = A.told from.new; to = B.told to.new; written = W.written sink.new }) }
-    ensures unwritten { result ≡ Status.Memory → A.told from.new ≡ A.told from.old }
+    ensures runs { Runs layout.now (around (A.told from.old) (B.told to.old) (W.written sink.old)) (around (A.told from.new) (B.told to.new) (W.written sink.new)) result }
+    ensures causes { HasCauses Status.DiskFault Status.WriteFault (counts (A.faults from.old) (B.faults to.old) (W.faults sink.old)) (counts (A.faults from.new) (B.faults to.new) (W.faults sink.new)) result }
+    ensures memory { result ≡ Status.Memory → around (A.told from.new) (B.told to.new) (W.written sink.new) ≡ around (A.told from.old) (B.told to.old) (W.written sink.old) }
     ensures words { result ≡ Status.Words → ⊥ }
 {
     let Ok(mut room) = ProbeRoom::reserve(alloc) else {
@@ -128,7 +114,7 @@ fn copy_file<A: Disk, B: Disk, W: Sink>(
             Ok(reserved) => copy_reserved(reserved, from, to, sink),
             Err(_) => Status::Memory,
         },
-        Err(error) => refuse_file(sink, &error),
+        Err(error) => refuse_source(sink, &error),
     }
 }
 
@@ -142,27 +128,20 @@ pub fn copy<A: Disk, B: Disk, W: Sink>(
     sink: &mut W,
 ) -> Status
     // Other words print the usage line, and touch neither disk.
-    ensures usage { MeansNothing (map string_bytes words.now) → Writes usage Status.Words (W.written sink.old) (W.written sink.new) result }
+    ensures usage { MeansNothing (map string_bytes words.now) → Writes Status.WriteFault usage Status.Words (W.written sink.old) (W.written sink.new) result }
     ensures untouched { MeansNothing (map string_bytes words.now) → (A.told from.new ≡ A.told from.old) × (B.told to.new ≡ B.told to.old) }
     ensures words { result ≡ Status.Words → MeansNothing (map string_bytes words.now) }
 
     // The source is refused as any open of it refuses it, or for the first of the tests of a copy that holds; else the target holds its state in the new layout. What is written of the target is exact, its superblock comes last,
     // and the source is kept as an open keeps it.
-    ensures runs { (layout : Shape) → Means (map string_bytes words.now) layout → Runs layout
-        (record { from = A.told from.old; to = B.told to.old; written = W.written sink.old })
-        (record { from = A.told from.new; to = B.told to.new; written = W.written sink.new }) result }
+    ensures runs { (layout : Shape) → Means (map string_bytes words.now) layout → Runs layout (around (A.told from.old) (B.told to.old) (W.written sink.old)) (around (A.told from.new) (B.told to.new) (W.written sink.new)) result }
 
     // Each fault has its cause; want of memory comes before anything was written.
-    ensures causes { HasCauses
-        (record { from = A.faults from.old; to = B.faults to.old; sink = W.faults sink.old })
-        (record { from = A.faults from.new; to = B.faults to.new; sink = W.faults sink.new }) result }
-    ensures memory { result ≡ Status.Memory → IsSilent
-        (record { from = A.told from.old; to = B.told to.old; written = W.written sink.old })
-        (record { from = A.told from.new; to = B.told to.new; written = W.written sink.new }) }
-    ensures unwritten { result ≡ Status.Memory → A.told from.new ≡ A.told from.old }
+    ensures causes { HasCauses Status.DiskFault Status.WriteFault (counts (A.faults from.old) (B.faults to.old) (W.faults sink.old)) (counts (A.faults from.new) (B.faults to.new) (W.faults sink.new)) result }
+    ensures memory { result ≡ Status.Memory → around (A.told from.new) (B.told to.new) (W.written sink.new) ≡ around (A.told from.old) (B.told to.old) (W.written sink.old) }
 {
     match layout_in(words) {
         Some(layout) => copy_file(alloc, &layout, from, to, sink),
-        None => print_usage(sink),
+        None => end_with(sink, USAGE, Status::Words, Status::WriteFault),
     }
 }

@@ -2,9 +2,7 @@
 ghost use Rattle.std.specs.Prelude.{◌≡◌, ◌<◌, ◌≤◌, ℕ, List, [], true, length, OnOk};
 ghost use Rattle.df_base.specs.Causes.{HasCause, IsBlamed};
 ghost use Rattle.df_disk.specs.Adds.{Adds};
-ghost use Rattle.df_format.specs.Own.{place_in};
 ghost use Rattle.df_format.specs.Message.{Message};
-ghost use Rattle.df_layout.specs.declared.places.Zone.TheVariants.{ClientReplies};
 ghost use Rattle.df_sessions.specs.Table.{AreApart};
 ghost use Rattle.df_opening.specs.Below.{memory};
 ghost use Rattle.df_copy.specs.Acts.{CopiesReplies, CopiesReply, HasPlace, MayPutReply, PutsReply};
@@ -24,16 +22,6 @@ use df_model::LookupError;
 use df_places::{Shelf, put_unit};
 use df_replica::Replica;
 
-// The place of a session.
-fn reply_place(place: u64) -> Place
-    ensures { result ≡ place_in ClientReplies place }
-{
-    Place {
-        zone: Zone::ClientReplies,
-        index: place,
-    }
-}
-
 // Makes a reply again in a room of the target, which gives the same unit, and writes it into its place, without a sync.
 fn put_again<B: Disk>(
     to: &mut B,
@@ -49,7 +37,10 @@ fn put_again<B: Disk>(
     ensures cause { HasCause (B.faults to.old) (B.faults to.new) result }
 {
     room.make(header, body);
-    let place = reply_place(u64::from(header.slot));
+    let place = Place {
+        zone: Zone::ClientReplies,
+        index: u64::from(header.slot),
+    };
     put_unit(to, layout, place, room.unit())
 }
 

@@ -1,90 +1,40 @@
 // What a copy prints: how large the target is, or why there is none.
-ghost use Rattle.std.specs.Prelude.{◌≡◌, ◌≤◌, IsTrue, length};
+ghost use Rattle.std.specs.Prelude.{◌≡◌, ◌≤◌, false, length, true};
 ghost use Rattle.df_base.specs.Causes.{HasCause};
 ghost use Rattle.df_inspect.specs.Prints.{Prints};
 ghost use Rattle.df_layout.specs.Zones.{file_sectors};
-ghost use Rattle.df_script_model.specs.Texts.{damaged_text};
-ghost use Rattle.df_copy.specs.Outside.{Blames, PrintsError, Writes};
-ghost use Rattle.df_copy.specs.Statuses.{is_fault, status_of};
-ghost use Rattle.df_copy.specs.Texts.{copied_text, ending_text, two_numbers, usage};
+ghost use Rattle.df_telling.specs.Telling.{Blames, PrintsError, Writes};
+ghost use Rattle.df_copy.specs.Statuses.{is_fault};
+ghost use Rattle.df_copy.specs.Texts.{copied_text, ending_text, two_numbers};
 
 use crate::ending::Ending;
 use crate::status::Status;
 use arrayvec::ArrayVec;
 use df_base::{Failed, Sink};
-use df_inspect::{
-    Line, number_line, print_answer, print_open_refusal, put, put_number, text_line, write_line,
-};
-use df_layout::{Class, Layout, Place};
-use df_model::{Answer, Command, StepError};
+use df_inspect::{Line, number_line, put, put_number, write_line};
+use df_layout::Layout;
 use df_replica::OpenError;
+use df_telling::{end_line, print_damaged, refuse_file};
 
 /// The line that says which words have a meaning.
 pub const USAGE: &[u8] = b"usage: filecopy FROM TO LAYOUT\n";
 
-/// Prints which words have a meaning.
-pub(crate) fn print_usage<W: Sink>(sink: &mut W) -> Status
-    ensures usage { Writes usage Status.Words (W.written sink.old) (W.written sink.new) result }
-    ensures sink { Blames Status.WriteFault (W.faults sink.old) (W.faults sink.new) result }
-{
-    match sink.write(USAGE) {
-        Ok(()) => Status::Words,
-        Err(_) => Status::WriteFault,
-    }
-}
-
 /// Prints how many sectors the target has.
 pub(crate) fn tell_copied<W: Sink>(sink: &mut W, layout: &Layout) -> Status
-    ensures line { Writes (copied_text (file_sectors layout.now)) Status.Done (W.written sink.old) (W.written sink.new) result }
+    ensures line { Writes Status.WriteFault (copied_text (file_sectors layout.now)) Status.Done (W.written sink.old) (W.written sink.new) result }
     ensures sink { Blames Status.WriteFault (W.faults sink.old) (W.faults sink.new) result }
 {
-    match write_line(sink, &number_line("copied", u128::from(layout.sectors()))) {
-        Ok(()) => Status::Done,
-        Err(_) => Status::WriteFault,
-    }
+    let line = number_line("copied", u128::from(layout.sectors()));
+    end_line(sink, &line, Status::Done, Status::WriteFault)
 }
 
 /// Prints why the source isn't opened; a failing disk has no line.
-pub(crate) fn refuse_file<W: Sink>(sink: &mut W, error: &OpenError) -> Status
-    ensures prints { PrintsError error.now (W.written sink.old) (W.written sink.new) result }
+pub(crate) fn refuse_source<W: Sink>(sink: &mut W, error: &OpenError) -> Status
+    ensures prints { PrintsError Status.Refused Status.DiskFault Status.WriteFault error.now (W.written sink.old) (W.written sink.new) result }
     ensures sink { Blames Status.WriteFault (W.faults sink.old) (W.faults sink.new) result }
 {
-    if *error == OpenError::DiskFault {
-        return Status::DiskFault;
-    }
-    match print_open_refusal(sink, error) {
-        Ok(()) => Status::Refused,
-        Err(_) => Status::WriteFault,
-    }
-}
-
-// The status of an ending.
-fn status_of(ending: Ending) -> Status
-    ensures { result ≡ status_of ending }
-{
-    match ending {
-        Ending::Source | Ending::Target => Status::DiskFault,
-        Ending::NotAtRest {
-            checkpoint_op: _,
-            head: _,
-            replies: _,
-        }
-        | Ending::TooFewClients {
-            sessions: _,
-            clients: _,
-        }
-        | Ending::TooFewBlocks {
-            needed: _,
-            blocks: _,
-        }
-        | Ending::NotBlank { copy: _ }
-        | Ending::ReplyTooLong { place: _, size: _ }
-        | Ending::BlockTooLong {
-            address: _,
-            size: _,
-        }
-        | Ending::Damaged { place: _, class: _ } => Status::Refused,
-    }
+    let refused = Status::Refused;
+    refuse_file(sink, error, refused, Status::DiskFault, Status::WriteFault)
 }
 
 // Words and a number, a word and a number.
@@ -118,15 +68,6 @@ fn not_at_rest_line(checkpoint_op: u64, head: u64, replies: u64) -> Line
     put_number(&mut line, u128::from(replies));
     put(&mut line, "\n");
     line
-}
-
-// The line on a unit that is damaged.
-fn print_damaged<W: Sink>(sink: &mut W, place: Place, class: Class) -> Result<(), Failed>
-    ensures prints { Prints (damaged_text place class) (W.written sink.old) (W.written sink.new) result }
-    ensures cause { HasCause (W.faults sink.old) (W.faults sink.new) result }
-{
-    let answer = Answer::Advance(Err(StepError::Damaged { place, class }));
-    print_answer(sink, &Command::Advance, &answer)
 }
 
 // The line of an ending; a failing disk has none.
@@ -173,15 +114,15 @@ fn is_fault(ending: Ending) -> bool
 
 /// Prints why no copy is made, or none whole; a failing disk has no line.
 pub(crate) fn tell_ending<W: Sink>(sink: &mut W, ending: Ending) -> Status
-    ensures writes { Writes (ending_text ending) (status_of ending) (W.written sink.old) (W.written sink.new) result }
-    ensures fault { IsTrue (is_fault ending) → (result ≡ Status.DiskFault) × (W.written sink.new ≡ W.written sink.old) }
+    ensures refused { is_fault ending ≡ false → Writes Status.WriteFault (ending_text ending) Status.Refused (W.written sink.old) (W.written sink.new) result }
+    ensures fault { is_fault ending ≡ true → (result ≡ Status.DiskFault) × (W.written sink.new ≡ W.written sink.old) }
     ensures sink { Blames Status.WriteFault (W.faults sink.old) (W.faults sink.new) result }
 {
     if is_fault(ending) {
         return Status::DiskFault;
     }
     match print_ending(sink, ending) {
-        Ok(()) => status_of(ending),
+        Ok(()) => Status::Refused,
         Err(_) => Status::WriteFault,
     }
 }
