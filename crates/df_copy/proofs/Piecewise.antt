@@ -1,5 +1,7 @@
 -- A trailer is written block by block: what stands behind each of them.
-use Rattle.std.proofs.Common.{◌≡◌, ℕ, zero, suc, ◌+◌, ◌-◌, ◌<◌, ◌≤◌, List, [], ◌∷◌, ◌++◌, length, Option, refl, sym, ◌∙◌, ap, subst, arith, append_assoc}
+use Rattle.std.proofs.Common.{◌≡◌, ℕ, zero, suc, ◌+◌, ◌-◌, ◌<◌, ◌≤◌, List, [], ◌∷◌, ◌++◌, length, Option, Some, refl, sym, ◌∙◌, ap, subst, arith, append_assoc}
+use Rattle.std.specs.Prelude.{slice_get}
+use Rattle.std.specs.List.{range_with_len}
 use Rattle.df_base.specs.Log.{Event}
 use Rattle.df_disk.specs.Told.{Told}
 use Rattle.df_disk.specs.Adds.{AddsPart, after_all}
@@ -8,10 +10,11 @@ use Rattle.df_layout.specs.declared.layout.Layout.{Layout}
 use Rattle.df_format.specs.Message.{Message}
 use Rattle.df_units.specs.Meaning.{number_of}
 use Rattle.df_model.specs.Blocks.{Blocks}
+use Rattle.df_model.specs.Making.{first_of}
 use Rattle.df_grid.specs.Grid.{GridState}
 use Rattle.df_grid.specs.Table.{written_of}
 use Rattle.df_grid.specs.Writes.{made_events}
-use Rattle.df_copy.specs.Targets.{behind_piece, grid_behind, next_piece, pieces_from}
+use Rattle.df_copy.specs.Targets.{address_of, behind_piece, grid_behind, last_of, next_piece, pair_of, pieces_from}
 use Rattle.df_copy.specs.Units.{all_events}
 use Rattle.df_copy.proofs.Listed.{events_push}
 
@@ -105,6 +108,26 @@ module _ (sequence : ℕ) (text : List ℕ) where
       let more = count_written (behind_piece g sequence text) n (omega (arith, inside, left)) in
       let one = one_written g.blocks (number_of (next g).header.checksum) g.blocks.left (omega (arith, inside)) in
       omega (arith, more, one)
+
+  -- the grid names the last of them
+  first_written : (b : Blocks) (c : ℕ) (left : List ℕ) → 0 < length left → slice_get (written_of b c left).written 0 ≡ Some (first_of left, c)
+  first_written b c [] some = absurd (omega (arith, some))
+  first_written b c (a ∷ left) some = refl
+
+  pub last_written : (g : GridState) (n : ℕ) → 0 < n → n ≤ length g.blocks.left → slice_get (grid g n).blocks.written 0 ≡ pair_of (last_of (written g n))
+  last_written g zero some inside = absurd (omega (arith, some))
+  last_written g (suc zero) some inside = first_written g.blocks (number_of (next g).header.checksum) g.blocks.left (omega (arith, inside))
+  last_written g (suc (suc n)) some inside =
+      let one = one_left g.blocks (number_of (next g).header.checksum) g.blocks.left refl in
+      last_written (behind_piece g sequence text) (suc n) (omega arith) (omega (arith, inside, one))
+
+  -- and they stand one behind the other
+  pub last_address : (g : GridState) (n at : ℕ) → g.blocks.left ≡ range_with_len at n → 0 < n → address_of (last_of (written g n)) + 1 ≡ at + n
+  last_address g zero at left some = absurd (omega (arith, some))
+  last_address g (suc zero) at left some = let here : (next g).header.op ≡ at = ap first_of left in omega (arith, here)
+  last_address g (suc (suc n)) at left some =
+      let more = last_address (behind_piece g sequence text) (suc n) (at + 1) (ap (λ (l : List ℕ). (written_of g.blocks (number_of (next g).header.checksum) l).left) left) (omega arith) in
+      omega (arith, more)
 
   -- ---- what is written
 

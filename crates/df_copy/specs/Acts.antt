@@ -11,6 +11,7 @@ use Rattle.df_format.specs.Own.{place_in}
 use Rattle.df_format.specs.Valid.{IsUnit}
 use Rattle.df_units.specs.Meaning.{number_of}
 use Rattle.df_grid.specs.Grid.{GridState, with_blocks}
+use Rattle.df_grid.specs.Table.{last_of}
 use Rattle.df_grid.specs.Writes.{made, made_events}
 use Rattle.df_model.specs.Blocks.{block_written}
 use Rattle.df_model.specs.Commands.{ReadBlock}
@@ -21,8 +22,8 @@ use Rattle.df_opening.specs.Below.{State, memory}
 use Rattle.df_copy.specs.declared.ending.Ending.{Ending}
 use Rattle.df_copy.specs.declared.ending.Ending.TheVariants.{BlockTooLong, ReplyTooLong, Source, Target as TargetFails}
 use Rattle.df_copy.specs.declared.target.Target.{Target}
-use Rattle.df_copy.specs.Targets.{IsTarget, begun_grid, checks_of, grid_behind, grid_with, pieces_from, sequence_of, text_with}
-use Rattle.df_copy.specs.Tests.{block_test, block_tests, references, reply_test, reply_tests, trailer_blocks}
+use Rattle.df_copy.specs.Targets.{IsTarget, checks_of, last_of as last_block, pair_of, trailer_of}
+use Rattle.df_copy.specs.Tests.{block_test, block_tests, references, reply_test, reply_tests}
 use Rattle.df_copy.specs.Units.{AreBlocks, AreReplies, IsBlockAt, IsReplyAt, OverShown, all_events, moved, moved_from, reply_events}
 
 -- ---- replies
@@ -138,8 +139,8 @@ CopiesBlocks layout s rs n from old new (Err e) =
 
 -- ---- the trailer
 
--- replies and blocks were written, and the trailer behind them
+-- replies and blocks were written, and the trailer behind them, of which the grid names the last block
 pub record IsWritten (layout : Layout) (s : State) (replies blocks : List Message) (t : Target) : Type 0 where
   pub layout_is : t.layout ≡ layout
-  pub grid : t.grid ≡ grid_behind (begun_grid (grid_with layout s.file.cluster (moved_from 1 blocks)) s.fields.boot (trailer_blocks layout (memory s))) (sequence_of s) (text_with layout s (moved_from 1 blocks)) (trailer_blocks layout (memory s))
+  pub last : last_of t.grid.blocks.left t.grid.blocks.written ≡ pair_of (last_block (trailer_of layout s (moved_from 1 blocks)))
   pub checks : t.checks ≡ checks_of replies

@@ -61,6 +61,11 @@ abbrev pub address_of : Option Message → ℕ
 address_of None = 0
 address_of (Some u) = u.header.op
 
+-- a block by its address and its checksum, if there is one
+abbrev pub pair_of : Option Message → Option (ℕ × ℕ)
+pair_of None = None
+pair_of (Some u) = Some (u.header.op, number_of u.header.checksum)
+
 -- the source's superblock, with the numbers of the layout, these replies, and this trailer. The source is at rest, so its head and its replies are its checkpoint's op
 abbrev pub copied_fields : Layout → SuperFields → List Message → List Message → (size : ℕ) → SuperFields
 copied_fields layout f replies trailer size = record f {

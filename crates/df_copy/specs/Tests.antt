@@ -1,5 +1,6 @@
 -- What a copy is refused for, in this order, as one list of tests: over what is kept in memory of the source and what its disk shows, the layout, and what the target shows.
-use Rattle.std.specs.Prelude.{ℕ, ◌+◌, ◌-◌, ◌/◌, ◌==◌, nat_lt, Bool, true, ◌&&◌, not, if◌then◌else◌, List, [], ◌∷◌, ◌++◌, length, map, Result, Ok, Err}
+use Rattle.std.specs.Prelude.{ℕ, ◌+◌, ◌-◌, ◌==◌, nat_lt, Bool, true, ◌&&◌, not, if◌then◌else◌, List, [], ◌∷◌, ◌++◌, length, map, Result, Ok, Err}
+use Rattle.std.specs.Int.{div_ceil}
 use Rattle.std.specs.List.{range_with_len}
 use Rattle.df_base.specs.Image.{Image}
 use Rattle.df_layout.specs.declared.damage.Class.{Class}
@@ -43,7 +44,7 @@ trailer_size layout m = if has_trailer m then text_size (layout_of layout) (leng
 
 -- how many pieces a text of so many bytes is cut into, where a block has room for so many
 abbrev pub pieces : ℕ → ℕ → ℕ
-pieces room size = (size + room - 1) / room
+pieces room size = div_ceil size room
 
 -- how many blocks the copy's trailer has
 abbrev pub trailer_blocks : Layout → Memory → ℕ

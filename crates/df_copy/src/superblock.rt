@@ -1,6 +1,7 @@
 // The copy's superblock: the source's, with the new layout and the new trailer.
 ghost use Rattle.std.specs.Prelude.{◌≡◌, ◌≤◌, List, true, length};
 ghost use Rattle.df_format.specs.Message.{Message};
+ghost use Rattle.df_format.specs.Spelling.{IsCheck};
 ghost use Rattle.df_format.specs.declared.reference.Reference.{Reference};
 ghost use Rattle.df_opening.specs.Below.{memory};
 ghost use Rattle.df_copy.specs.Acts.{IsWritten};
@@ -11,6 +12,7 @@ ghost use Rattle.df_copy.specs.Trailers.{IsLastOf, fields_in, with_trailer};
 
 use crate::plan::Plan;
 use crate::target::Target;
+use df_base::Check;
 use df_format::{NO_CHECKSUM, Reference, Super, SuperFields, test_fields};
 use df_replica::Replica;
 
@@ -47,17 +49,25 @@ fn fields_for(fields: &SuperFields, target: &Target) -> SuperFields
     }
 }
 
-// And with the copy's trailer.
-fn copied_fields(fields: &SuperFields, target: &Target, plan: Plan) -> SuperFields
-    ensures { (last : Reference) × IsLastOf target.now.grid last × (result ≡ with_trailer last plan.size (fields_in target.now.layout fields.now target.now.checks)) }
+// A checksum has sixteen bytes, as its type says.
+fn as_check(check: Check) -> Check
+    ensures value { result ≡ check }
+    ensures check { IsCheck result }
 {
-    let last = last_block(target);
-    let checksum = last.checksum;
+    check
+}
+
+// And with a trailer that ends with this block.
+fn with_trailer(fields: SuperFields, last: Reference, size: u64) -> SuperFields
+    ensures fields { result ≡ with_trailer last size fields }
+    ensures check { IsCheck last.checksum }
+{
+    let trailer_checksum = as_check(last.checksum);
     SuperFields {
         trailer_address: last.address,
-        trailer_checksum: checksum,
-        trailer_size: plan.size,
-        ..fields_for(fields, target)
+        trailer_checksum,
+        trailer_size: size,
+        ..fields
     }
 }
 
@@ -70,7 +80,8 @@ pub(crate) fn copied_superblock(replica: &Replica, target: &Target, plan: Plan) 
     requires written { (rs : List Message) × (bs : List Message) × IsWritten target.now.layout replica.now rs bs target.now × (length rs ≡ length replica.now.table.sessions) × (length bs ≡ length (references (memory replica.now))) }
     ensures { (rs bs : List Message) → IsWritten target.now.layout replica.now rs bs target.now → (length bs ≡ length (references (memory replica.now))) → result ≡ superblock_of target.now.layout replica.now rs bs }
 {
-    match test_fields(&copied_fields(replica.fields(), target, plan)) {
+    let fields = fields_for(replica.fields(), target);
+    match test_fields(&with_trailer(fields, last_block(target), plan.size)) {
         Ok(content) => content,
         Err(_) => unreachable!(),
     }

@@ -19,7 +19,7 @@ use arrayvec::ArrayVec;
 use df_base::Failed;
 use df_checkpoint::{Capture, write_piece};
 use df_disk::Disk;
-use df_grid::Grid;
+use df_grid::{Grid, chains_have_room};
 use df_layout::ROOT;
 use df_replica::Replica;
 use df_sessions::Session;
@@ -103,7 +103,7 @@ pub(crate) fn write_trailer<B: Disk>(
     plan: Plan,
 ) -> Result<(), Ending>
     requires live { replica.now.live ≡ true }
-    requires sessions { length replica.now.table.sessions ≤ 64 }
+    requires fits { length replica.now.table.sessions ≤ target.old.layout.clients }
     requires plan { IsPlan target.old.layout replica.now plan }
     requires room { needed target.old.layout (memory replica.now) ≤ target.old.layout.blocks }
     requires begun { (rs : List Message) × (bs : List Message) × IsTarget target.old.layout replica.now.file.cluster rs bs target.old × (length bs ≡ length (references (memory replica.now))) }
@@ -116,6 +116,7 @@ pub(crate) fn write_trailer<B: Disk>(
         return Ok(());
     }
     let capture = capture_of(replica);
+    chains_have_room();
     target.grid.set_boot(replica.fields().boot);
     target.grid.capture(plan.blocks);
     match write_pieces(
