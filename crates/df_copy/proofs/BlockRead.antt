@@ -1,9 +1,8 @@
 -- A live block that is read, and what the copy does with it.
 use Rattle.std.proofs.Common.{◌≡◌, ℕ, ◌+◌, Bool, true, false, not, [], ◌∷◌, length, Option, Some, None, Result, Ok, Err, refl, sym, ◌∙◌, ap, subst, arith}
-use Rattle.std.specs.Prelude.{OnOk, nat_lt}
+use Rattle.std.specs.Prelude.{nat_lt}
 use Rattle.std.proofs.lemmas.Bool.{lt-ltb}
 use Rattle.std.proofs.lemmas.Option.{none-some}
-use Rattle.df_base.specs.Causes.{Blamed, IsBlamed}
 use Rattle.df_disk.specs.Told.{Told}
 use Rattle.df_layout.specs.declared.damage.Class.{Class}
 use Rattle.df_layout.specs.declared.layout.Layout.{Layout}
@@ -15,7 +14,6 @@ use Rattle.df_units.specs.Meaning.{block_of}
 use Rattle.df_grid.specs.Grid as grid
 use Rattle.df_model.specs.Blocks.{sum_at}
 use Rattle.df_model.specs.Commands.{ReadBlock}
-use Rattle.df_model.specs.Faults.{is_read_fault}
 use Rattle.df_model.specs.Refusals.{first_refusal}
 use Rattle.df_model.specs.Supply.{block_read}
 use Rattle.df_model.specs.Work.{is_known}
@@ -27,7 +25,7 @@ use Rattle.df_copy.specs.declared.ending.Ending.{Ending}
 use Rattle.df_copy.specs.declared.ending.Ending.TheVariants.{BlockTooLong, Damaged, NotAtRest, NotBlank, ReplyTooLong, Source, Target as TargetFails, TooFewBlocks, TooFewClients}
 use Rattle.df_copy.specs.declared.target.Target.{Target}
 use Rattle.df_copy.specs.Acts.{CopiesAt, CopiesBlock, IsBlockOf, PutsBlock}
-use Rattle.df_copy.specs.Statuses.{block_ending, is_source, is_target}
+use Rattle.df_copy.specs.Statuses.{block_ending}
 use Rattle.df_copy.specs.Tests.{block_test}
 use Rattle.df_copy.specs.Units.{IsBlockAt, OverShown}
 
@@ -86,33 +84,3 @@ module _ {T : Type 0} (s : State) (address : ℕ) (u : Message) (t n : Target) (
 pub copies_live : {T : Type 0} (layout : Layout) (address : ℕ) (o : Option ℕ) (s : State) (t n : Target) (from old new : Option Told) (r : Result T Ending) → is_known o ≡ true → CopiesBlock layout address s t n from old new r → CopiesAt layout address o s t n from old new r
 copies_live layout address None s t n from old new r known copies = absurd (let no : is_known None ≡ false = refl in cc (no, known))
 copies_live layout address (Some sum) s t n from old new r known copies = copies
-
--- ---- who is blamed
-
-pub on_ok : {T : Type 0} {P : Type 0} (r : Result T Ending) → P → OnOk r P
-on_ok (Ok x) p = p
-on_ok (Err e) p = tt
-
--- what is written of a block blames the source's disk for nothing
-pub put_spares : {T : Type 0} (address : ℕ) (u : Message) (t n : Target) (old new : Option Told) (before now : ℕ) (r : Result T Ending) → PutsBlock address u t n old new r → now ≡ before → IsBlamed is_source before now r
-put_spares address u t n old new before now (Ok x) puts same = same
-put_spares address u t n old new before now (Err TargetFails) puts same = same
-put_spares address u t n old new before now (Err (BlockTooLong a size)) puts same = same
-put_spares address u t n old new before now (Err Source) puts same = absurd puts
-put_spares address u t n old new before now (Err (NotAtRest a b c)) puts same = absurd puts
-put_spares address u t n old new before now (Err (TooFewClients a b)) puts same = absurd puts
-put_spares address u t n old new before now (Err (TooFewBlocks a b)) puts same = absurd puts
-put_spares address u t n old new before now (Err (NotBlank a)) puts same = absurd puts
-put_spares address u t n old new before now (Err (ReplyTooLong a b)) puts same = absurd puts
-put_spares address u t n old new before now (Err (Damaged a b)) puts same = absurd puts
-
--- a read that fails blames it exactly where its disk failed
-pub read_blamed : (e : ReadError) (before now : ℕ) → (e ≡ read.NotLive → ⊥) → Blamed (is_read_fault e) before now → Blamed (is_source (block_ending e)) before now
-read_blamed read.DiskFault before now live blamed = blamed
-read_blamed (read.Damaged at class) before now live blamed = blamed
-read_blamed read.NotLive before now live blamed = absurd (live refl)
-
-pub read_spares : (e : ReadError) (count : ℕ) → Blamed (is_target (block_ending e)) count count
-read_spares read.DiskFault count = refl
-read_spares (read.Damaged at class) count = refl
-read_spares read.NotLive count = refl

@@ -1,5 +1,6 @@
 pub mod Afters
 pub mod Alike
+pub mod Blamed
 pub mod BlockRead
 pub mod Blocking
 pub mod Frees

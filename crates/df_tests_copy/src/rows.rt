@@ -46,7 +46,8 @@ fn a_copy_goes_on(rt: HostRuntime) -> Result<(), Fail> {
     expect(alloc, &mut from, &mut to, LEAST, "copied 30\n", Status::Done)?;
     let script =
         b"append 1 2 cc\nreply 2 dd\nblock 2 02\nread 1\nread 3\ncheckpoint 06\nstep\nstep\nlookup 1\n";
-    let text = "appended 2\nreplied 2\nblock 3\n";
+    let text =
+        "appended 2\nreplied 2\nwrote 3\nblock 1 kind 1 body 01\nblock 3 kind 2 body 02\n";
     let ran = df_runs::run_script(alloc, &mut to, script)?;
     if ran.status != df_runs::Status::Done || !ran.text.as_slice().starts_with(text.as_bytes())
     {

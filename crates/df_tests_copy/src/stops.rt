@@ -27,27 +27,27 @@ const NO_QUORUM: &str = "refused NoQuorum";
 const SUMMARY: &str =
     "cluster 7\nlayout 16 4096 1 4096 8\nsequence 2\ncheckpoint 1\nhead 1\nreplies 1\nsessions 1\nreferences 1\n";
 
-// The device call of the target that fails: four reads of the copies, the header sector, a reply, a block, a trailer block, a sync, and four copies with a sync each. Then the sectors that the stop
+// The device call of the target that fails, of which a write is made all the same: four reads of the copies, the header sector, a reply, a block, a trailer block, a sync, and four copies with a sync each. Then the sectors that the stop
 // garbles, which the failing sync would have settled, and how what an open finds begins.
 const STOPS: [(u64, &[u64], &str); 20] = [
     (1, &[], NOT_FORMATTED),
     (4, &[], NOT_FORMATTED),
-    (5, &[], NOT_FORMATTED),
-    (6, &[4], NOT_FORMATTED),
-    (7, &[4, 21], NOT_FORMATTED),
-    (8, &[4, 21, 22], NOT_FORMATTED),
+    (5, &[4], NOT_FORMATTED),
+    (6, &[4, 21], NOT_FORMATTED),
+    (7, &[4, 21, 22], NOT_FORMATTED),
+    (8, &[4, 21, 22, 23], NOT_FORMATTED),
     (9, &[4, 21, 22, 23], NOT_FORMATTED),
     (9, &[], NOT_FORMATTED),
-    (10, &[], NOT_FORMATTED),
-    (11, &[0], NO_QUORUM),
+    (10, &[0], NO_QUORUM),
+    (10, &[], NO_QUORUM),
     (11, &[], NO_QUORUM),
-    (12, &[], NO_QUORUM),
+    (12, &[1], NO_QUORUM),
+    (12, &[], SUMMARY),
     (13, &[1], NO_QUORUM),
     (13, &[], SUMMARY),
-    (14, &[], SUMMARY),
-    (15, &[2], SUMMARY),
+    (14, &[2], SUMMARY),
     (15, &[], SUMMARY),
-    (16, &[], SUMMARY),
+    (16, &[3], SUMMARY),
     (17, &[3], SUMMARY),
     (17, &[], SUMMARY),
 ];

@@ -8,9 +8,10 @@ use Rattle.df_opening.specs.Below.{State}
 use Rattle.df_replica.specs.Stopping.{left_by}
 use Rattle.df_copy.specs.declared.ending.Ending.{Ending}
 use Rattle.df_copy.specs.declared.target.Target.{Target}
-use Rattle.df_copy.specs.Acts.{CopiesBlock}
+use Rattle.df_copy.specs.Acts.{CopiesBlock, PutsBlock}
 use Rattle.df_copy.specs.Statuses.{is_source, is_target}
-use Rattle.df_copy.proofs.BlockRead.{block_is, block_put, block_unit, block_unread, live_there, on_ok, put_spares, read_blamed, read_spares}
+use Rattle.df_copy.proofs.Blamed.{block_blamed, block_spares, on_ok, unblamed}
+use Rattle.df_copy.proofs.BlockRead.{block_is, block_put, block_unit, block_unread, live_there}
 use Rattle.df_copy.proofs.blocks.copy_block.Goals as goal
 
 -- ---- it is
@@ -30,8 +31,9 @@ returns-in-Ok-clause-kept g c = on_ok c.put_block.result (c.read_block.follows.h
 
 pub returns-in-Ok-clause-source : goal.returns-in-Ok-clause-source
 returns-in-Ok-clause-source g c =
-    put_spares c.args.address c.in-Ok.unit.now.unit c.args.target.now c.put_block.new.target (g.B.Disk.told c.args.to.now) (g.B.Disk.told c.put_block.new.to) (g.A.Disk.faults c.args.from.now) (g.A.Disk.faults c.read_block.new.from)
-    c.put_block.result c.put_block.ensures.puts c.in-Ok.ensures.cause
+    let t : Target = c.args.target.now in
+    unblamed c.put_block.result (g.A.Disk.faults c.args.from.now) (g.A.Disk.faults c.read_block.new.from)
+    (λ is. subst (λ (r : Result (Unit {0}) Ending). PutsBlock c.args.address c.in-Ok.unit.now.unit t c.put_block.new.target (g.B.Disk.told c.args.to.now) (g.B.Disk.told c.put_block.new.to) r) is c.put_block.ensures.puts) c.in-Ok.ensures.cause
 
 -- ---- it isn't
 
@@ -52,9 +54,9 @@ pub returns-in-Err-clause-source : goal.returns-in-Err-clause-source
 returns-in-Err-clause-source g c =
     let live = live_there c.args.replica.now (g.A.Disk.told c.args.from.now) c.args.address c.in-Err.error c.requires.known c.in-Err.ensures.exact in
     subst (λ (e : Ending). Blamed (is_source e) (g.A.Disk.faults c.args.from.now) (g.A.Disk.faults c.read_block.new.from)) (sym c.unread_block.ensures)
-    (read_blamed c.in-Err.error (g.A.Disk.faults c.args.from.now) (g.A.Disk.faults c.read_block.new.from) live c.in-Err.ensures.cause)
+    (block_blamed (g.A.Disk.faults c.args.from.now) (g.A.Disk.faults c.read_block.new.from) c.in-Err.error live c.in-Err.ensures.cause)
 
 pub returns-in-Err-clause-disk : goal.returns-in-Err-clause-disk
 returns-in-Err-clause-disk g c =
     subst (λ (e : Ending). Blamed (is_target e) (g.B.Disk.faults c.args.to.now) (g.B.Disk.faults c.args.to.now)) (sym c.unread_block.ensures)
-    (read_spares c.in-Err.error (g.B.Disk.faults c.args.to.now))
+    (block_spares c.in-Err.error (g.B.Disk.faults c.args.to.now))
