@@ -39,7 +39,7 @@ push_last (x ∷ xs) y = push_last xs y
 pub push_length : {X : Type 0} (xs : List X) (y : X) (n : ℕ) → length xs ≡ n → length (xs ++ y ∷ []) ≡ n + 1
 push_length [] y n is = omega (arith, is)
 push_length (x ∷ xs) y zero is = absurd (omega (arith, is))
-push_length (x ∷ xs) y (suc n) is = ap suc (push_length xs y n (omega (arith, is)))
+push_length (x ∷ xs) y (suc n) is = let rest = push_length xs y n (omega (arith, is)) in omega (arith, rest)
 
 pub split_at : {X : Type 0} (xs ys : List X) (x : X) → slice_get (xs ++ x ∷ ys) (length xs) ≡ Some x
 split_at [] ys x = refl

@@ -39,7 +39,7 @@ use Rattle.df_copy.specs.declared.ending.Ending.TheVariants.{BlockTooLong, Damag
 use Rattle.df_copy.specs.Copying.{Copied, IsAll, WritesCopy}
 use Rattle.df_copy.specs.Run.{SparesCopies}
 use Rattle.df_copy.specs.Targets.{copy_events, unit_events}
-use Rattle.df_copy.specs.Tests.{is_at_rest, needed, rest_tests, tests}
+use Rattle.df_copy.specs.Tests.{blank_tests, is_at_rest, needed, tests, unit_tests}
 use Rattle.df_copy.specs.Views.{HoldsCopy, IsCopyOf, IsEmpty, file_in}
 use Rattle.df_copy.proofs.Alike.{WereRead, copy_alike}
 use Rattle.df_copy.proofs.Holding.{copy_found, copy_stands, copy_view, copy_whole, mapped, place_shows, shown}
@@ -89,9 +89,12 @@ pub record Passes (layout : Layout) (s : State) : Type 0 where
 
 pub passes_all : (layout : Layout) (s : State) (seen : Shown) (image : Image) → first_refusal (tests layout seen (memory s) image) ≡ None → Passes layout s
 passes_all layout s seen image none =
-    let one = passes_first (not (is_at_rest (memory s))) _ _ none in
-    let two = passes_first (nat_lt layout.clients (length (memory s).sessions)) _ _ one.1 in
-    let three = passes_first (nat_lt layout.blocks (needed layout (memory s))) _ _ two.1 in
+    let behind : List (Bool × Ending) = blank_tests image ++ unit_tests layout seen (memory s) in
+    let full : Bool × Ending = (nat_lt layout.blocks (needed layout (memory s)), TooFewBlocks (needed layout (memory s)) layout.blocks) in
+    let few : Bool × Ending = (nat_lt layout.clients (length (memory s).sessions), TooFewClients (length (memory s).sessions) layout.clients) in
+    let one = passes_first (not (is_at_rest (memory s))) (NotAtRest (memory s).content.op (memory s).head (memory s).replies) (few ∷ full ∷ behind) none in
+    let two = passes_first few.0 few.1 (full ∷ behind) one.1 in
+    let three = passes_first full.0 full.1 behind two.1 in
     record {
       rest = not_false (is_at_rest (memory s)) one.0;
       fits = omega (arith, ltb-false layout.clients (length (memory s).sessions) two.0, length-map s.table.sessions session_of);

@@ -66,9 +66,9 @@ abbrev pub pair_of : Option Message → Option (ℕ × ℕ)
 pair_of None = None
 pair_of (Some u) = Some (u.header.op, number_of u.header.checksum)
 
--- the source's superblock, with the numbers of the layout, these replies, and this trailer. The source is at rest, so its head and its replies are its checkpoint's op
-abbrev pub copied_fields : Layout → SuperFields → List Message → List Message → (size : ℕ) → SuperFields
-copied_fields layout f replies trailer size = record f {
+-- the source's superblock with the numbers of a layout and the checksums of these replies. The source is at rest, so its head and its replies are its checkpoint's op
+abbrev pub fields_in : Layout → SuperFields → List (List ℕ) → SuperFields
+fields_in layout f checks = record f {
   slots = layout.slots;
   message_size = layout.message_size;
   clients = layout.clients;
@@ -77,11 +77,15 @@ copied_fields layout f replies trailer size = record f {
   head = f.op;
   head_checksum = f.op_checksum;
   replies = f.op;
-  reply_checksums = checks_of replies;
-  trailer_address = address_of (last_of trailer);
-  trailer_checksum = check_of (last_of trailer);
-  trailer_size = size;
+  reply_checksums = checks;
 }
+
+-- and with a trailer that ends there
+abbrev pub named_with : (address : ℕ) → (checksum : List ℕ) → (size : ℕ) → SuperFields → SuperFields
+named_with address checksum size f = record f { trailer_address = address; trailer_checksum = checksum; trailer_size = size }
+
+abbrev pub copied_fields : Layout → SuperFields → List Message → List Message → (size : ℕ) → SuperFields
+copied_fields layout f replies trailer size = named_with (address_of (last_of trailer)) (check_of (last_of trailer)) size (fields_in layout f (checks_of replies))
 
 -- ---- the trailer
 

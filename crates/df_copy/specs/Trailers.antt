@@ -17,7 +17,7 @@ use Rattle.df_opening.specs.Below.{State}
 use Rattle.df_copy.specs.declared.ending.Ending.{Ending}
 use Rattle.df_copy.specs.declared.target.Target.{Target}
 use Rattle.df_copy.specs.Acts.{IsWritten}
-use Rattle.df_copy.specs.Targets.{trailer_of}
+use Rattle.df_copy.specs.Targets.{named_with, trailer_of}
 use Rattle.df_copy.specs.Units.{all_events, moved_from}
 
 -- so many blocks of a trailer are to come, and none is written
@@ -43,20 +43,6 @@ NamesLast (Some x) r = pair_in (Some r) ≡ Some x
 abbrev pub IsLastOf : GridState → Reference → Type 0
 IsLastOf g r = NamesLast (last_of g.blocks.left g.blocks.written) r
 
--- the numbers of a layout, and these replies
-abbrev pub fields_in : Layout → SuperFields → List (List ℕ) → SuperFields
-fields_in layout f checks = record f {
-  slots = layout.slots;
-  message_size = layout.message_size;
-  clients = layout.clients;
-  block_size = layout.block_size;
-  blocks = layout.blocks;
-  head = f.op;
-  head_checksum = f.op_checksum;
-  replies = f.op;
-  reply_checksums = checks;
-}
-
 -- and a trailer that ends with this block
 abbrev pub with_trailer : Reference → (size : ℕ) → SuperFields → SuperFields
-with_trailer r size f = record f { trailer_address = r.address; trailer_checksum = r.checksum; trailer_size = size }
+with_trailer r size f = named_with r.address r.checksum size f

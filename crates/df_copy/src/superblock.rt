@@ -6,9 +6,9 @@ ghost use Rattle.df_format.specs.declared.reference.Reference.{Reference};
 ghost use Rattle.df_opening.specs.Below.{memory};
 ghost use Rattle.df_copy.specs.Acts.{IsWritten};
 ghost use Rattle.df_copy.specs.Planning.{IsPlan};
-ghost use Rattle.df_copy.specs.Targets.{superblock_of};
+ghost use Rattle.df_copy.specs.Targets.{fields_in, superblock_of};
 ghost use Rattle.df_copy.specs.Tests.{is_at_rest, needed, references};
-ghost use Rattle.df_copy.specs.Trailers.{IsLastOf, fields_in, with_trailer};
+ghost use Rattle.df_copy.specs.Trailers.{IsLastOf, with_trailer};
 
 use crate::plan::Plan;
 use crate::target::Target;
