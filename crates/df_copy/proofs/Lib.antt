@@ -1,14 +1,17 @@
 pub mod Afters
 pub mod Alike
 pub mod Blamed
+pub mod Blanks
 pub mod BlockRead
 pub mod Blocking
+pub mod Ended
 pub mod Frees
 pub mod Grids
 pub mod Holding
 pub mod Images
 pub mod Joining
 pub mod Listed
+pub mod Naming
 pub mod Opening
 pub mod Pieces
 pub mod Piecewise
@@ -22,6 +25,7 @@ pub mod Seen
 pub mod Sources
 pub mod Spares
 pub mod Trailed
+pub mod Trailing
 pub mod Units
 pub mod Usables
 pub mod Written

@@ -36,8 +36,10 @@ use Rattle.df_opening.proofs.Laws.{added_is_told, shown_after}
 use Rattle.df_replica.specs.Reading.{shown_of}
 use Rattle.df_copy.specs.declared.ending.Ending.{Ending}
 use Rattle.df_copy.specs.declared.ending.Ending.TheVariants.{BlockTooLong, Damaged, NotAtRest, NotBlank, ReplyTooLong, Source, Target, TooFewBlocks, TooFewClients}
-use Rattle.df_copy.specs.Copying.{Copied, IsAll, WritesCopy}
-use Rattle.df_copy.specs.Run.{SparesCopies}
+use Rattle.df_telling.specs.Two.{around}
+use Rattle.df_copy.specs.declared.status.Status.{Status}
+use Rattle.df_copy.specs.Copying.{Copied, CopiesInto, IsAll, WritesCopy}
+use Rattle.df_copy.specs.Run.{CopiesFile, Prints, SparesCopies}
 use Rattle.df_copy.specs.Targets.{copy_events, unit_events}
 use Rattle.df_copy.specs.Tests.{blank_tests, is_at_rest, needed, tests, unit_tests}
 use Rattle.df_copy.specs.Views.{HoldsCopy, IsCopyOf, IsEmpty, file_in}
@@ -220,3 +222,31 @@ pub opened_apart : (t : Told) (s : State) (later : Option Told) → IsImage t.sh
 opened_apart t s later whole mends =
     let opened_as = mends.opened whole in
     subst (λ (q : State). AreApart q.table.sessions) (sym mends.raised) (apart_of mends.found.file.layout.clients mends.found.table.sessions (opened_lawful mends.found t opened_as.view whole opened_as opened_as.found))
+
+-- ---- what is said of it
+
+pub file_copied : (layout : Layout) (t : Told) (s : State) (r : Result (Unit {0}) Ending) (first second later : Option Told) (written wrote : Option (List ℕ)) (status : Status) → IsImage t.shown → IsState s → IsUsable s.fields → s.live ≡ true
+    → MendsAll t s first → CopiesInto layout s first second later r → Prints layout r written wrote status → CopiesFile layout t (around (Some t) second written) (around first later wrote) status
+file_copied layout t s r first second later written wrote status whole state usable live mends copies prints = record {
+  state = s;
+  opened = mends;
+  result = r;
+  copies = copies;
+  prints = prints;
+  spares = λ o is. copy_spares layout s first o later r (subst (λ (x : Option Told). WritesCopy layout s first x later r) is copies.writes);
+  holds = λ m o n done one two three empty view found.
+      let copied : CopiesInto layout s (Some m) (Some o) (Some n) (Ok tt) =
+      subst (CopiesInto layout s (Some m) (Some o) (Some n)) done
+      (subst (λ (x : Option Told). CopiesInto layout s (Some m) (Some o) x r) three (subst (λ (x : Option Told). CopiesInto layout s (Some m) x later r) two (subst (λ (x : Option Told). CopiesInto layout s x second later r) one copies))) in
+      let opened : MendsAll t s (Some m) = subst (MendsAll t s) one mends in
+      copy_holds layout t m o n whole empty s opened view found (record {
+        state = state;
+        usable = usable;
+        live = live;
+        mending = opened.mending;
+        passes = passes_all layout s (shown_of s.file m.shown) o.shown copied.judged;
+        copied = copied.writes.0;
+        all = copied.writes.1;
+        written = copied.writes.2;
+      });
+}

@@ -76,6 +76,16 @@ last_check layout cluster from (t ∷ ts) row =
     let last = row_last layout cluster from t ts row in
     subst (λ (o : Option Message). IsCheck (check_of o)) (sym last.1) (sealed_check last.0.header last.3.sealed)
 
+-- a trailer is no longer than the longest one, and is cut into as many blocks as it fills
+pub trailer_count : (layout : Layout) (s : State) → IsCount (layout.block_size - 256) (trailer_size layout (memory s)) (trailer_blocks layout (memory s))
+trailer_count layout s = count_is (trailer_size layout (memory s)) (layout.block_size - 256) (trailer_blocks layout (memory s)) (omega (arith, layout.block_size_within)) refl
+
+pub size_to : (layout : Layout) (s : State) → length s.root ≤ 1024 → length s.table.sessions ≤ layout.clients → needed layout (memory s) ≤ layout.blocks → trailer_size layout (memory s) ≤ 4 + 1024 + 4 + 32 * layout.clients + (layout.blocks + 7) / 8 + 16 * layout.blocks
+size_to layout s root fits room = elim (cases_eq s.fields.trailer_address 0) [
+  | inl none ↦ let nothing = size_none layout s none in omega (arith, nothing)
+  | inr some ↦ let same = size_some layout s some in omega (arith, same, root, fits, room)
+]
+
 -- ---- all fields
 
 -- the layout has room for all that the source has, whose superblock can be used
@@ -118,7 +128,7 @@ module _ (layout : Layout) (s : State) (rs bs : List Message) (is : IsFitted lay
   long = how_many _ _ _ n
 
   pub count : IsCount (layout.block_size - 256) size n
-  count = count_is size (layout.block_size - 256) n (omega (arith, layout.block_size_within)) refl
+  count = trailer_count layout s
 
   inside : length us + n ≤ layout.blocks
   inside = omega (arith, is.all, is.room, moved_length 1 bs)
@@ -159,12 +169,6 @@ module _ (layout : Layout) (s : State) (rs bs : List Message) (is : IsFitted lay
         | inr any ↦ let some = some_size (omega (arith, any)) in absurd (omega (arith, some, same))
       ], same)
 
-  pub size_to : size ≤ 4 + 1024 + 4 + 32 * layout.clients + (layout.blocks + 7) / 8 + 16 * layout.blocks
-  size_to = elim (cases_eq s.fields.trailer_address 0) [
-    | inl none ↦ let nothing = (no_trailer_there none).1 in omega (arith, nothing)
-    | inr some ↦ let same = (trailer_there some).1 in omega (arith, same, is.state.root, is.fits, is.room)
-  ]
-
   pub copy_super : IsSuper f
   copy_super = record {
     version = inr (record {
@@ -190,7 +194,7 @@ module _ (layout : Layout) (s : State) (rs bs : List Message) (is : IsFitted lay
     );
     trailer_checksum = λ none. elim (cases_eq n 0) [ inl nothing ↦ (named_none nothing).1 | inr any ↦ let last = named_some (omega (arith, any)) in absurd (omega (arith, last, none, any)) ];
     no_trailer = λ none. elim (cases_eq n 0) [ inl nothing ↦ no_size nothing | inr any ↦ let last = named_some (omega (arith, any)) in absurd (omega (arith, last, none, any)) ];
-    trailer_size = λ some. (elim (cases_eq n 0) [ inl nothing ↦ absurd (some (named_none nothing).0) | inr any ↦ some_size (omega (arith, any)) ], size_to);
+    trailer_size = λ some. (elim (cases_eq n 0) [ inl nothing ↦ absurd (some (named_none nothing).0) | inr any ↦ some_size (omega (arith, any)) ], size_to layout s is.state.root is.fits is.room);
     zero = is.state.second.first_nonzero;
   }
 
@@ -219,7 +223,7 @@ module _ (layout : Layout) (s : State) (rs bs : List Message) (is : IsNamed layo
       replies = is.usable.fits.op;
       trailer_address = omega (arith, rules.trailer.0, layout.blocks_within);
       trailer_checksum = last_check layout s.file.cluster (length (moved_from 1 bs) + 1) (trailer_of layout s (moved_from 1 bs)) (trailer_in_row layout s rs bs is.writable);
-      trailer_size = (let to = size_to layout s rs bs (fitted layout s rs bs is) in omega (arith, to, layout.clients_within, layout.blocks_within));
+      trailer_size = (let to = size_to layout s is.writable.state.root is.fits is.writable.room in omega (arith, to, layout.clients_within, layout.blocks_within));
       boot = is.usable.fits.boot;
       head_checksum = is.usable.fits.op_checksum;
       reply_checksums = record {
