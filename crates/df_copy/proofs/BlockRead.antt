@@ -46,10 +46,10 @@ module _ (s : State) (from : Option Told) (address : ℕ) where
   block_unit u known cluster same = subst (λ (c : ℕ). IsBlockOf c address u) (sym same) (record { own = s.file.layout; is = known.is; kind = known.of_kind })
 
   -- one that isn't shown as it is known ends the copy
-  pub block_unread : {T : Type 0} (layout : Layout) (t n : Target) (new : Option Told) (e : ReadError) → (e ≡ read.NotLive → ⊥) → IsReadBlock address s from (Err e) → CopiesBlock {T = T} layout address s t n from new new (Err (block_ending e))
-  block_unread layout t n new read.DiskFault live exact = refl
-  block_unread layout t n new read.NotLive live exact = absurd (live refl)
-  block_unread layout t n new (read.Damaged at class) live exact = (there from exact, refl)
+  pub block_unread : (T : Type 0) (layout : Layout) (t n : Target) (new : Option Told) (e : ReadError) → (e ≡ read.NotLive → ⊥) → IsReadBlock address s from (Err e) → CopiesBlock {T = T} layout address s t n from new new (Err (block_ending e))
+  block_unread T layout t n new read.DiskFault live exact = refl
+  block_unread T layout t n new read.NotLive live exact = absurd (live refl)
+  block_unread T layout t n new (read.Damaged at class) live exact = (there from exact, refl)
     where
       there : (o : Option Told) → IsReadBlock address s o (Err (read.Damaged at class)) → OverShown s.file o (λ shown. block_test layout address (block_read shown (memory s) (ReadBlock address)) ≡ (true, Damaged at class))
       there None given = tt

@@ -162,18 +162,18 @@ module _ (layout : Layout) (s : State) (rs : List Message) (from old : Option To
             (λ shown rest there. tested shown rest ∙ ap (λ (q : Bool × Ending). first_refusal (q ∷ block_tests_of layout shown (memory s) (behind_of s (b + 1)))) there),
           is.bs, is.are, copies.1 ∙ is.events)
 
-      stopped : {T : Type 0} (u all : Target) (newer : Option Told) (e : Ending) → CopiesBlock {T = T} layout (b + 1) s t u from new newer (Err e) → CopiesBlocks {T = T} layout s rs all from old newer (Err e)
-      stopped u all newer TargetFails copies =
+      stopped : (T : Type 0) (u all : Target) (newer : Option Told) (e : Ending) → CopiesBlock {T = T} layout (b + 1) s t u from new newer (Err e) → CopiesBlocks {T = T} layout s rs all from old newer (Err e)
+      stopped T u all newer TargetFails copies =
           (is.bs ++ copies.0 ∷ [], fit_push copies.0 copies.1,
           subst (λ (l : List Event). AddsPart l old newer) (sym (events_to copies.0 copies.1)) (all_then (all_events (made_events layout) (moved_from 1 is.bs)) (made_events layout (moved (t.copied + 1) copies.0)) old new newer is.events copies.2))
-      stopped u all newer Source copies = (is.bs, is.are, copies ∙ is.events)
-      stopped u all newer (NotAtRest a c d) copies = ends_refused (NotAtRest a c d) newer copies
-      stopped u all newer (TooFewClients a c) copies = ends_refused (TooFewClients a c) newer copies
-      stopped u all newer (TooFewBlocks a c) copies = ends_refused (TooFewBlocks a c) newer copies
-      stopped u all newer (NotBlank a) copies = ends_refused (NotBlank a) newer copies
-      stopped u all newer (ReplyTooLong a c) copies = ends_refused (ReplyTooLong a c) newer copies
-      stopped u all newer (BlockTooLong a c) copies = ends_refused (BlockTooLong a c) newer copies
-      stopped u all newer (Damaged a c) copies = ends_refused (Damaged a c) newer copies
+      stopped T u all newer Source copies = (is.bs, is.are, copies ∙ is.events)
+      stopped T u all newer (NotAtRest a c d) copies = ends_refused (NotAtRest a c d) newer copies
+      stopped T u all newer (TooFewClients a c) copies = ends_refused (TooFewClients a c) newer copies
+      stopped T u all newer (TooFewBlocks a c) copies = ends_refused (TooFewBlocks a c) newer copies
+      stopped T u all newer (NotBlank a) copies = ends_refused (NotBlank a) newer copies
+      stopped T u all newer (ReplyTooLong a c) copies = ends_refused (ReplyTooLong a c) newer copies
+      stopped T u all newer (BlockTooLong a c) copies = ends_refused (BlockTooLong a c) newer copies
+      stopped T u all newer (Damaged a c) copies = ends_refused (Damaged a c) newer copies
 
     -- ---- both
 
@@ -181,9 +181,9 @@ module _ (layout : Layout) (s : State) (rs : List Message) (from old : Option To
     blocking_more y u newer None found copies = skipped found u newer copies.0 copies.1
     blocking_more y u newer (Some sum) found copies = took sum found u newer y copies
 
-    pub blocking_ends : {T : Type 0} (u all : Target) (newer : Option Told) (e : Ending) (o : Option ℕ) → sum_at (b + 1) s.blocks.live ≡ o → CopiesAt {T = T} layout (b + 1) o s t u from new newer (Err e) → CopiesBlocks {T = T} layout s rs all from old newer (Err e)
-    blocking_ends u all newer e None found copies = absurd copies
-    blocking_ends u all newer e (Some sum) found copies = stopped sum found u all newer e copies
+    pub blocking_ends : (T : Type 0) (u all : Target) (newer : Option Told) (e : Ending) (o : Option ℕ) → sum_at (b + 1) s.blocks.live ≡ o → CopiesAt {T = T} layout (b + 1) o s t u from new newer (Err e) → CopiesBlocks {T = T} layout s rs all from old newer (Err e)
+    blocking_ends T u all newer e None found copies = absurd copies
+    blocking_ends T u all newer e (Some sum) found copies = stopped sum found T u all newer e copies
 
   -- behind the last address all are written, and no test holds
   pub blocking_all : {T : Type 0} (y : T) (t : Target) (new : Option Told) (b : ℕ) → b ≡ addresses_of s → IsBlocking layout s rs t from old new b → CopiesBlocks layout s rs t from old new (Ok y)

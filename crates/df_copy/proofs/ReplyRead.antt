@@ -79,18 +79,24 @@ pub record HasSession (client : ℕ) (xs : List told.Session) : Type 0 where
   pub at : slice_get xs place ≡ Some session
   pub is : session_of_client client (sessions_of xs) ≡ Some (session_of session)
 
+-- the session at the head of the table
+first_of : (client : ℕ) (y : told.Session) (ys : List told.Session) → y.client ≡ client → HasSession client (y ∷ ys)
+first_of client y ys same = record { place = 0; session = y; at = refl; is = ap (λ (b : Bool). if b then Some (session_of y) else session_of_client client (sessions_of ys)) (eq-eqb y.client client same) }
+
 has_session : (xs : List told.Session) (k : ℕ) (x : told.Session) → slice_get xs k ≡ Some x → HasSession x.client xs
 has_session [] k x at = absurd (none-some x at)
-has_session (y ∷ ys) k x at = elim (cases_eq y.client x.client) [
-  | inl same ↦ record { place = 0; session = y; at = refl; is = ap (λ (b : Bool). if b then Some (session_of y) else session_of_client x.client (sessions_of ys)) (eq-eqb y.client x.client same) }
-  | inr other ↦ further k at other
-]
-  where
-    further : (j : ℕ) → slice_get (y ∷ ys) j ≡ Some x → (y.client ≡ x.client → ⊥) → HasSession x.client (y ∷ ys)
-    further zero there other = absurd (other (ap (λ (z : told.Session). z.client) (same_Some y x there)))
-    further (suc j) there other =
-        let more = has_session ys j x there in
-        record { place = suc more.place; session = more.session; at = more.at; is = ap (λ (b : Bool). if b then Some (session_of y) else session_of_client x.client (sessions_of ys)) (ne_eqb y.client x.client other) ∙ more.is }
+has_session (y ∷ ys) zero x at = first_of x.client y ys (ap (λ (z : told.Session). z.client) (same_Some y x at))
+has_session (y ∷ ys) (suc k) x at =
+    let more = has_session ys k x at in
+    elim (cases_eq y.client x.client) [
+      | inl same ↦ first_of x.client y ys same
+      | inr other ↦ record {
+          place = suc more.place;
+          session = more.session;
+          at = more.at;
+          is = ap (λ (b : Bool). if b then Some (session_of y) else session_of_client x.client (sessions_of ys)) (ne_eqb y.client x.client other) ∙ more.is;
+        }
+    ]
 
 pub rest_is : (s : State) → is_at_rest (memory s) ≡ true → (s.fields.op ≡ s.head) × (s.head ≡ s.replies)
 rest_is s rest =
@@ -124,11 +130,11 @@ module _ (s : State) (from : Option Told) (client place : ℕ) where
       there (Some t) read = subst (λ (k : ℕ). reply_at (shown_of s.file t.shown) (reply_sum (memory s) k) k ≡ Ok (message_of u)) is (sym read.1)
 
   -- a reply that isn't shown as it is known ends the copy
-  pub reply_unread : {T : Type 0} (layout : Layout) (before behind : List (List ℕ)) (new : Option Told) (e : LookupError) → place_for s client ≡ place → first_refusal (lookup_refusals (memory s) client) ≡ None → IsReadReply client s from (Err e) → CopiesReply {T = T} layout place s before behind from new new (Err (reply_ending e))
-  reply_unread layout before behind new lookup.DiskFault is none exact = refl
-  reply_unread layout before behind new lookup.NoClient is none exact = absurd (not_no_client s from client lookup.NoClient none exact refl)
-  reply_unread layout before behind new (lookup.ReplyPending op) is none exact = absurd (not_pending s from client (lookup.ReplyPending op) none exact op refl)
-  reply_unread layout before behind new (lookup.Damaged at class) is none exact = (there from exact, refl)
+  pub reply_unread : (T : Type 0) (layout : Layout) (before behind : List (List ℕ)) (new : Option Told) (e : LookupError) → place_for s client ≡ place → first_refusal (lookup_refusals (memory s) client) ≡ None → IsReadReply client s from (Err e) → CopiesReply {T = T} layout place s before behind from new new (Err (reply_ending e))
+  reply_unread T layout before behind new lookup.DiskFault is none exact = refl
+  reply_unread T layout before behind new lookup.NoClient is none exact = absurd (not_no_client s from client lookup.NoClient none exact refl)
+  reply_unread T layout before behind new (lookup.ReplyPending op) is none exact = absurd (not_pending s from client (lookup.ReplyPending op) none exact op refl)
+  reply_unread T layout before behind new (lookup.Damaged at class) is none exact = (there from exact, refl)
     where
       there : (o : Option Told) → IsReadReply client s o (Err (lookup.Damaged at class)) → OverShown s.file o (λ shown. reply_test layout place (reply_at shown (reply_sum (memory s) place) place) ≡ (true, Damaged at class))
       there None read = tt

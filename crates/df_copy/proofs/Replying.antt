@@ -69,13 +69,10 @@ module _ (layout : Layout) (s : State) (from old : Option Told) where
   module _ (now : List (List ℕ)) (new : Option Told) (n : ℕ) (less : n < length (memory s).sessions) (is : IsReplying layout s now from old new n) where
     -- the test of the next place, and those behind it
     next_test : (shown : Shown) → reply_tests_from layout shown (memory s) n (length (memory s).sessions - n) ≡ reply_test layout n (reply_at shown (reply_sum (memory s) n) n) ∷ reply_tests_from layout shown (memory s) (n + 1) (length (memory s).sessions - (n + 1))
-    next_test shown = ap (λ (k : ℕ). reply_tests_from layout shown (memory s) n k) one_more ∙ ap (λ (k : ℕ). reply_test layout n (reply_at shown (reply_sum (memory s) n) n) ∷ reply_tests_from layout shown (memory s) k (length (memory s).sessions - (n + 1))) (next n)
+    next_test shown = ap (λ (k : ℕ). reply_tests_from layout shown (memory s) n k) one_more
       where
         one_more : length (memory s).sessions - n ≡ suc (length (memory s).sessions - (n + 1))
         one_more = omega (arith, less)
-
-        next : (k : ℕ) → suc k ≡ k + 1
-        next k = omega arith
 
     pub replying_more : (behind : List (List ℕ)) (newer : Option Told) → n < named_places → (r : Message) → FitsReply layout s from n r → newer ≡ after_all (reply_events layout r) new → behind ≡ slice_set now n r.header.checksum
         → IsReplying layout s behind from old newer (n + 1)
@@ -119,18 +116,18 @@ module _ (layout : Layout) (s : State) (from old : Option Told) where
           (λ shown. first_refusal (reply_tests layout shown (memory s)) ≡ Some e) is.rest copies.0 (refused e),
         is.rs, is.are, copies.1 ∙ is.events)
 
-    pub replying_ends : {T : Type 0} (behind all : List (List ℕ)) (newer : Option Told) (e : Ending) → CopiesReply {T = T} layout n s now behind from new newer (Err e) → CopiesReplies {T = T} layout s all from old newer (Err e)
-    replying_ends behind all newer TargetFails one =
+    pub replying_ends : (T : Type 0) (behind all : List (List ℕ)) (newer : Option Told) (e : Ending) → CopiesReply {T = T} layout n s now behind from new newer (Err e) → CopiesReplies {T = T} layout s all from old newer (Err e)
+    replying_ends T behind all newer TargetFails one =
         (is.rs ++ one.0 ∷ [], fit_push layout s from is.rs one.0 is.are (subst (λ (k : ℕ). FitsReply layout s from k one.0) (sym is.count) one.1),
         subst (λ (l : List Event). AddsPart l old newer) (sym (events_push (reply_events layout) is.rs one.0)) (all_then (all_events (reply_events layout) is.rs) (reply_events layout one.0) old new newer is.events one.2))
-    replying_ends behind all newer Source one = (is.rs, is.are, one ∙ is.events)
-    replying_ends behind all newer (NotAtRest a b c) one = ends_refused (NotAtRest a b c) newer one
-    replying_ends behind all newer (TooFewClients a b) one = ends_refused (TooFewClients a b) newer one
-    replying_ends behind all newer (TooFewBlocks a b) one = ends_refused (TooFewBlocks a b) newer one
-    replying_ends behind all newer (NotBlank a) one = ends_refused (NotBlank a) newer one
-    replying_ends behind all newer (ReplyTooLong a b) one = ends_refused (ReplyTooLong a b) newer one
-    replying_ends behind all newer (BlockTooLong a b) one = ends_refused (BlockTooLong a b) newer one
-    replying_ends behind all newer (Damaged a b) one = ends_refused (Damaged a b) newer one
+    replying_ends T behind all newer Source one = (is.rs, is.are, one ∙ is.events)
+    replying_ends T behind all newer (NotAtRest a b c) one = ends_refused (NotAtRest a b c) newer one
+    replying_ends T behind all newer (TooFewClients a b) one = ends_refused (TooFewClients a b) newer one
+    replying_ends T behind all newer (TooFewBlocks a b) one = ends_refused (TooFewBlocks a b) newer one
+    replying_ends T behind all newer (NotBlank a) one = ends_refused (NotBlank a) newer one
+    replying_ends T behind all newer (ReplyTooLong a b) one = ends_refused (ReplyTooLong a b) newer one
+    replying_ends T behind all newer (BlockTooLong a b) one = ends_refused (BlockTooLong a b) newer one
+    replying_ends T behind all newer (Damaged a b) one = ends_refused (Damaged a b) newer one
 
   -- behind the last place all are written, and no test holds
   pub replying_all : {T : Type 0} (x : T) (now : List (List ℕ)) (new : Option Told) → IsReplying layout s now from old new (length s.table.sessions) → length (memory s).sessions ≡ length s.table.sessions → CopiesReplies layout s now from old new (Ok x)

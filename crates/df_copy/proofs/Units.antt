@@ -59,7 +59,7 @@ reply_same layout h body may = made_same h body may.unit.sealed may.unit.body
 
 -- ---- a block
 
-abbrev at_address : ℕ → Header → Header
+abbrev pub at_address : ℕ → Header → Header
 at_address address h = record h { op = address }
 
 block_version : (h : Header) (address : ℕ) → ObeysVersion Block h → ObeysVersion Block (at_address address h)

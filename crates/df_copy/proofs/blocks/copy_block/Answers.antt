@@ -3,6 +3,7 @@ use Rattle.std.proofs.Common.{◌≡◌, ◌∙◌, ℕ, Option, Err, Result, ap
 use Rattle.df_base.specs.Causes.{Blamed}
 use Rattle.df_disk.specs.Told.{Told}
 use Rattle.df_format.specs.Message.{Message}
+use Rattle.df_grid.specs.Grid.{GridState}
 use Rattle.df_model.specs.Faults.{is_read_fault}
 use Rattle.df_opening.specs.Below.{State}
 use Rattle.df_replica.specs.Stopping.{left_by}
@@ -17,7 +18,10 @@ use Rattle.df_copy.proofs.blocks.copy_block.Goals as goal
 -- ---- it is
 
 pub put_block-requires-clause-unit : goal.put_block-requires-clause-unit
-put_block-requires-clause-unit g c = block_unit c.args.replica.now (g.A.Disk.told c.args.from.now) c.args.address c.in-Ok.unit.now.unit c.in-Ok.ensures.lent c.args.target.now.grid.cluster (ap (λ (x : _). x.cluster) c.requires.begun.2.grid)
+put_block-requires-clause-unit g c = block_unit c.args.replica.now (g.A.Disk.told c.args.from.now) c.args.address c.in-Ok.unit.now.unit c.in-Ok.ensures.lent c.args.target.now.grid.cluster (ap (λ (x : GridState). x.cluster) c.requires.begun.2.grid)
+
+pub put_block-requires-clause-begun : goal.put_block-requires-clause-begun
+put_block-requires-clause-begun g c = (c.args.replica.now.file.cluster, c.requires.begun.0, c.requires.begun.1, c.requires.begun.2)
 
 pub returns-in-Ok-clause-copies : goal.returns-in-Ok-clause-copies
 returns-in-Ok-clause-copies g c =
@@ -32,7 +36,7 @@ returns-in-Ok-clause-kept g c = on_ok c.put_block.result (c.read_block.follows.h
 pub returns-in-Ok-clause-source : goal.returns-in-Ok-clause-source
 returns-in-Ok-clause-source g c =
     let t : Target = c.args.target.now in
-    unblamed c.put_block.result (g.A.Disk.faults c.args.from.now) (g.A.Disk.faults c.read_block.new.from)
+    unblamed c.put_block.result (g.A.Disk.faults c.args.from.now) (g.A.Disk.faults c.read_block.new.disk)
     (λ is. subst (λ (r : Result (Unit {0}) Ending). PutsBlock c.args.address c.in-Ok.unit.now.unit t c.put_block.new.target (g.B.Disk.told c.args.to.now) (g.B.Disk.told c.put_block.new.to) r) is c.put_block.ensures.puts) c.in-Ok.ensures.cause
 
 -- ---- it isn't
@@ -48,13 +52,13 @@ returns-in-Err-clause-copies g c =
     let to : Option Told = g.B.Disk.told c.args.to.now in
     let live = live_there s from c.args.address c.in-Err.error c.requires.known c.in-Err.ensures.exact in
     subst (λ (e : Ending). CopiesBlock {T = Unit {0}} t.layout c.args.address s t t from to to (Err e)) (sym c.unread_block.ensures)
-    (block_unread s from c.args.address {T = Unit {0}} t.layout t t to c.in-Err.error live c.in-Err.ensures.exact)
+    (block_unread s from c.args.address (Unit {0}) t.layout t t to c.in-Err.error live c.in-Err.ensures.exact)
 
 pub returns-in-Err-clause-source : goal.returns-in-Err-clause-source
 returns-in-Err-clause-source g c =
     let live = live_there c.args.replica.now (g.A.Disk.told c.args.from.now) c.args.address c.in-Err.error c.requires.known c.in-Err.ensures.exact in
-    subst (λ (e : Ending). Blamed (is_source e) (g.A.Disk.faults c.args.from.now) (g.A.Disk.faults c.read_block.new.from)) (sym c.unread_block.ensures)
-    (block_blamed (g.A.Disk.faults c.args.from.now) (g.A.Disk.faults c.read_block.new.from) c.in-Err.error live c.in-Err.ensures.cause)
+    subst (λ (e : Ending). Blamed (is_source e) (g.A.Disk.faults c.args.from.now) (g.A.Disk.faults c.read_block.new.disk)) (sym c.unread_block.ensures)
+    (block_blamed (g.A.Disk.faults c.args.from.now) (g.A.Disk.faults c.read_block.new.disk) c.in-Err.error live c.in-Err.ensures.cause)
 
 pub returns-in-Err-clause-disk : goal.returns-in-Err-clause-disk
 returns-in-Err-clause-disk g c =

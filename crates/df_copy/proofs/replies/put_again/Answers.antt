@@ -1,5 +1,5 @@
 -- The unit that is made is the one that was read, and it is written into the place that it names.
-use Rattle.std.proofs.Common.{◌≡◌, ◌+◌, List, [], ◌∷◌, length, Option, Some, ℕ, sym, ap, subst, ◌∙◌}
+use Rattle.std.proofs.Common.{◌≡◌, ◌+◌, List, [], ◌∷◌, length, take, Option, None, Some, ℕ, refl, sym, ap, subst, ◌∙◌}
 use Rattle.std.specs.Prelude.{IsSome}
 use Rattle.df_base.specs.Log.{Event, Write}
 use Rattle.df_disk.specs.Adds.{Adds}

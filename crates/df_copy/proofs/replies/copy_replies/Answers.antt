@@ -1,0 +1,73 @@
+-- One reply after the other.
+use Rattle.std.proofs.Common.{◌≡◌, ◌∙◌, ℕ, ◌<◌, List, length, Option, Result, Ok, Err, refl, sym, ap, subst, arith}
+use Rattle.df_disk.specs.Told.{Told}
+use Rattle.df_layout.specs.declared.layout.Layout.{Layout}
+use Rattle.df_sessions.specs.Table.{AreApart}
+use Rattle.df_model.specs.declared.answers.Summary.{Summary}
+use Rattle.df_opening.specs.Below.{State, memory}
+use Rattle.df_copy.specs.declared.ending.Ending.{Ending}
+use Rattle.df_copy.specs.declared.target.Target.{Target}
+use Rattle.df_copy.specs.Acts.{CopiesReply}
+use Rattle.df_copy.proofs.Planning.{how_many}
+use Rattle.df_copy.proofs.Replying.{replying_ends, replying_more, replying_none}
+use Rattle.df_copy.proofs.replies.copy_replies.Goals as goal
+
+-- what is said of a turn is said of the source and the target as they were at the entry
+at_entry : {T : Type 0} (place : ℕ) (before behind : List (List ℕ)) (old new : Option Told) (r : Result T Ending) (layout l : Layout) (s q : State) (from o : Option Told) → l ≡ layout → q ≡ s → o ≡ from
+    → (AreApart q.table.sessions → CopiesReply l place q before behind o old new r) → AreApart s.table.sessions → CopiesReply layout place s before behind from old new r
+at_entry place before behind old new r layout l s q from o layouts states told copies =
+    subst (λ (x : Layout). AreApart s.table.sessions → CopiesReply x place s before behind from old new r) layouts
+    (subst (λ (x : Option Told). AreApart s.table.sessions → CopiesReply l place s before behind x old new r) told
+    (subst (λ (x : State). AreApart x.table.sessions → CopiesReply l place x before behind o old new r) states copies))
+
+inside : (n sessions : ℕ) (s : State) → n < sessions → sessions ≡ length s.table.sessions → n < length (memory s).sessions
+inside n sessions s less is = let all = how_many s in omega (arith, less, is, all)
+
+pub loop-place-init : goal.loop-place-init
+loop-place-init g c = record {
+  kept = refl;
+  same = refl;
+  source_faults = refl;
+  target_faults = refl;
+  grid = record { layout_is = refl; grid = refl; copied = refl };
+  replying = λ apart. replying_none c.args.target.now.layout c.args.replica.now (g.A.Disk.told c.args.from.now) (g.B.Disk.told c.args.to.now) c.args.target.now.checks c.requires.target.checks;
+}
+
+pub returns-in-Err-clause-copies : goal.returns-in-Err-clause-copies
+returns-in-Err-clause-copies g c = λ apart.
+    let s : State = c.args.replica.now in
+    let layout : Layout = c.args.target.now.layout in
+    let from : Option Told = g.A.Disk.told c.args.from.now in
+    let t : Target = c.loop-place.target in
+    let n : ℕ = c.loop-place.place in
+    let i = c.loop-place.invariant in
+    let sessions = ap (λ (x : Summary). x.sessions) c.summary-place-end.ensures in
+    replying_ends layout s from (g.B.Disk.told c.args.to.now) t.checks (g.B.Disk.told c.loop-place.to) n (inside n c.summary-place-end.result.sessions s c.loop-place-test.true sessions) (i.replying apart)
+    (Unit {0}) c.copy_reply.new.target.checks c.copy_reply.new.target.checks (g.B.Disk.told c.copy_reply.new.to) c.in-Err.ending
+    (at_entry n t.checks c.copy_reply.new.target.checks (g.B.Disk.told c.loop-place.to) (g.B.Disk.told c.copy_reply.new.to) (Err c.in-Err.ending) layout t.layout s c.loop-place.replica from (g.A.Disk.told c.loop-place.from) i.grid.layout_is i.kept i.same
+      c.in-Err.ensures.copies apart)
+
+pub loop-place-preserved : goal.loop-place-preserved
+loop-place-preserved g c =
+    let s : State = c.args.replica.now in
+    let layout : Layout = c.args.target.now.layout in
+    let from : Option Told = g.A.Disk.told c.args.from.now in
+    let t : Target = c.loop-place.target in
+    let n : ℕ = c.loop-place.place in
+    let i = c.loop-place.invariant in
+    let k = c.in-Ok.ensures.grid in
+    let sessions = ap (λ (x : Summary). x.sessions) c.summary-place-end.ensures in
+    let less = inside n c.summary-place-end.result.sessions s c.loop-place-test.true sessions in
+    let few : n < 64 = omega (arith, sessions, layout.clients_within.1) in
+    record {
+      kept = c.in-Ok.ensures.kept ∙ i.kept;
+      same = c.in-Ok.ensures.same ∙ i.same;
+      source_faults = c.in-Ok.ensures.source ∙ i.source_faults;
+      target_faults = c.in-Ok.ensures.disk ∙ i.target_faults;
+      grid = record { layout_is = k.layout_is ∙ i.grid.layout_is; grid = k.grid ∙ i.grid.grid; copied = k.copied ∙ i.grid.copied };
+      replying = λ apart.
+          let one =
+          at_entry n t.checks c.copy_reply.new.target.checks (g.B.Disk.told c.loop-place.to) (g.B.Disk.told c.copy_reply.new.to) (Ok c.in-Ok.field-0) layout t.layout s c.loop-place.replica from (g.A.Disk.told c.loop-place.from) i.grid.layout_is i.kept i.same
+            c.in-Ok.ensures.copies apart in
+          replying_more layout s from (g.B.Disk.told c.args.to.now) t.checks (g.B.Disk.told c.loop-place.to) n less (i.replying apart) c.copy_reply.new.target.checks (g.B.Disk.told c.copy_reply.new.to) few one.0 one.1 one.2 one.3;
+    }
