@@ -23,7 +23,7 @@ module _ (layout : Layout) (s : State) where
   abbrev sessions : ℕ
   sessions = length (memory s).sessions
 
-  how_many : sessions ≡ length s.table.sessions
+  pub how_many : sessions ≡ length s.table.sessions
   how_many = length-map s.table.sessions session_of
 
   abbrev resting : Ending

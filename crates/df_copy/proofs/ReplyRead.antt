@@ -177,9 +177,9 @@ module _ {T : Type 0} (s : State) (place : ℕ) (u : Message) (t n : Target) (fr
           ∙ ap (λ (k : ℕ). (true, ReplyTooLong k (256 + length u.body))) (sym slot ∙ sym puts.0)
           ∙ ap (λ (k : ℕ). (true, ReplyTooLong p k)) (sym puts.1)
   reply_put (Err Source) puts = absurd puts
+  reply_put (Err (Damaged a b)) puts = absurd puts
+  reply_put (Err (NotBlank a)) puts = absurd puts
+  reply_put (Err (BlockTooLong a b)) puts = absurd puts
   reply_put (Err (NotAtRest a b c)) puts = absurd puts
   reply_put (Err (TooFewClients a b)) puts = absurd puts
   reply_put (Err (TooFewBlocks a b)) puts = absurd puts
-  reply_put (Err (NotBlank a)) puts = absurd puts
-  reply_put (Err (BlockTooLong a b)) puts = absurd puts
-  reply_put (Err (Damaged a b)) puts = absurd puts

@@ -121,13 +121,13 @@ module _ (layout : Layout) (s : State) (from old : Option Told) where
         (is.rs ++ one.0 ∷ [], fit_push layout s from is.rs one.0 is.are (subst (λ (k : ℕ). FitsReply layout s from k one.0) (sym is.count) one.1),
         subst (λ (l : List Event). AddsPart l old newer) (sym (events_push (reply_events layout) is.rs one.0)) (all_then (all_events (reply_events layout) is.rs) (reply_events layout one.0) old new newer is.events one.2))
     replying_ends T behind all newer Source one = (is.rs, is.are, one ∙ is.events)
-    replying_ends T behind all newer (NotAtRest a b c) one = ends_refused (NotAtRest a b c) newer one
-    replying_ends T behind all newer (TooFewClients a b) one = ends_refused (TooFewClients a b) newer one
-    replying_ends T behind all newer (TooFewBlocks a b) one = ends_refused (TooFewBlocks a b) newer one
+    replying_ends T behind all newer (Damaged a b) one = ends_refused (Damaged a b) newer one
     replying_ends T behind all newer (NotBlank a) one = ends_refused (NotBlank a) newer one
     replying_ends T behind all newer (ReplyTooLong a b) one = ends_refused (ReplyTooLong a b) newer one
     replying_ends T behind all newer (BlockTooLong a b) one = ends_refused (BlockTooLong a b) newer one
-    replying_ends T behind all newer (Damaged a b) one = ends_refused (Damaged a b) newer one
+    replying_ends T behind all newer (NotAtRest a b c) one = ends_refused (NotAtRest a b c) newer one
+    replying_ends T behind all newer (TooFewClients a b) one = ends_refused (TooFewClients a b) newer one
+    replying_ends T behind all newer (TooFewBlocks a b) one = ends_refused (TooFewBlocks a b) newer one
 
   -- behind the last place all are written, and no test holds
   pub replying_all : {T : Type 0} (x : T) (now : List (List ℕ)) (new : Option Told) → IsReplying layout s now from old new (length s.table.sessions) → length (memory s).sessions ≡ length s.table.sessions → CopiesReplies layout s now from old new (Ok x)

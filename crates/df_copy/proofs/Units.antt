@@ -67,37 +67,16 @@ block_version h address (inl first) = inl (record { version = first.version; boo
 block_version h address (inr second) = inr (record { version = second.version; boot = second.boot; group = second.group })
 
 block_kind : (h : Header) (address : ℕ) → 0 < address → ObeysBlock h → ObeysBlock (at_address address h)
-block_kind h address some obeys = record {
-  parent = obeys.parent;
-  client = obeys.client;
-  op = some;
-  request = obeys.request;
-  mark = obeys.mark;
-  checkpoint = obeys.checkpoint;
-  slot = obeys.slot;
-  block_kind = obeys.block_kind;
-}
+block_kind h address some obeys =
+    record { parent = obeys.parent; client = obeys.client; op = some; request = obeys.request; mark = obeys.mark; checkpoint = obeys.checkpoint; slot = obeys.slot; block_kind = obeys.block_kind }
 
 -- a block's header at another address obeys the rules
 pub moved_rules : (h : Header) (address : ℕ) → h.kind ≡ Block → 0 < address → address < 2 ^ 64 → ObeysRules h → ObeysRules (at_address address h)
 moved_rules h address kind some small rules = record {
-  fits = record {
-    body = rules.fits.body;
-    cluster = rules.fits.cluster;
-    parent = rules.fits.parent;
-    client = rules.fits.client;
-    op = small;
-    request = rules.fits.request;
-    mark = rules.fits.mark;
-    checkpoint = rules.fits.checkpoint;
-    size = rules.fits.size;
-    slot = rules.fits.slot;
-    block_kind = rules.fits.block_kind;
-    version = rules.fits.version;
-    boot = rules.fits.boot;
-    group = rules.fits.group;
-    group_last = rules.fits.group_last;
-  };
+  fits = (let f = rules.fits in record {
+    body = f.body; cluster = f.cluster; parent = f.parent; client = f.client; op = small; request = f.request; mark = f.mark; checkpoint = f.checkpoint; size = f.size;
+    slot = f.slot; block_kind = f.block_kind; version = f.version; boot = f.boot; group = f.group; group_last = f.group_last;
+  });
   cluster = rules.cluster;
   size = rules.size;
   kind = subst (λ (k : Kind). ObeysKind k (at_address address h)) (sym kind) (block_kind h address some (subst (λ (k : Kind). ObeysKind k h) kind rules.kind));

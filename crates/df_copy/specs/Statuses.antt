@@ -20,6 +20,10 @@ number_of ends.DiskFault = 5
 number_of ends.WriteFault = 7
 number_of ends.Memory = 8
 
+-- it ended by what it did with the files: neither for want of memory nor for its words
+abbrev pub EndsWithFiles : Status → Type 0
+EndsWithFiles status = (status ≡ ends.Memory → ⊥) × (status ≡ ends.Words → ⊥)
+
 -- the source's disk failed
 abbrev pub is_source : Ending → Bool
 is_source Source = true
@@ -33,10 +37,6 @@ is_target e = false
 -- one of the two did
 abbrev pub is_fault : Ending → Bool
 is_fault e = is_source e || is_target e
-
--- it ended by what it did with the files: neither for want of memory nor for its words
-abbrev pub EndsWithFiles : Status → Type 0
-EndsWithFiles status = (status ≡ ends.Memory → ⊥) × (status ≡ ends.Words → ⊥)
 
 -- why the target isn't begun; its cluster is never refused, since a file has one
 abbrev pub blank_ending : FormatError → Ending

@@ -94,9 +94,9 @@ fn unread_block(error: ReadError) -> Ending
     ensures { result ≡ block_ending error }
 {
     match error {
-        ReadError::Damaged { place, class } => Ending::Damaged { place, class },
-        ReadError::DiskFault => Ending::Source,
         ReadError::NotLive => unreachable!(),
+        ReadError::DiskFault => Ending::Source,
+        ReadError::Damaged { place, class } => Ending::Damaged { place, class },
     }
 }
 

@@ -4,17 +4,17 @@
 #[derive(Clone, Copy, Debug, PartialEq, Eq)]
 pub enum Status {
     /// The target is whole.
-    Done,
+    Done = 0,
     /// The words have no meaning.
-    Words,
+    Words = 2,
     /// The source isn't opened, for another cause than a disk's failure; or it isn't at rest, it doesn't fit the layout, a reply or a block of it is damaged, or the target isn't blank.
-    Refused,
+    Refused = 4,
     /// One of the two disks failed.
-    DiskFault,
+    DiskFault = 5,
     /// The sink failed, whatever else happened.
-    WriteFault,
+    WriteFault = 7,
     /// Want of memory, before anything was written.
-    Memory,
+    Memory = 8,
 }
 
 impl Status {
@@ -25,13 +25,6 @@ impl Status {
     pub fn number(self) -> u8
         ensures { result ≡ number_of self }
     {
-        match self {
-            Status::Done => 0,
-            Status::Words => 2,
-            Status::Refused => 4,
-            Status::DiskFault => 5,
-            Status::WriteFault => 7,
-            Status::Memory => 8,
-        }
+        self as u8
     }
 }

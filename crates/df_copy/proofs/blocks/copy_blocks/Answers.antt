@@ -93,4 +93,4 @@ pub returns-clause-copies : goal.returns-clause-copies
 returns-clause-copies g c = λ rs is.
     let s : State = c.args.replica.now in
     let blocks : c.summary-before-end.result.layout.blocks ≡ addresses_of s = ap (λ (x : Summary). x.layout.blocks) c.summary-before-end.ensures in
-    blocking_all c.args.target.now.layout s rs (g.A.Disk.told c.args.from.now) (g.B.Disk.told c.args.to.now) tt c.loop-before.target (g.B.Disk.told c.loop-before.to) c.loop-before.before (omega (arith, blocks)) (c.loop-before.invariant.blocking rs is)
+    blocking_all c.args.target.now.layout s rs (g.A.Disk.told c.args.from.now) (g.B.Disk.told c.args.to.now) {T = Unit {0}} (tt {0}) c.loop-before.target (g.B.Disk.told c.loop-before.to) c.loop-before.before (omega (arith, blocks)) (c.loop-before.invariant.blocking rs is)

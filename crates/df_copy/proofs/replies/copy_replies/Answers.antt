@@ -21,7 +21,7 @@ at_entry place before behind old new r layout l s q from o layouts states told c
     (subst (λ (x : State). AreApart x.table.sessions → CopiesReply l place x before behind o old new r) states copies))
 
 inside : (n sessions : ℕ) (s : State) → n < sessions → sessions ≡ length s.table.sessions → n < length (memory s).sessions
-inside n sessions s less is = let all = how_many s in omega (arith, less, is, all)
+inside n sessions s less is = let all = how_many s.file.layout s in omega (arith, less, is, all)
 
 pub loop-place-init : goal.loop-place-init
 loop-place-init g c = record {
@@ -44,7 +44,7 @@ returns-in-Err-clause-copies g c = λ apart.
     let sessions = ap (λ (x : Summary). x.sessions) c.summary-place-end.ensures in
     replying_ends layout s from (g.B.Disk.told c.args.to.now) t.checks (g.B.Disk.told c.loop-place.to) n (inside n c.summary-place-end.result.sessions s c.loop-place-test.true sessions) (i.replying apart)
     (Unit {0}) c.copy_reply.new.target.checks c.copy_reply.new.target.checks (g.B.Disk.told c.copy_reply.new.to) c.in-Err.ending
-    (at_entry n t.checks c.copy_reply.new.target.checks (g.B.Disk.told c.loop-place.to) (g.B.Disk.told c.copy_reply.new.to) (Err c.in-Err.ending) layout t.layout s c.loop-place.replica from (g.A.Disk.told c.loop-place.from) i.grid.layout_is i.kept i.same
+    (at_entry {T = Unit {0}} n t.checks c.copy_reply.new.target.checks (g.B.Disk.told c.loop-place.to) (g.B.Disk.told c.copy_reply.new.to) (Err c.in-Err.ending) layout t.layout s c.loop-place.replica from (g.A.Disk.told c.loop-place.from) i.grid.layout_is i.kept i.same
       c.in-Err.ensures.copies apart)
 
 pub loop-place-preserved : goal.loop-place-preserved
