@@ -1,8 +1,8 @@
 // What is refused, in its order, each with its text.
-use crate::shown::{LEAST, WORKED, copy_failing, expect, expect_words, file_behind};
+use crate::shown::{LEAST, WORKED, copy_failing, expect, file_behind};
 use df_copy::Status;
 use df_memdisk::Strike;
-use df_runs::{blank, words};
+use df_runs::{blank, expect_words, words};
 use std::alloc::Global;
 use std::test::Fail;
 
@@ -55,7 +55,14 @@ fn seven_blocks_and_their_trailer_fit_in_eight(rt: HostRuntime) -> Result<(), Fa
         b"block 1 00\nblock 1 01\nblock 1 02\nblock 1 03\nblock 1 04\nblock 1 05\nblock 1 06\ncheckpoint -\nstep\nstep\n";
     let mut from = file_behind(alloc, script)?;
     let mut to = blank(alloc, &[])?;
-    expect(alloc, &mut from, &mut to, LEAST, "copied 30\n", Status::Done)?;
+    expect(
+        alloc,
+        &mut from,
+        &mut to,
+        LEAST,
+        "copied 30\n",
+        Status::Done,
+    )?;
     expect_words(alloc, &mut to, &["scrub"], "tour 8 0\n")
 }
 
@@ -67,7 +74,14 @@ fn a_target_that_is_not_blank_is_refused(rt: HostRuntime) -> Result<(), Fail> {
         let mut to = blank(alloc, &[])?;
         to.strike(u64::from(copy), Strike::Fill { byte: 1 })?;
         let text = format!(in alloc; "refused NotBlank copy {copy}\n")?;
-        expect(alloc, &mut from, &mut to, LEAST, text.as_str(), Status::Refused)?;
+        expect(
+            alloc,
+            &mut from,
+            &mut to,
+            LEAST,
+            text.as_str(),
+            Status::Refused,
+        )?;
         if to.events() != 0 {
             return Err("something was written".into());
         }
@@ -98,7 +112,14 @@ fn a_reply_that_is_too_long_is_refused(rt: HostRuntime) -> Result<(), Fail> {
     let script = with_body(alloc, "append 1 1 aa\nreply 1 ", 3840, behind)?;
     let mut from = file_behind(alloc, &script)?;
     let mut to = blank(alloc, &[])?;
-    expect(alloc, &mut from, &mut to, LEAST, "copied 30\n", Status::Done)
+    expect(
+        alloc,
+        &mut from,
+        &mut to,
+        LEAST,
+        "copied 30\n",
+        Status::Done,
+    )
 }
 
 #[test]

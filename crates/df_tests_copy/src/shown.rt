@@ -3,7 +3,7 @@ use df_base::MemorySink;
 use df_copy::{Status, copy};
 use df_disk::Disk;
 use df_memdisk::MemoryDisk;
-use df_runs::{WordList, disk_behind, made_file, run_script, run_words, words};
+use df_runs::{WordList, blank, disk_behind, expect_text, made_file, words};
 use std::alloc::Global;
 use std::test::Fail;
 
@@ -59,38 +59,7 @@ pub fn expect<A: Disk, B: Disk>(
     if ran.status != status {
         return Err("another status".into());
     }
-    if ran.text.as_slice() != text.as_bytes() {
-        return Err("another text".into());
-    }
-    Ok(())
-}
-
-/// That words of `datafile` print this of a file.
-pub fn expect_words<D: Disk>(
-    alloc: Global,
-    disk: &mut D,
-    words: &[&str],
-    text: &str,
-) -> Result<(), Fail> {
-    let ran = run_words(alloc, disk, words)?;
-    if ran.text.as_slice() != text.as_bytes() {
-        return Err("another text of datafile".into());
-    }
-    Ok(())
-}
-
-/// That a script of `datafile` prints this over a file.
-pub fn expect_script<D: Disk>(
-    alloc: Global,
-    disk: &mut D,
-    script: &[u8],
-    text: &str,
-) -> Result<(), Fail> {
-    let ran = run_script(alloc, disk, script)?;
-    if ran.text.as_slice() != text.as_bytes() {
-        return Err("another answer".into());
-    }
-    Ok(())
+    expect_text(ran.text.as_slice(), text)
 }
 
 /// A new file of layout small behind a script.
@@ -101,3 +70,18 @@ pub fn file_behind(alloc: Global, script: &[u8]) -> Result<MemoryDisk, Fail> {
 /// An op with its reply, two blocks of which one is let go, and a checkpoint.
 pub const WORKED: &[u8] =
     b"append 1 1 aa\nreply 1 bb\nblock 1 00\nblock 1 01\nrelease 1\ncheckpoint 05\nstep\nstep\n";
+
+/// The worked file and its copy to the smallest layout.
+pub fn worked_copy(alloc: Global) -> Result<(MemoryDisk, MemoryDisk), Fail> {
+    let mut from = file_behind(alloc, WORKED)?;
+    let mut to = blank(alloc, &[])?;
+    expect(
+        alloc,
+        &mut from,
+        &mut to,
+        LEAST,
+        "copied 30\n",
+        Status::Done,
+    )?;
+    Ok((from, to))
+}

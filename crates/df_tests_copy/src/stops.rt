@@ -1,29 +1,15 @@
 // A copy whose device calls fail one after the other, with a stop of the target behind each; and a failing sink.
-use crate::shown::{LEAST, WORKED, copy_failing, expect, expect_words, file_behind};
-use df_base::SECTOR;
+use crate::shown::{LEAST, WORKED, copy_failing, expect, file_behind};
 use df_copy::Status;
-use df_memdisk::{Change, MemoryDisk};
-use df_runs::{blank, disk_behind, made_file, run_words, words};
+use df_memdisk::MemoryDisk;
+use df_runs::{blank, disk_behind, expect_words, made_file, run_words, stopped, words};
 use std::alloc::Global;
 use std::test::Fail;
 
-// The disk behind a stop that leaves these sectors, which were being written, with the byte a5 in each place.
-fn stopped(alloc: Global, disk: MemoryDisk, sectors: &[u64]) -> Result<MemoryDisk, Fail> {
-    let mut changes = Vec::new(alloc);
-    for sector in sectors {
-        changes.push(Change {
-            sector: *sector,
-            bytes: [0xa5; SECTOR],
-        })?;
-    }
-    match disk.stop(changes) {
-        Ok(disk) => Ok(disk),
-        Err(_) => Err("the stop isn't made".into()),
-    }
-}
-
 const NOT_FORMATTED: &str = "refused NotFormatted\n";
+
 const NO_QUORUM: &str = "refused NoQuorum";
+
 const SUMMARY: &str =
     "cluster 7\nlayout 16 4096 1 4096 8\nsequence 2\ncheckpoint 1\nhead 1\nreplies 1\nsessions 1\nreferences 1\n";
 
@@ -77,7 +63,14 @@ fn a_stopped_copy_is_begun_anew_on_a_blank_disk(rt: HostRuntime) -> Result<(), F
     let text = "refused NotBlank copy 0\n";
     expect(alloc, &mut from, &mut to, LEAST, text, Status::Refused)?;
     let mut to = blank(alloc, &[])?;
-    expect(alloc, &mut from, &mut to, LEAST, "copied 30\n", Status::Done)?;
+    expect(
+        alloc,
+        &mut from,
+        &mut to,
+        LEAST,
+        "copied 30\n",
+        Status::Done,
+    )?;
     expect_words(alloc, &mut to, &["recover"], SUMMARY)
 }
 
@@ -94,10 +87,27 @@ fn each_call_of_the_source_may_fail(rt: HostRuntime) -> Result<(), Fail> {
     let mut whole = file_behind(alloc, WORKED)?;
     let before = whole.calls();
     let mut to = blank(alloc, &[])?;
-    expect(alloc, &mut whole, &mut to, LEAST, "copied 30\n", Status::Done)?;
+    expect(
+        alloc,
+        &mut whole,
+        &mut to,
+        LEAST,
+        "copied 30\n",
+        Status::Done,
+    )?;
     let calls = whole.calls().saturating_sub(before);
     // The first calls, those about the barrier, the last of the open's, the reply's and the block's.
-    for call in [1, 4, 5, 6, 10, calls.saturating_sub(3), calls.saturating_sub(2), calls.saturating_sub(1), calls] {
+    for call in [
+        1,
+        4,
+        5,
+        6,
+        10,
+        calls.saturating_sub(3),
+        calls.saturating_sub(2),
+        calls.saturating_sub(1),
+        calls,
+    ] {
         let mut from = failing_source(alloc, call)?;
         let mut to = blank(alloc, &[])?;
         expect(alloc, &mut from, &mut to, LEAST, "", Status::DiskFault)?;
@@ -105,7 +115,14 @@ fn each_call_of_the_source_may_fail(rt: HostRuntime) -> Result<(), Fail> {
     }
     let mut from = failing_source(alloc, calls + 1)?;
     let mut to = blank(alloc, &[])?;
-    expect(alloc, &mut from, &mut to, LEAST, "copied 30\n", Status::Done)
+    expect(
+        alloc,
+        &mut from,
+        &mut to,
+        LEAST,
+        "copied 30\n",
+        Status::Done,
+    )
 }
 
 #[test]
