@@ -1,6 +1,6 @@
 -- The reply of a session that is read: of which place it is, and what the copy does with it.
 use Rattle.std.proofs.Common.{◌≡◌, inl, inr, ℕ, zero, suc, ◌+◌, ◌<◌, ◌≤◌, ◌==◌, Bool, true, if◌then◌else◌, List, [], ◌∷◌, length, Option, Some, None, Result, Ok, Err, refl, sym, ◌∙◌, ap, subst, arith, eqb-true}
-use Rattle.std.specs.Prelude.{nat_lt, slice_get, slice_set}
+use Rattle.std.specs.Prelude.{OnOk, nat_lt, slice_get, slice_set}
 use Rattle.std.proofs.lemmas.Bool.{and_parts, cases_eq, eq-eqb, le-ltb, lt-ltb, ne_eqb}
 use Rattle.std.proofs.lemmas.Option.{none-some, same_Some}
 use Rattle.df_disk.specs.Told.{Told}
@@ -30,7 +30,7 @@ use Rattle.df_replica.specs.Reading.{IsKnownUnit, shown_of}
 use Rattle.df_copy.specs.declared.ending.Ending.{Ending}
 use Rattle.df_copy.specs.declared.ending.Ending.TheVariants.{BlockTooLong, Damaged, NotAtRest, NotBlank, ReplyTooLong, Source, Target as TargetFails, TooFewBlocks, TooFewClients}
 use Rattle.df_copy.specs.declared.target.Target.{Target}
-use Rattle.df_copy.specs.Acts.{CopiesReply, HasPlace, PutsReply}
+use Rattle.df_copy.specs.Acts.{CopiesReply, HasPlace, PutsReply, SetsCheck}
 use Rattle.df_copy.specs.Statuses.{reply_ending}
 use Rattle.df_copy.specs.Tests.{is_at_rest, reply_test}
 use Rattle.df_copy.specs.Units.{IsReplyAt, OverShown}
@@ -157,6 +157,14 @@ has_place s layout client sum u known less fits =
 
 pub slot_is : (s : State) (client place : ℕ) (sum : Option ℕ) (u : Message) → IsKnownUnit Reply s.file (place_in ClientReplies (place_for s client)) sum u → place_for s client ≡ place → u.header.slot ≡ place
 slot_is s client place sum u known is = (valid_belongs s.file.layout s.file.cluster (place_in ClientReplies (place_for s client)) u known.is).belongs.slot ∙ is
+
+-- what was written of it set the checksum of a session's place
+pub reply_names : {T : Type 0} (s : State) (client : ℕ) (sum : Option ℕ) (u : Message) (t n : Target) (old new : Option Told) (r : Result T Ending) → IsKnownUnit Reply s.file (place_in ClientReplies (place_for s client)) sum u
+    → place_for s client < length s.table.sessions → PutsReply u t n old new r → OnOk r (SetsCheck (length s.table.sessions) t.checks n.checks)
+reply_names s client sum u t n old new (Ok x) known less puts =
+    let slot = (valid_belongs s.file.layout s.file.cluster (place_in ClientReplies (place_for s client)) u known.is).belongs.slot in
+    record { place = u.header.slot; check = u.header.checksum; inside = omega (arith, slot, less); set = puts.2 }
+reply_names s client sum u t n old new (Err e) known less puts = tt
 
 -- a reply that was read is written, or is too long, or the target's disk fails
 module _ {T : Type 0} (s : State) (place : ℕ) (u : Message) (t n : Target) (from old new : Option Told) (is : IsReplyAt s from place u) (slot : u.header.slot ≡ place) where

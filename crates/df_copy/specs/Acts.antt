@@ -59,6 +59,13 @@ CopiesReply layout place s before behind from old new (Err TargetFails) = (r : M
 CopiesReply layout place s before behind from old new (Err Source) = new ≡ old
 CopiesReply layout place s before behind from old new (Err e) = OverShown s.file from (λ shown. reply_test layout place (reply_at shown (reply_sum (memory s) place) place) ≡ (true, e)) × (new ≡ old)
 
+-- the checksum of some session's place was set
+pub record SetsCheck (sessions : ℕ) (before behind : List (List ℕ)) : Type 0 where
+  pub place : ℕ
+  pub check : List ℕ
+  pub inside : place < sessions
+  pub set : behind ≡ slice_set before place check
+
 -- the replies of the first places, each of which fits
 pub record FitReplies (layout : Layout) (s : State) (told : Option Told) (us : List Message) : Type 0 where
   pub are : AreReplies s told us
@@ -136,6 +143,12 @@ CopiesBlocks layout s rs n from old new (Err TargetFails) = (bs : List Message) 
 CopiesBlocks layout s rs n from old new (Err Source) = (bs : List Message) × FitBlocks layout s from bs × (new ≡ after_all (all_events (made_events layout) (moved_from 1 bs)) old)
 CopiesBlocks layout s rs n from old new (Err e) =
     OverShown s.file from (λ shown. first_refusal (block_tests layout shown (memory s)) ≡ Some e) × (bs : List Message) × FitBlocks layout s from bs × (new ≡ after_all (all_events (made_events layout) (moved_from 1 bs)) old)
+
+-- ---- both
+
+-- Replies and blocks were written, as many as the source has. The checksums of replies are in order of place; where two sessions had one client they needn't be those of the replies that were read.
+abbrev pub IsCopied : Layout → State → Target → Type 0
+IsCopied layout s t = (rs : List Message) × (bs : List Message) × IsTarget layout s.file.cluster rs bs t × (length rs ≡ length s.table.sessions) × (length bs ≡ length (references (memory s)))
 
 -- ---- the trailer
 

@@ -5,6 +5,7 @@ ghost use Rattle.df_disk.specs.Adds.{Adds};
 ghost use Rattle.df_format.specs.Message.{Message};
 ghost use Rattle.df_sessions.specs.Table.{AreApart};
 ghost use Rattle.df_opening.specs.Below.{memory};
+ghost use Rattle.df_copy.specs.Acts.{IsCopied};
 ghost use Rattle.df_copy.specs.Copying.{BeginsTarget, CopiesInto, CopiesPlanned, CopiesUnits, Finishes};
 ghost use Rattle.df_copy.specs.Planning.{IsPlan};
 ghost use Rattle.df_copy.specs.Statuses.{blank_ending, is_source, is_target};
@@ -78,6 +79,7 @@ fn copy_units<A: Disk, B: Disk>(
     requires room { length (references (memory replica.old)) ≤ target.old.layout.blocks }
     requires begun { IsTarget target.old.layout replica.old.file.cluster [] [] target.old }
     ensures copies { AreApart replica.old.table.sessions → CopiesUnits replica.old target.old target.new (A.told from.old) (B.told to.old) (B.told to.new) result }
+    ensures begun { OnOk result (IsCopied target.old.layout replica.old target.new) }
     ensures kept { OnOk result (replica.new ≡ replica.old) }
     ensures layout { target.new.layout ≡ target.old.layout }
     ensures same { A.told from.new ≡ A.told from.old }

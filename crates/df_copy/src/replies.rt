@@ -5,7 +5,7 @@ ghost use Rattle.df_disk.specs.Adds.{Adds};
 ghost use Rattle.df_format.specs.Message.{Message};
 ghost use Rattle.df_sessions.specs.Table.{AreApart};
 ghost use Rattle.df_opening.specs.Below.{memory};
-ghost use Rattle.df_copy.specs.Acts.{CopiesReplies, CopiesReply, HasPlace, MayPutReply, PutsReply};
+ghost use Rattle.df_copy.specs.Acts.{CopiesReplies, CopiesReply, HasPlace, MayPutReply, PutsReply, SetsCheck};
 ghost use Rattle.df_copy.specs.Statuses.{is_source, is_target, reply_ending};
 ghost use Rattle.df_copy.specs.Targets.{IsTarget, KeepsGrid};
 ghost use Rattle.df_copy.specs.Tests.{is_at_rest};
@@ -98,6 +98,7 @@ fn copy_reply<A: Disk, B: Disk>(
     requires place { place < length replica.old.table.sessions }
     requires fits { length replica.old.table.sessions ≤ target.old.layout.clients }
     ensures copies { AreApart replica.old.table.sessions → CopiesReply target.old.layout place replica.old target.old.checks target.new.checks (A.told from.old) (B.told to.old) (B.told to.new) result }
+    ensures named { OnOk result (SetsCheck (length replica.old.table.sessions) target.old.checks target.new.checks) }
     ensures kept { OnOk result (replica.new ≡ replica.old) }
     ensures grid { KeepsGrid target.old target.new }
     ensures same { A.told from.new ≡ A.told from.old }
@@ -127,6 +128,7 @@ pub(crate) fn copy_replies<A: Disk, B: Disk>(
     requires fits { length replica.old.table.sessions ≤ target.old.layout.clients }
     requires target { IsTarget target.old.layout replica.old.file.cluster [] [] target.old }
     ensures copies { AreApart replica.old.table.sessions → CopiesReplies target.old.layout replica.old target.new.checks (A.told from.old) (B.told to.old) (B.told to.new) result }
+    ensures begun { OnOk result ((rs : List Message) × (length rs ≡ length replica.old.table.sessions) × IsTarget target.old.layout replica.old.file.cluster rs [] target.new) }
     ensures kept { OnOk result (replica.new ≡ replica.old) }
     ensures grid { KeepsGrid target.old target.new }
     ensures same { A.told from.new ≡ A.told from.old }

@@ -7,7 +7,8 @@ use Rattle.df_model.specs.declared.answers.Summary.{Summary}
 use Rattle.df_opening.specs.Below.{State, memory}
 use Rattle.df_copy.specs.declared.ending.Ending.{Ending}
 use Rattle.df_copy.specs.declared.target.Target.{Target}
-use Rattle.df_copy.specs.Acts.{CopiesReply}
+use Rattle.df_copy.specs.Acts.{CopiesReply, SetsCheck}
+use Rattle.df_copy.proofs.Named.{named_by, named_more, named_none}
 use Rattle.df_copy.proofs.Planning.{how_many}
 use Rattle.df_copy.proofs.Replying.{replying_ends, replying_more, replying_none}
 use Rattle.df_copy.proofs.replies.copy_replies.Goals as goal
@@ -29,6 +30,7 @@ loop-place-init g c = record {
   same = refl;
   source_faults = refl;
   target_faults = refl;
+  named = named_none (length c.args.replica.now.table.sessions) c.args.target.now.checks c.requires.target.checks;
   grid = record { layout_is = refl; grid = refl; copied = refl };
   replying = λ apart. replying_none c.args.target.now.layout c.args.replica.now (g.A.Disk.told c.args.from.now) (g.B.Disk.told c.args.to.now) c.args.target.now.checks c.requires.target.checks;
 }
@@ -64,6 +66,9 @@ loop-place-preserved g c =
       same = c.in-Ok.ensures.same ∙ i.same;
       source_faults = c.in-Ok.ensures.source ∙ i.source_faults;
       target_faults = c.in-Ok.ensures.disk ∙ i.target_faults;
+      named =
+          named_more (length s.table.sessions) t.checks c.copy_reply.new.target.checks i.named
+          (subst (λ (q : State). SetsCheck (length q.table.sessions) t.checks c.copy_reply.new.target.checks) i.kept c.in-Ok.ensures.named);
       grid = record { layout_is = k.layout_is ∙ i.grid.layout_is; grid = k.grid ∙ i.grid.grid; copied = k.copied ∙ i.grid.copied };
       replying = λ apart.
           let one =
@@ -71,3 +76,11 @@ loop-place-preserved g c =
             c.in-Ok.ensures.copies apart in
           replying_more layout s from (g.B.Disk.told c.args.to.now) t.checks (g.B.Disk.told c.loop-place.to) n less (i.replying apart) c.copy_reply.new.target.checks (g.B.Disk.told c.copy_reply.new.to) few one.0 one.1 one.2 one.3;
     }
+
+pub returns-clause-begun : goal.returns-clause-begun
+returns-clause-begun g c =
+    let i = c.loop-place.invariant in
+    let t = c.requires.target in
+    let few = c.args.target.now.layout.clients_within.1 in
+    let by = named_by (length c.args.replica.now.table.sessions) c.loop-place.target.checks (omega (arith, few, c.requires.fits)) i.named in
+    (by.0, by.1, record { layout_is = i.grid.layout_is; grid = i.grid.grid ∙ t.grid; checks = by.2; copied = i.grid.copied ∙ t.copied })

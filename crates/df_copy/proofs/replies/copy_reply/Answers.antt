@@ -13,7 +13,7 @@ use Rattle.df_copy.specs.declared.target.Target.{Target}
 use Rattle.df_copy.specs.Acts.{CopiesReply, PutsReply}
 use Rattle.df_copy.specs.Statuses.{is_source, is_target}
 use Rattle.df_copy.proofs.Blamed.{on_ok, reply_blamed, reply_spares, unblamed}
-use Rattle.df_copy.proofs.ReplyRead.{has_place, not_no_client, not_pending, place_is, place_within, reply_is, reply_put, reply_unread, served, slot_is}
+use Rattle.df_copy.proofs.ReplyRead.{has_place, not_no_client, not_pending, place_is, place_within, reply_is, reply_names, reply_put, reply_unread, served, slot_is}
 use Rattle.df_copy.proofs.replies.copy_reply.Goals as goal
 
 -- ---- it is
@@ -34,6 +34,13 @@ returns-in-Ok-clause-copies g c = λ apart.
     reply_put s c.args.place c.in-Ok.unit.now.unit c.args.target.now c.put_reply.new.target from (g.B.Disk.told c.args.to.now) (g.B.Disk.told c.put_reply.new.to)
     (reply_is s from c.in-Some.session.client c.args.place c.in-Ok.unit.now.unit here c.in-Ok.ensures.lent c.in-Ok.ensures.exact)
     (slot_is s c.in-Some.session.client c.args.place (reply_sum (memory s) (place_for s c.in-Some.session.client)) c.in-Ok.unit.now.unit c.in-Ok.ensures.lent here) c.put_reply.result c.put_reply.ensures.puts
+
+pub returns-in-Ok-clause-named : goal.returns-in-Ok-clause-named
+returns-in-Ok-clause-named g c =
+    let s : State = c.args.replica.now in
+    let client : ℕ = c.in-Some.session.client in
+    reply_names s client (reply_sum (memory s) (place_for s client)) c.in-Ok.unit.now.unit c.args.target.now c.put_reply.new.target (g.B.Disk.told c.args.to.now) (g.B.Disk.told c.put_reply.new.to) c.put_reply.result c.in-Ok.ensures.lent
+    (place_within s c.args.place c.in-Some.session (sym c.session.ensures ∙ c.in-Some.is)) c.put_reply.ensures.puts
 
 pub returns-in-Ok-clause-kept : goal.returns-in-Ok-clause-kept
 returns-in-Ok-clause-kept g c = on_ok c.put_reply.result (c.read_reply.follows.holds-at-none ∙ ap (left_by is_lookup_fault c.args.replica.now) c.in-Ok.is)
