@@ -45,13 +45,13 @@ use Rattle.df_copy.specs.Views.{file_in}
 use Rattle.df_copy.proofs.Afters.{placed}
 use Rattle.df_copy.proofs.Frees.{numbered_known, numbered_there}
 use Rattle.df_copy.proofs.Images.{image_behind, row_steps, shows_block, shows_copy, shows_no_prepare, shows_no_reply, shows_reply, shows_reserved, shows_slot, shows_trailer}
-use Rattle.df_copy.proofs.Listed.{moved_length}
+use Rattle.df_copy.proofs.Listed.{check_at, many_checks, moved_length}
 use Rattle.df_copy.proofs.Rested.{IsEarlier, NamesAll, ShowsRest, rest_found, rest_whole, view_at_rest}
 use Rattle.df_copy.proofs.Rings.{ring_all_reserved, ring_reaches}
 use Rattle.df_copy.proofs.Rows.{as_block, as_reply, reply_row_placed, row_at, row_placed}
 use Rattle.df_copy.proofs.Sources.{IsSource}
 use Rattle.df_copy.proofs.Trailed.{chain_in, copy_chain, copy_content, copy_lawful, copy_parts, copy_sound}
-use Rattle.df_copy.proofs.Usables.{IsNamed, check_at, copy_are_steps, long, many_checks}
+use Rattle.df_copy.proofs.Usables.{IsNamed, copy_are_steps, long}
 use Rattle.df_copy.proofs.Written.{trailer_in_row}
 
 -- ---- lists

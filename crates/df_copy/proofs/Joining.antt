@@ -1,5 +1,6 @@
 -- The parts of a copy, one behind the other: what is written in all, and which refusal it is.
 use Rattle.std.proofs.Common.{◌≡◌, ◌⊎◌, inl, inr, ℕ, ◌+◌, List, [], ◌∷◌, ◌++◌, length, Option, Some, None, Result, Ok, Err, refl, sym, ◌∙◌, ap, subst, append_assoc}
+use Rattle.std.specs.Prelude.{IfErr}
 use Rattle.std.proofs.lemmas.List.{append-nil}
 use Rattle.df_base.specs.Image.{Image}
 use Rattle.df_base.specs.Log.{Event}
@@ -18,8 +19,8 @@ use Rattle.df_copy.specs.declared.ending.Ending.TheVariants.{BlockTooLong, Damag
 use Rattle.df_copy.specs.declared.target.Target.{Target}
 use Rattle.df_copy.specs.Acts.{CopiesBlocks, CopiesReplies, FitBlocks, FitReplies}
 use Rattle.df_copy.specs.Copying.{BeginsTarget, Copied, CopiesInto, CopiesPlanned, CopiesUnits, Finishes, IsAll, IsJudged, Judges, OverTold, PassesTo, units_written}
-use Rattle.df_copy.specs.Targets.{copy_events, ring_events, superblock_events, trailer_of, unit_events}
-use Rattle.df_copy.specs.Tests.{blank_tests, block_tests, reply_tests, rest_tests, tests, unit_tests}
+use Rattle.df_copy.specs.Targets.{IsTarget, KeepsGrid, copy_events, ring_events, superblock_events, trailer_of, unit_events}
+use Rattle.df_copy.specs.Tests.{blank_tests, block_tests, references, reply_tests, rest_tests, tests, unit_tests}
 use Rattle.df_copy.specs.Units.{OverShown, all_events, moved_from, reply_events}
 use Rattle.df_copy.proofs.Listed.{over_all, over_both, over_by}
 
@@ -47,7 +48,7 @@ module _ (layout : Layout) (s : State) (from : Option Told) where
   then_blocks : (rs bs : List Message) (old mid new : Option Told) → mid ≡ after_all (all_events (reply_events layout) rs) old → new ≡ after_all (all_events (made_events layout) (moved_from 1 bs)) mid → new ≡ after_all (units_written layout rs bs) old
   then_blocks rs bs old mid new first second = second ∙ ap (after_all (all_events (made_events layout) (moved_from 1 bs))) first ∙ sym (after_append (all_events (reply_events layout) rs) (all_events (made_events layout) (moved_from 1 bs)) old)
 
-module _ {T : Type 0} (s : State) (t n : Target) (from old : Option Told) where
+module _ (T : Type 0) (s : State) (t n : Target) (from old : Option Told) where
   -- the copy ends in the replies
   replies_refused : (e : Ending) (new : Option Told) → OverShown s.file from (λ shown. first_refusal (reply_tests t.layout shown (memory s)) ≡ Some e) × (rs : List Message) × FitReplies t.layout s from rs × (new ≡ after_all (all_events (reply_events t.layout) rs) old)
       → OverShown s.file from (λ shown. first_refusal (unit_tests t.layout shown (memory s)) ≡ Some e) × (c : Copied t.layout s from) × (new ≡ after_all (units_written t.layout c.replies c.blocks) old)
@@ -93,6 +94,18 @@ module _ {T : Type 0} (s : State) (t n : Target) (from old : Option Told) where
     units_go new (Err (BlockTooLong a b)) copies = blocks_refused (BlockTooLong a b) new copies
     units_go new (Err (Damaged a b)) copies = blocks_refused (Damaged a b) new copies
 
+-- the replies were copied, by calls that leave the source as it was
+pub units_join : {T U : Type 0} (s kept : State) (t mid n : Target) (from same old written new : Option Told) (x : U) (r : Result T Ending) → kept ≡ s → same ≡ from → KeepsGrid t mid → IsTarget t.layout s.file.cluster [] [] t
+    → CopiesReplies t.layout s mid.checks from old written (Ok x) → ((rs : List Message) → IsTarget mid.layout kept.file.cluster rs [] mid → CopiesBlocks mid.layout kept rs n same written new r) → CopiesUnits s t n from old new r
+units_join {T = T} s kept t mid n from same old written new x r state told keeps begun first blocks =
+    let rs : List Message = first.0 in
+    let onward : (rs : List Message) → IsTarget t.layout s.file.cluster rs [] mid → CopiesBlocks t.layout s rs n from written new r =
+    subst (λ (l : Layout). (rs : List Message) → IsTarget l s.file.cluster rs [] mid → CopiesBlocks l s rs n from written new r) keeps.layout_is
+    (subst (λ (q : State). (rs : List Message) → IsTarget mid.layout q.file.cluster rs [] mid → CopiesBlocks mid.layout q rs n from written new r) state
+    (subst (λ (f : Option Told). (rs : List Message) → IsTarget mid.layout kept.file.cluster rs [] mid → CopiesBlocks mid.layout kept rs n f written new r) told blocks)) in
+    let is : IsTarget t.layout s.file.cluster rs [] mid = record { layout_is = keeps.layout_is; grid = keeps.grid ∙ begun.grid; checks = first.4; copied = keeps.copied ∙ begun.copied } in
+    units_go T s t n from old written rs first.1 first.2 first.3 first.5 new r (onward rs is)
+
 -- ---- the ring before them, and the trailer and the superblock behind
 
 pub over_told : (told : Option Told) (P Q : Image → Type 0) → OverTold told P → ((image : Image) → P image → Q image) → OverTold told Q
@@ -103,7 +116,7 @@ pub told_all : (told : Option Told) (P : Image → Type 0) → ((image : Image) 
 told_all None P f = tt
 told_all (Some o) P f = f o.shown
 
-module _ {T : Type 0} (layout : Layout) (s : State) (from old : Option Told) where
+module _ (T : Type 0) (layout : Layout) (s : State) (from old : Option Told) where
   abbrev cluster : ℕ
   cluster = s.file.cluster
 
@@ -146,25 +159,37 @@ module _ {T : Type 0} (layout : Layout) (s : State) (from old : Option Told) whe
         → ((new ≡ old) ⊎ ((c : Copied layout s from) × (new ≡ after_all (unit_events layout cluster c.replies c.blocks) old))) × OverTold old (λ image. OverShown s.file from (λ shown. first_refusal (blank_tests image ++ unit_tests layout shown (memory s)) ≡ Some e))
     units_refused e new copies = (inr (copies.1, behind_ring copies.1.replies copies.1.blocks new copies.2), planned_refused e blank copies.0)
 
-    pub planned_units : (t n : Target) (new : Option Told) (e : Ending) → t.layout ≡ layout → CopiesUnits {T = T} s t n from begun new (Err e) → CopiesPlanned {T = T} layout s from old new (Err e)
-    planned_units t n new e same units = at e (subst (λ (l : Layout). Stops l e) same units)
-      where
-        -- the units are of this layout
-        abbrev Stops : Layout → Ending → Type 0
-        Stops l TargetFails = (c : Copied l s from) × AddsPart (units_written l c.replies c.blocks) begun new
-        Stops l Source = (c : Copied l s from) × (new ≡ after_all (units_written l c.replies c.blocks) begun)
-        Stops l x = OverShown s.file from (λ shown. first_refusal (unit_tests l shown (memory s)) ≡ Some x) × (c : Copied l s from) × (new ≡ after_all (units_written l c.replies c.blocks) begun)
+    -- the units are of this layout
+    abbrev Stops : (new : Option Told) → Layout → Ending → Type 0
+    Stops new l TargetFails = (c : Copied l s from) × AddsPart (units_written l c.replies c.blocks) begun new
+    Stops new l Source = (c : Copied l s from) × (new ≡ after_all (units_written l c.replies c.blocks) begun)
+    Stops new l x = OverShown s.file from (λ shown. first_refusal (unit_tests l shown (memory s)) ≡ Some x) × (c : Copied l s from) × (new ≡ after_all (units_written l c.replies c.blocks) begun)
 
-        at : (x : Ending) → Stops layout x → CopiesPlanned {T = T} layout s from old new (Err x)
-        at TargetFails stops = record { writes = (stops.0, inl (all_then (ring_events layout cluster) (units_written layout stops.0.replies stops.0.blocks) old begun new ring stops.1)); judged = silent }
-        at Source stops = record { writes = inr (stops.0, behind_ring stops.0.replies stops.0.blocks new stops.1); judged = silent }
-        at (NotAtRest a b c) stops = let both = units_refused (NotAtRest a b c) new stops in record { writes = both.0; judged = both.1 }
-        at (TooFewClients a b) stops = let both = units_refused (TooFewClients a b) new stops in record { writes = both.0; judged = both.1 }
-        at (TooFewBlocks a b) stops = let both = units_refused (TooFewBlocks a b) new stops in record { writes = both.0; judged = both.1 }
-        at (NotBlank a) stops = let both = units_refused (NotBlank a) new stops in record { writes = both.0; judged = both.1 }
-        at (ReplyTooLong a b) stops = let both = units_refused (ReplyTooLong a b) new stops in record { writes = both.0; judged = both.1 }
-        at (BlockTooLong a b) stops = let both = units_refused (BlockTooLong a b) new stops in record { writes = both.0; judged = both.1 }
-        at (Damaged a b) stops = let both = units_refused (Damaged a b) new stops in record { writes = both.0; judged = both.1 }
+    units_end : (new : Option Told) (e : Ending) → Stops new layout e → CopiesPlanned {T = T} layout s from old new (Err e)
+    units_end new TargetFails stops = record { writes = (stops.0, inl (all_then (ring_events layout cluster) (units_written layout stops.0.replies stops.0.blocks) old begun new ring stops.1)); judged = silent }
+    units_end new Source stops = record { writes = inr (stops.0, behind_ring stops.0.replies stops.0.blocks new stops.1); judged = silent }
+    units_end new (NotAtRest a b c) stops = let both = units_refused (NotAtRest a b c) new stops in record { writes = both.0; judged = both.1 }
+    units_end new (TooFewClients a b) stops = let both = units_refused (TooFewClients a b) new stops in record { writes = both.0; judged = both.1 }
+    units_end new (TooFewBlocks a b) stops = let both = units_refused (TooFewBlocks a b) new stops in record { writes = both.0; judged = both.1 }
+    units_end new (NotBlank a) stops = let both = units_refused (NotBlank a) new stops in record { writes = both.0; judged = both.1 }
+    units_end new (ReplyTooLong a b) stops = let both = units_refused (ReplyTooLong a b) new stops in record { writes = both.0; judged = both.1 }
+    units_end new (BlockTooLong a b) stops = let both = units_refused (BlockTooLong a b) new stops in record { writes = both.0; judged = both.1 }
+    units_end new (Damaged a b) stops = let both = units_refused (Damaged a b) new stops in record { writes = both.0; judged = both.1 }
+
+    pub planned_units : (t n : Target) (new : Option Told) (e : Ending) → t.layout ≡ layout → CopiesUnits {T = T} s t n from begun new (Err e) → CopiesPlanned {T = T} layout s from old new (Err e)
+    planned_units t n new e same units = units_end new e (subst (λ (l : Layout). Stops new l e) same (stops e units))
+      where
+        -- it is CopiesUnits, over the layout alone
+        stops : (x : Ending) → CopiesUnits {T = T} s t n from begun new (Err x) → Stops new t.layout x
+        stops TargetFails it = it
+        stops Source it = it
+        stops (NotAtRest a b c) it = it
+        stops (TooFewClients a b) it = it
+        stops (TooFewBlocks a b) it = it
+        stops (NotBlank a) it = it
+        stops (ReplyTooLong a b) it = it
+        stops (BlockTooLong a b) it = it
+        stops (Damaged a b) it = it
 
     -- all units are written, and the trailer and the superblock follow
     module _ (c : Copied layout s from) (all : IsAll c) (mid : Option Told) (units : mid ≡ after_all (units_written layout c.replies c.blocks) begun) (none : OverShown s.file from (λ shown. first_refusal (unit_tests layout shown (memory s)) ≡ None)) where
@@ -197,6 +222,24 @@ module _ {T : Type 0} (layout : Layout) (s : State) (from old : Option Told) whe
         writes = (c, inr (all, subst (λ (l : List Event). AddsPart l old new) (sym in_one) (all_then front (trailer ++ ends) old mid new (behind_ring c.replies c.blocks mid units) finishes)));
         judged = silent;
       }
+
+      -- however the trailer and the superblock end
+      pub planned_ends : (new : Option Told) (r : Result T Ending) → IfErr r (λ e. e ≡ TargetFails) → Finishes {T = T} layout s c.replies c.blocks mid new r → CopiesPlanned {T = T} layout s from old new r
+      planned_ends new (Ok x) only finishes = planned_done new x finishes
+      planned_ends new (Err e) only finishes = subst (λ (q : Ending). CopiesPlanned {T = T} layout s from old new (Err q)) (sym only) (planned_fails new finishes)
+
+    -- by calls that leave the source as it was
+    abbrev AllCopied : Layout → Option Told → Target → Type 0
+    AllCopied l mid n = (c : Copied l s from) × IsAll c × (mid ≡ after_all (units_written l c.replies c.blocks) begun) × IsTarget l s.file.cluster c.replies c.blocks n × OverShown s.file from (λ shown. first_refusal (unit_tests l shown (memory s)) ≡ None)
+
+    pub planned_join : {U : Type 0} (kept : State) (t n : Target) (mid new : Option Told) (x : U) (r : Result T Ending) → kept ≡ s → t.layout ≡ layout → n.layout ≡ layout → CopiesUnits {T = U} s t n from begun mid (Ok x)
+        → ((rs bs : List Message) → IsTarget n.layout kept.file.cluster rs bs n → length bs ≡ length (references (memory kept)) → Finishes {T = T} n.layout kept rs bs mid new r) → IfErr r (λ e. e ≡ TargetFails) → CopiesPlanned {T = T} layout s from old new r
+    planned_join kept t n mid new x r state same last units finishes only =
+        let all : AllCopied layout mid n = subst (λ (l : Layout). AllCopied l mid n) same units in
+        let onward : (rs bs : List Message) → IsTarget layout s.file.cluster rs bs n → length bs ≡ length (references (memory s)) → Finishes {T = T} layout s rs bs mid new r =
+        subst (λ (l : Layout). (rs bs : List Message) → IsTarget l s.file.cluster rs bs n → length bs ≡ length (references (memory s)) → Finishes {T = T} l s rs bs mid new r) last
+        (subst (λ (q : State). (rs bs : List Message) → IsTarget n.layout q.file.cluster rs bs n → length bs ≡ length (references (memory q)) → Finishes {T = T} n.layout q rs bs mid new r) state finishes) in
+        planned_ends all.0 all.1 mid all.2 all.4 new r only (onward all.0.replies all.0.blocks all.3 all.1.blocks)
 
   -- ---- the tests that read nothing
 

@@ -1,5 +1,5 @@
 -- Lists that get one more: what is found in them, and what is written and tested of them.
-use Rattle.std.proofs.Common.{◌≡◌, ◌⊎◌, inl, inr, ℕ, zero, suc, ◌+◌, ◌<◌, List, [], ◌∷◌, ◌++◌, length, Option, Some, None, refl, sym, ◌∙◌, ap, arith, append_assoc}
+use Rattle.std.proofs.Common.{◌≡◌, ◌⊎◌, inl, inr, ℕ, zero, suc, ◌+◌, ◌<◌, List, [], ◌∷◌, ◌++◌, length, take, Option, Some, None, refl, sym, ◌∙◌, ap, arith, append_assoc}
 use Rattle.std.specs.Prelude.{get_or, slice_get, slice_set}
 use Rattle.std.proofs.lemmas.Bool.{cases_eq}
 use Rattle.std.proofs.lemmas.List.{append-nil, ext_get_or, get_or-set_other, get_or-set_same, length-set}
@@ -41,6 +41,12 @@ push_length [] y n is = omega (arith, is)
 push_length (x ∷ xs) y zero is = absurd (omega (arith, is))
 push_length (x ∷ xs) y (suc n) is = let rest = push_length xs y n (omega (arith, is)) in omega (arith, rest)
 
+-- the items before one, and it
+pub take_more : {X : Type 0} (xs : List X) (n : ℕ) (x : X) → slice_get xs n ≡ Some x → take (n + 1) xs ≡ take n xs ++ x ∷ []
+take_more [] n x at = absurd (cc)
+take_more (y ∷ xs) zero x at = λ i. same_Some y x at i ∷ []
+take_more {X = X} (y ∷ xs) (suc n) x at = let on : suc n + 1 ≡ suc (n + 1) = omega arith in ap (λ (k : ℕ). take k (y ∷ xs)) on ∙ ap (λ (l : List X). y ∷ l) (take_more xs n x at)
+
 pub split_at : {X : Type 0} (xs ys : List X) (x : X) → slice_get (xs ++ x ∷ ys) (length xs) ≡ Some x
 split_at [] ys x = refl
 split_at (z ∷ xs) ys x = split_at xs ys x
@@ -67,32 +73,30 @@ moved_length a (u ∷ us) = ap suc (moved_length (a + 1) us)
 
 -- ---- the checksums of replies
 
-module _ (us : List Message) (u : Message) (inside : length us < named_places) where
-  abbrev now : List (List ℕ)
-  now = slice_set (checks_of us) (length us) u.header.checksum
+pub many_checks : (us : List Message) → length (checks_of us) ≡ named_places
+many_checks us = length-map-range_with_len (λ (k : ℕ). check_of (slice_get us k)) 0 named_places
 
-  count : (vs : List Message) → length (checks_of vs) ≡ named_places
-  count vs = length-map-range_with_len (λ (k : ℕ). check_of (slice_get vs k)) 0 named_places
+pub check_at : (us : List Message) (k : ℕ) (past : List ℕ) → k < named_places → get_or (checks_of us) k past ≡ check_of (slice_get us k)
+check_at us k past inside = get_or-map-range_with_len (λ (j : ℕ). check_of (slice_get us j)) 0 named_places k k past inside (plain k)
+  where
+    plain : (j : ℕ) → 0 + j ≡ j
+    plain j = omega arith
 
-  at : (vs : List Message) (i : ℕ) → i < named_places → get_or (checks_of vs) i [] ≡ check_of (slice_get vs i)
-  at vs i within = get_or-map-range_with_len (λ (k : ℕ). check_of (slice_get vs k)) 0 named_places i i [] within (plain i)
-    where
-      plain : (k : ℕ) → 0 + k ≡ k
-      plain k = omega arith
+-- another list has them, but for one place
+pub checks_with : (us vs : List Message) (k : ℕ) (check : List ℕ) → k < named_places → check_of (slice_get vs k) ≡ check → ((i : ℕ) → (i ≡ k → ⊥) → check_of (slice_get vs i) ≡ check_of (slice_get us i)) → checks_of vs ≡ slice_set (checks_of us) k check
+checks_with us vs k check inside here there =
+    ext_get_or [] (checks_of vs) (slice_set (checks_of us) k check) (many_checks vs ∙ sym (length-set (checks_of us) k check ∙ many_checks us)) (λ i within. same i (omega (arith, within, many_checks vs)))
+  where
+    same : (i : ℕ) → i < named_places → get_or (checks_of vs) i [] ≡ get_or (slice_set (checks_of us) k check) i []
+    same i within = elim (cases_eq i k) [
+      | inl is ↦
+          check_at vs i [] within ∙ ap (λ (j : ℕ). check_of (slice_get vs j)) is ∙ here
+          ∙ sym (ap (λ (j : ℕ). get_or (slice_set (checks_of us) k check) j []) is ∙ get_or-set_same (checks_of us) k check [] (omega (arith, inside, many_checks us)))
+      | inr other ↦ check_at vs i [] within ∙ there i other ∙ sym (check_at us i [] within) ∙ sym (get_or-set_other (checks_of us) k i check [] other)
+    ]
 
-  same_at : (i : ℕ) → i < named_places → get_or (checks_of (us ++ u ∷ [])) i [] ≡ get_or now i []
-  same_at i within = elim (cases_eq i (length us)) [
-    | inl last ↦
-        at (us ++ u ∷ []) i within ∙ ap (λ (k : ℕ). check_of (slice_get (us ++ u ∷ []) k)) last ∙ ap check_of (push_last us u)
-        ∙ sym (ap (λ (k : ℕ). get_or now k []) last ∙ get_or-set_same (checks_of us) (length us) u.header.checksum [] (omega (arith, inside, count us)))
-    | inr other ↦
-        at (us ++ u ∷ []) i within ∙ ap check_of (push_other us u i other) ∙ sym (at us i within) ∙ sym (get_or-set_other (checks_of us) (length us) i u.header.checksum [] other)
-  ]
-
-  pub checks_push : checks_of (us ++ u ∷ []) ≡ now
-  checks_push =
-      ext_get_or [] (checks_of (us ++ u ∷ [])) now (count (us ++ u ∷ []) ∙ sym (length-set (checks_of us) (length us) u.header.checksum ∙ count us))
-      (λ i within. same_at i (omega (arith, within, count (us ++ u ∷ []))))
+pub checks_push : (us : List Message) (u : Message) → length us < named_places → checks_of (us ++ u ∷ []) ≡ slice_set (checks_of us) (length us) u.header.checksum
+checks_push us u inside = checks_with us (us ++ u ∷ []) (length us) u.header.checksum inside (ap check_of (push_last us u)) (λ i other. ap check_of (push_other us u i other))
 
 -- ---- what is said of what a disk shows, where it tells that
 

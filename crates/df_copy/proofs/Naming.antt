@@ -5,7 +5,7 @@ use Rattle.df_layout.specs.declared.layout.Layout.{Layout}
 use Rattle.df_format.specs.declared.reference.Reference.{Reference}
 use Rattle.df_format.specs.declared.superblock.SuperFields.{SuperFields}
 use Rattle.df_format.specs.Message.{Message}
-use Rattle.df_format.specs.Spelling.{IsCheck, spelling_rest}
+use Rattle.df_format.specs.Spelling.{IsCheck, no_checksum}
 use Rattle.df_format.proofs.Laws.{no_check}
 use Rattle.df_units.specs.Meaning.{number_of}
 use Rattle.df_units.proofs.Laws.{one_number}
@@ -38,3 +38,7 @@ named_super layout s rs bs t r size is names given long =
     let last : Option Message = last_of (trailer_of layout s (moved_from 1 bs)) in
     let named = named_is last r (subst (λ (x : Option (ℕ × ℕ)). NamesLast x r) is.last names) given (last_check (begun_grid (grid_with layout s.file.cluster (moved_from 1 bs)) s.fields.boot (trailer_blocks layout (memory s))) (sequence_of s) (text_with layout s (moved_from 1 bs)) (trailer_blocks layout (memory s))) in
     λ i. record (fields_in (is.layout_is i) s.fields (is.checks i)) { trailer_address = named.0 i; trailer_checksum = named.1 i; trailer_size = long i }
+
+-- zeros name none
+pub none_is_named : (o : Option (ℕ × ℕ)) (r : Reference) → None ≡ o → (r.address ≡ 0) × (r.checksum ≡ no_checksum) → NamesLast o r
+none_is_named o r none zeros = subst (λ (x : Option (ℕ × ℕ)). NamesLast x r) none zeros

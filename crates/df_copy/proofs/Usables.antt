@@ -3,7 +3,6 @@ use Rattle.std.proofs.Common.{◌≡◌, ◌≢◌, inl, inr, ℕ, zero, suc, �
 use Rattle.std.specs.Prelude.{slice_get}
 use Rattle.std.proofs.lemmas.Bool.{cases_eq}
 use Rattle.std.proofs.lemmas.List.{get_or-drop, length-drop}
-use Rattle.std.proofs.lemmas.List.FromFn.{get_or-map-range_with_len, length-map-range_with_len}
 use Rattle.df_layout.specs.declared.layout.Layout.{Layout}
 use Rattle.df_format.specs.declared.superblock.SuperFields.{SuperFields}
 use Rattle.df_format.specs.Message.{Message}
@@ -26,7 +25,7 @@ use Rattle.df_opening.specs.Below.{IsState, State, memory}
 use Rattle.df_copy.specs.Targets.{address_of, begun_grid, behind_piece, check_of, checks_of, copy_events, copy_steps, front_events, front_steps, grid_with, last_of, pieces_from, sequence_of, superblock_events, superblock_of, superblock_steps, text_with, trailer_of}
 use Rattle.df_copy.specs.Tests.{needed, references, trailer_blocks, trailer_size}
 use Rattle.df_copy.specs.Units.{moved_from}
-use Rattle.df_copy.proofs.Listed.{moved_length}
+use Rattle.df_copy.proofs.Listed.{check_at, many_checks, moved_length}
 use Rattle.df_copy.proofs.Piecewise.{last_address}
 use Rattle.df_copy.proofs.Planning.{size_none, size_some}
 use Rattle.df_copy.proofs.Rows.{AreInRow, AreReplyRow, reply_row_at, row_last}
@@ -38,15 +37,6 @@ nothing_past : (us : List Message) (i : ℕ) → length us ≤ i → slice_get u
 nothing_past [] i past = refl
 nothing_past (u ∷ us) zero past = absurd (omega (arith, past))
 nothing_past (u ∷ us) (suc i) past = nothing_past us i (omega (arith, past))
-
-pub many_checks : (us : List Message) → length (checks_of us) ≡ named_places
-many_checks us = length-map-range_with_len (λ (k : ℕ). check_of (slice_get us k)) 0 named_places
-
-pub check_at : (us : List Message) (k : ℕ) (past : List ℕ) → k < named_places → get_or (checks_of us) k past ≡ check_of (slice_get us k)
-check_at us k past inside = get_or-map-range_with_len (λ (j : ℕ). check_of (slice_get us j)) 0 named_places k k past inside (plain k)
-  where
-    plain : (j : ℕ) → 0 + j ≡ j
-    plain j = omega arith
 
 are_checks : (layout : Layout) (cluster : ℕ) (us : List Message) → AreReplyRow layout cluster 0 us → (k : ℕ) (o : Option Message) → slice_get us k ≡ o → IsCheck (check_of o)
 are_checks layout cluster us row k None at = no_check
