@@ -1,5 +1,5 @@
 -- Which disk an ending blames, and what is left where a call is Ok.
-use Rattle.std.proofs.Common.{◌≡◌, ℕ, Result, Ok, Err, refl, sym, subst}
+use Rattle.std.proofs.Common.{◌≡◌, ◌∙◌, ℕ, Result, Ok, Err, refl, subst}
 use Rattle.std.specs.Prelude.{OnOk}
 use Rattle.df_base.specs.Causes.{Blamed, IsBlamed}
 use Rattle.df_model.specs.Faults.{is_lookup_fault, is_read_fault}
@@ -9,6 +9,7 @@ use Rattle.df_model.specs.declared.reading.ReadError.{ReadError}
 use Rattle.df_model.specs.declared.reading.ReadError.TheVariants as read
 use Rattle.df_copy.specs.declared.ending.Ending.{Ending}
 use Rattle.df_copy.specs.declared.ending.Ending.TheVariants.{BlockTooLong, Damaged, NotAtRest, NotBlank, ReplyTooLong, Source, Target, TooFewBlocks, TooFewClients}
+use Rattle.df_copy.specs.Acts.{Beside, Leaves}
 use Rattle.df_copy.specs.Statuses.{block_ending, is_source, is_target, reply_ending}
 
 pub on_ok : {T : Type 0} {P : Type 0} (r : Result T Ending) → P → OnOk r P
@@ -51,3 +52,13 @@ reply_spares lookup.DiskFault count = refl
 reply_spares (lookup.Damaged at class) count = refl
 reply_spares lookup.NoClient count = refl
 reply_spares (lookup.ReplyPending op) count = refl
+
+-- what one call leaves and then another, behind one that is Ok
+pub leaves_then : {T U : Type 0} (a b c : Beside) (x : U) (r : Result T Ending) → Leaves {T = U} a b (Ok x) → Leaves b c r → Leaves a c r
+leaves_then a b c x (Ok y) first behind = record { kept = behind.kept ∙ first.kept; same = behind.same ∙ first.same; blames_source = behind.blames_source ∙ first.blames_source; blames_target = behind.blames_target ∙ first.blames_target }
+leaves_then a b c x (Err e) first behind = record {
+  kept = tt;
+  same = behind.same ∙ first.same;
+  blames_source = subst (λ (n : ℕ). Blamed (is_source e) n c.faults) first.blames_source behind.blames_source;
+  blames_target = subst (λ (n : ℕ). Blamed (is_target e) n c.target_faults) first.blames_target behind.blames_target;
+}

@@ -1,5 +1,6 @@
 -- What each act of a copy does: a reply or a block that is read and written, all of them, the trailer, and the superblock.
-use Rattle.std.specs.Prelude.{◌≡◌, ◌<◌, ◌≤◌, ◌+◌, ℕ, true, false, List, [], ◌∷◌, ◌++◌, length, slice_get, slice_set, Option, None, Some, Result, Ok, Err}
+use Rattle.std.specs.Prelude.{◌≡◌, ◌<◌, ◌≤◌, ◌+◌, ℕ, true, false, List, [], ◌∷◌, ◌++◌, length, slice_get, slice_set, Option, None, Some, Result, Ok, Err, OnOk}
+use Rattle.df_base.specs.Causes.{IsBlamed}
 use Rattle.df_disk.specs.Told.{Told}
 use Rattle.df_disk.specs.Adds.{AddsPart, after_all}
 use Rattle.df_layout.specs.declared.layout.Layout.{Layout}
@@ -22,9 +23,35 @@ use Rattle.df_opening.specs.Below.{State, memory}
 use Rattle.df_copy.specs.declared.ending.Ending.{Ending}
 use Rattle.df_copy.specs.declared.ending.Ending.TheVariants.{BlockTooLong, ReplyTooLong, Source, Target as TargetFails}
 use Rattle.df_copy.specs.declared.target.Target.{Target}
+use Rattle.df_copy.specs.Statuses.{is_source, is_target}
 use Rattle.df_copy.specs.Targets.{IsTarget, checks_of, last_of as last_block, pair_of, trailer_of}
-use Rattle.df_copy.specs.Tests.{block_test, block_tests, references, reply_test, reply_tests}
+use Rattle.df_copy.specs.Tests.{block_test, block_tests, is_at_rest, references, reply_test, reply_tests}
 use Rattle.df_copy.specs.Units.{AreBlocks, AreReplies, IsBlockAt, IsReplyAt, OverShown, all_events, moved, moved_from, reply_events}
+
+-- ---- what is asked and left
+
+-- a source that may be copied: calls may be made on it, no prepare is behind its checkpoint and none waits for its reply, and the layout has a place for each of its sessions
+pub record IsReady (layout : Layout) (s : State) : Type 0 where
+  pub live : s.live ≡ true
+  pub rest : is_at_rest (memory s) ≡ true
+  pub fits : length s.table.sessions ≤ layout.clients
+
+-- what is beside the target: the source, what its disk tells, and how often each of the two disks failed
+pub record Beside : Type 0 where
+  pub source : State
+  pub told : Option Told
+  pub faults : ℕ
+  pub target_faults : ℕ
+
+abbrev pub beside : State → Option Told → (faults target_faults : ℕ) → Beside
+beside source told faults target_faults = record { source = source; told = told; faults = faults; target_faults = target_faults }
+
+-- a call leaves the source as it was where it is Ok, and what the source's disk tells in any case; and each disk's count rose exactly where the ending blames it
+pub record Leaves {T : Type 0} (before now : Beside) (result : Result T Ending) : Type 0 where
+  pub kept : OnOk result (now.source ≡ before.source)
+  pub same : now.told ≡ before.told
+  pub blames_source : IsBlamed is_source before.faults now.faults result
+  pub blames_target : IsBlamed is_target before.target_faults now.target_faults result
 
 -- ---- replies
 

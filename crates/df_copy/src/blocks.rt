@@ -8,8 +8,8 @@ ghost use Rattle.df_model.specs.Blocks.{sum_at};
 ghost use Rattle.df_model.specs.Work.{is_known};
 ghost use Rattle.df_opening.specs.Below.{memory};
 ghost use Rattle.df_replica.specs.Blocks.{MayPut};
-ghost use Rattle.df_copy.specs.Acts.{CopiesAt, CopiesBlock, CopiesBlocks, IsBegun, IsBlockOf, PutsBlock, with_block};
-ghost use Rattle.df_copy.specs.Statuses.{block_ending, is_source, is_target};
+ghost use Rattle.df_copy.specs.Acts.{CopiesAt, CopiesBlock, CopiesBlocks, IsBegun, IsBlockOf, Leaves, PutsBlock, beside, with_block};
+ghost use Rattle.df_copy.specs.Statuses.{block_ending, is_target};
 ghost use Rattle.df_copy.specs.Targets.{IsTarget};
 ghost use Rattle.df_copy.specs.Tests.{references};
 
@@ -113,11 +113,8 @@ fn copy_block<A: Disk, B: Disk>(
     requires room { target.old.copied < target.old.layout.blocks }
     requires begun { IsBegun replica.old target.old }
     ensures copies { CopiesBlock target.old.layout address replica.old target.old target.new (A.told from.old) (B.told to.old) (B.told to.new) result }
-    ensures kept { OnOk result (replica.new ≡ replica.old) }
     ensures layout { target.new.layout ≡ target.old.layout }
-    ensures same { A.told from.new ≡ A.told from.old }
-    ensures source { IsBlamed is_source (A.faults from.old) (A.faults from.new) result }
-    ensures disk { IsBlamed is_target (B.faults to.old) (B.faults to.new) result }
+    ensures leaves { Leaves (beside replica.old (A.told from.old) (A.faults from.old) (B.faults to.old)) (beside replica.new (A.told from.new) (A.faults from.new) (B.faults to.new)) result }
 {
     match replica.read_block(from, address) {
         Ok(unit) => put_block(to, target, address, unit),
@@ -137,11 +134,8 @@ fn copy_at<A: Disk, B: Disk>(
     requires room { is_known (sum_at address (memory replica.old).blocks.live) ≡ true → target.old.copied < target.old.layout.blocks }
     requires begun { IsBegun replica.old target.old }
     ensures copies { CopiesAt target.old.layout address (sum_at address replica.old.blocks.live) replica.old target.old target.new (A.told from.old) (B.told to.old) (B.told to.new) result }
-    ensures kept { OnOk result (replica.new ≡ replica.old) }
     ensures layout { target.new.layout ≡ target.old.layout }
-    ensures same { A.told from.new ≡ A.told from.old }
-    ensures source { IsBlamed is_source (A.faults from.old) (A.faults from.new) result }
-    ensures disk { IsBlamed is_target (B.faults to.old) (B.faults to.new) result }
+    ensures leaves { Leaves (beside replica.old (A.told from.old) (A.faults from.old) (B.faults to.old)) (beside replica.new (A.told from.new) (A.faults from.new) (B.faults to.new)) result }
 {
     match replica.reference(address) {
         Some(_) => copy_block(from, to, replica, target, address),
@@ -161,11 +155,8 @@ pub(crate) fn copy_blocks<A: Disk, B: Disk>(
     requires begun { (rs : List Message) × IsTarget target.old.layout replica.old.file.cluster rs [] target.old }
     ensures copies { (rs : List Message) → IsTarget target.old.layout replica.old.file.cluster rs [] target.old
         → CopiesBlocks target.old.layout replica.old rs target.new (A.told from.old) (B.told to.old) (B.told to.new) result }
-    ensures kept { OnOk result (replica.new ≡ replica.old) }
     ensures layout { target.new.layout ≡ target.old.layout }
-    ensures same { A.told from.new ≡ A.told from.old }
-    ensures source { IsBlamed is_source (A.faults from.old) (A.faults from.new) result }
-    ensures disk { IsBlamed is_target (B.faults to.old) (B.faults to.new) result }
+    ensures leaves { Leaves (beside replica.old (A.told from.old) (A.faults from.old) (B.faults to.old)) (beside replica.new (A.told from.new) (A.faults from.new) (B.faults to.new)) result }
 {
     for before in 0..replica.summary().layout.blocks {
         match copy_at(from, to, replica, target, u64::from(before) + 1) {

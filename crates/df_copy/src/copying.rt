@@ -5,7 +5,7 @@ ghost use Rattle.df_disk.specs.Adds.{Adds};
 ghost use Rattle.df_format.specs.Message.{Message};
 ghost use Rattle.df_sessions.specs.Table.{AreApart};
 ghost use Rattle.df_opening.specs.Below.{memory};
-ghost use Rattle.df_copy.specs.Acts.{IsCopied};
+ghost use Rattle.df_copy.specs.Acts.{IsCopied, IsReady, Leaves, beside};
 ghost use Rattle.df_copy.specs.Copying.{BeginsTarget, CopiesInto, CopiesPlanned, CopiesUnits, Finishes};
 ghost use Rattle.df_copy.specs.Planning.{IsPlan};
 ghost use Rattle.df_copy.specs.Statuses.{blank_ending, is_source, is_target};
@@ -73,18 +73,13 @@ fn copy_units<A: Disk, B: Disk>(
     replica: &mut Replica,
     target: &mut Target,
 ) -> Result<(), Ending>
-    requires live { replica.old.live ≡ true }
-    requires rest { is_at_rest (memory replica.old) ≡ true }
-    requires fits { length replica.old.table.sessions ≤ target.old.layout.clients }
+    requires ready { IsReady target.old.layout replica.old }
     requires room { length (references (memory replica.old)) ≤ target.old.layout.blocks }
     requires begun { IsTarget target.old.layout replica.old.file.cluster [] [] target.old }
     ensures copies { AreApart replica.old.table.sessions → CopiesUnits replica.old target.old target.new (A.told from.old) (B.told to.old) (B.told to.new) result }
     ensures begun { OnOk result (IsCopied target.old.layout replica.old target.new) }
-    ensures kept { OnOk result (replica.new ≡ replica.old) }
     ensures layout { target.new.layout ≡ target.old.layout }
-    ensures same { A.told from.new ≡ A.told from.old }
-    ensures source { IsBlamed is_source (A.faults from.old) (A.faults from.new) result }
-    ensures disk { IsBlamed is_target (B.faults to.old) (B.faults to.new) result }
+    ensures leaves { Leaves (beside replica.old (A.told from.old) (A.faults from.old) (B.faults to.old)) (beside replica.new (A.told from.new) (A.faults from.new) (B.faults to.new)) result }
 {
     match copy_replies(from, to, replica, target) {
         Ok(()) => copy_blocks(from, to, replica, target),
@@ -99,12 +94,10 @@ fn finish<B: Disk>(
     target: &mut Target,
     plan: Plan,
 ) -> Result<(), Ending>
-    requires live { replica.now.live ≡ true }
-    requires rest { is_at_rest (memory replica.now) ≡ true }
-    requires fits { length replica.now.table.sessions ≤ target.old.layout.clients }
+    requires ready { IsReady target.old.layout replica.now }
     requires plan { IsPlan target.old.layout replica.now plan }
     requires room { needed target.old.layout (memory replica.now) ≤ target.old.layout.blocks }
-    requires begun { (rs : List Message) × (bs : List Message) × IsTarget target.old.layout replica.now.file.cluster rs bs target.old × (length rs ≡ length replica.now.table.sessions) × (length bs ≡ length (references (memory replica.now))) }
+    requires begun { IsCopied target.old.layout replica.now target.old }
     ensures finishes { (rs bs : List Message) → IsTarget target.old.layout replica.now.file.cluster rs bs target.old → length bs ≡ length (references (memory replica.now)) → Finishes target.old.layout replica.now rs bs (B.told to.old) (B.told to.new) result }
     ensures disk { IsBlamed is_target (B.faults to.old) (B.faults to.new) result }
     ensures target { IfErr result (λ ending. ending ≡ Ending.Target) }
@@ -128,16 +121,12 @@ fn copy_planned<A: Disk, B: Disk>(
     target: &mut Target,
     plan: Plan,
 ) -> Result<(), Ending>
-    requires live { replica.old.live ≡ true }
-    requires rest { is_at_rest (memory replica.old) ≡ true }
-    requires fits { length replica.old.table.sessions ≤ target.old.layout.clients }
+    requires ready { IsReady target.old.layout replica.old }
     requires plan { IsPlan target.old.layout replica.old plan }
     requires room { needed target.old.layout (memory replica.old) ≤ target.old.layout.blocks }
     requires begun { IsTarget target.old.layout replica.old.file.cluster [] [] target.old }
     ensures copies { AreApart replica.old.table.sessions → CopiesPlanned target.old.layout replica.old (A.told from.old) (B.told to.old) (B.told to.new) result }
-    ensures same { A.told from.new ≡ A.told from.old }
-    ensures source { IsBlamed is_source (A.faults from.old) (A.faults from.new) result }
-    ensures disk { IsBlamed is_target (B.faults to.old) (B.faults to.new) result }
+    ensures leaves { Leaves (beside replica.old (A.told from.old) (A.faults from.old) (B.faults to.old)) (beside replica.new (A.told from.new) (A.faults from.new) (B.faults to.new)) result }
 {
     let cluster = replica.summary().cluster;
     match begin(to, target, cluster) {
@@ -160,9 +149,7 @@ pub(crate) fn copy_into<A: Disk, B: Disk>(
     requires live { replica.old.live ≡ true }
     requires begun { IsTarget target.old.layout replica.old.file.cluster [] [] target.old }
     ensures copies { AreApart replica.old.table.sessions → CopiesInto target.old.layout replica.old (A.told from.old) (B.told to.old) (B.told to.new) result }
-    ensures same { A.told from.new ≡ A.told from.old }
-    ensures source { IsBlamed is_source (A.faults from.old) (A.faults from.new) result }
-    ensures disk { IsBlamed is_target (B.faults to.old) (B.faults to.new) result }
+    ensures leaves { Leaves (beside replica.old (A.told from.old) (A.faults from.old) (B.faults to.old)) (beside replica.new (A.told from.new) (A.faults from.new) (B.faults to.new)) result }
 {
     match plan_copy(replica, &target.layout) {
         Ok(plan) => copy_planned(from, to, replica, target, plan),

@@ -5,10 +5,9 @@ ghost use Rattle.df_disk.specs.Adds.{Adds};
 ghost use Rattle.df_format.specs.Message.{Message};
 ghost use Rattle.df_sessions.specs.Table.{AreApart};
 ghost use Rattle.df_opening.specs.Below.{memory};
-ghost use Rattle.df_copy.specs.Acts.{CopiesReplies, CopiesReply, HasPlace, MayPutReply, PutsReply, SetsCheck};
-ghost use Rattle.df_copy.specs.Statuses.{is_source, is_target, reply_ending};
+ghost use Rattle.df_copy.specs.Acts.{CopiesReplies, CopiesReply, HasPlace, IsReady, Leaves, MayPutReply, PutsReply, SetsCheck, beside};
+ghost use Rattle.df_copy.specs.Statuses.{is_target, reply_ending};
 ghost use Rattle.df_copy.specs.Targets.{IsTarget, KeepsGrid};
-ghost use Rattle.df_copy.specs.Tests.{is_at_rest};
 ghost use Rattle.df_copy.specs.Units.{reply_events};
 
 use crate::ending::Ending;
@@ -93,17 +92,12 @@ fn copy_reply<A: Disk, B: Disk>(
     target: &mut Target,
     place: u64,
 ) -> Result<(), Ending>
-    requires live { replica.old.live ≡ true }
-    requires rest { is_at_rest (memory replica.old) ≡ true }
+    requires ready { IsReady target.old.layout replica.old }
     requires place { place < length replica.old.table.sessions }
-    requires fits { length replica.old.table.sessions ≤ target.old.layout.clients }
     ensures copies { AreApart replica.old.table.sessions → CopiesReply target.old.layout place replica.old target.old.checks target.new.checks (A.told from.old) (B.told to.old) (B.told to.new) result }
     ensures named { OnOk result (SetsCheck (length replica.old.table.sessions) target.old.checks target.new.checks) }
-    ensures kept { OnOk result (replica.new ≡ replica.old) }
     ensures grid { KeepsGrid target.old target.new }
-    ensures same { A.told from.new ≡ A.told from.old }
-    ensures source { IsBlamed is_source (A.faults from.old) (A.faults from.new) result }
-    ensures disk { IsBlamed is_target (B.faults to.old) (B.faults to.new) result }
+    ensures leaves { Leaves (beside replica.old (A.told from.old) (A.faults from.old) (B.faults to.old)) (beside replica.new (A.told from.new) (A.faults from.new) (B.faults to.new)) result }
 {
     // The state makes sense.
     let _fields = replica.fields();
@@ -123,17 +117,12 @@ pub(crate) fn copy_replies<A: Disk, B: Disk>(
     replica: &mut Replica,
     target: &mut Target,
 ) -> Result<(), Ending>
-    requires live { replica.old.live ≡ true }
-    requires rest { is_at_rest (memory replica.old) ≡ true }
-    requires fits { length replica.old.table.sessions ≤ target.old.layout.clients }
     requires target { IsTarget target.old.layout replica.old.file.cluster [] [] target.old }
+    requires ready { IsReady target.old.layout replica.old }
     ensures copies { AreApart replica.old.table.sessions → CopiesReplies target.old.layout replica.old target.new.checks (A.told from.old) (B.told to.old) (B.told to.new) result }
     ensures begun { OnOk result ((rs : List Message) × (length rs ≡ length replica.old.table.sessions) × IsTarget target.old.layout replica.old.file.cluster rs [] target.new) }
-    ensures kept { OnOk result (replica.new ≡ replica.old) }
     ensures grid { KeepsGrid target.old target.new }
-    ensures same { A.told from.new ≡ A.told from.old }
-    ensures source { IsBlamed is_source (A.faults from.old) (A.faults from.new) result }
-    ensures disk { IsBlamed is_target (B.faults to.old) (B.faults to.new) result }
+    ensures leaves { Leaves (beside replica.old (A.told from.old) (A.faults from.old) (B.faults to.old)) (beside replica.new (A.told from.new) (A.faults from.new) (B.faults to.new)) result }
 {
     for place in 0..replica.summary().sessions {
         match copy_reply(from, to, replica, target, place) {

@@ -30,14 +30,15 @@ returns-in-Ok-clause-copies g c =
     block_put s c.args.address c.in-Ok.unit.now.unit c.args.target.now c.put_block.new.target from (g.B.Disk.told c.args.to.now) (g.B.Disk.told c.put_block.new.to)
     (block_is s from c.args.address c.in-Ok.unit.now.unit c.in-Ok.ensures.lent c.in-Ok.ensures.exact) c.put_block.result c.put_block.ensures.puts
 
-pub returns-in-Ok-clause-kept : goal.returns-in-Ok-clause-kept
-returns-in-Ok-clause-kept g c = on_ok c.put_block.result (c.read_block.follows.holds-at-none ∙ ap (left_by is_read_fault c.args.replica.now) c.in-Ok.is)
-
-pub returns-in-Ok-clause-source : goal.returns-in-Ok-clause-source
-returns-in-Ok-clause-source g c =
-    let t : Target = c.args.target.now in
-    unblamed c.put_block.result (g.A.Disk.faults c.args.from.now) (g.A.Disk.faults c.read_block.new.disk)
-    (λ is. subst (λ (r : Result (Unit {0}) Ending). PutsBlock c.args.address c.in-Ok.unit.now.unit t c.put_block.new.target (g.B.Disk.told c.args.to.now) (g.B.Disk.told c.put_block.new.to) r) is c.put_block.ensures.puts) c.in-Ok.ensures.cause
+pub returns-in-Ok-clause-leaves : goal.returns-in-Ok-clause-leaves
+returns-in-Ok-clause-leaves g c = record {
+  kept = on_ok c.put_block.result (c.read_block.follows.holds-at-none ∙ ap (left_by is_read_fault c.args.replica.now) c.in-Ok.is);
+  same = c.in-Ok.ensures.same;
+  blames_source =
+      unblamed c.put_block.result (g.A.Disk.faults c.args.from.now) (g.A.Disk.faults c.read_block.new.disk)
+      (λ is. subst (λ (r : Result (Unit {0}) Ending). PutsBlock c.args.address c.in-Ok.unit.now.unit c.args.target.now c.put_block.new.target (g.B.Disk.told c.args.to.now) (g.B.Disk.told c.put_block.new.to) r) is c.put_block.ensures.puts) c.in-Ok.ensures.cause;
+  blames_target = c.put_block.ensures.disk;
+}
 
 -- ---- it isn't
 
@@ -54,13 +55,16 @@ returns-in-Err-clause-copies g c =
     subst (λ (e : Ending). CopiesBlock {T = Unit {0}} t.layout c.args.address s t t from to to (Err e)) (sym c.unread_block.ensures)
     (block_unread s from c.args.address (Unit {0}) t.layout t t to c.in-Err.error live c.in-Err.ensures.exact)
 
-pub returns-in-Err-clause-source : goal.returns-in-Err-clause-source
-returns-in-Err-clause-source g c =
+pub returns-in-Err-clause-leaves : goal.returns-in-Err-clause-leaves
+returns-in-Err-clause-leaves g c =
     let live = live_there c.args.replica.now (g.A.Disk.told c.args.from.now) c.args.address c.in-Err.error c.requires.known c.in-Err.ensures.exact in
-    subst (λ (e : Ending). Blamed (is_source e) (g.A.Disk.faults c.args.from.now) (g.A.Disk.faults c.read_block.new.disk)) (sym c.unread_block.ensures)
-    (block_blamed (g.A.Disk.faults c.args.from.now) (g.A.Disk.faults c.read_block.new.disk) c.in-Err.error live c.in-Err.ensures.cause)
-
-pub returns-in-Err-clause-disk : goal.returns-in-Err-clause-disk
-returns-in-Err-clause-disk g c =
-    subst (λ (e : Ending). Blamed (is_target e) (g.B.Disk.faults c.args.to.now) (g.B.Disk.faults c.args.to.now)) (sym c.unread_block.ensures)
-    (block_spares c.in-Err.error (g.B.Disk.faults c.args.to.now))
+    record {
+      kept = tt;
+      same = c.in-Err.ensures.same;
+      blames_source =
+          subst (λ (e : Ending). Blamed (is_source e) (g.A.Disk.faults c.args.from.now) (g.A.Disk.faults c.read_block.new.disk)) (sym c.unread_block.ensures)
+          (block_blamed (g.A.Disk.faults c.args.from.now) (g.A.Disk.faults c.read_block.new.disk) c.in-Err.error live c.in-Err.ensures.cause);
+      blames_target =
+          subst (λ (e : Ending). Blamed (is_target e) (g.B.Disk.faults c.args.to.now) (g.B.Disk.faults c.args.to.now)) (sym c.unread_block.ensures)
+          (block_spares c.in-Err.error (g.B.Disk.faults c.args.to.now));
+    }

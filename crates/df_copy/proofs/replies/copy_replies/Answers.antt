@@ -7,7 +7,8 @@ use Rattle.df_model.specs.declared.answers.Summary.{Summary}
 use Rattle.df_opening.specs.Below.{State, memory}
 use Rattle.df_copy.specs.declared.ending.Ending.{Ending}
 use Rattle.df_copy.specs.declared.target.Target.{Target}
-use Rattle.df_copy.specs.Acts.{CopiesReply, SetsCheck}
+use Rattle.df_copy.specs.Acts.{CopiesReply, IsReady, SetsCheck, beside}
+use Rattle.df_copy.proofs.Blamed.{leaves_then}
 use Rattle.df_copy.proofs.Named.{named_by, named_more, named_none}
 use Rattle.df_copy.proofs.Planning.{how_many}
 use Rattle.df_copy.proofs.Replying.{replying_ends, replying_more, replying_none}
@@ -26,10 +27,7 @@ inside n sessions s less is = let all = how_many s.file.layout s in omega (arith
 
 pub loop-place-init : goal.loop-place-init
 loop-place-init g c = record {
-  kept = refl;
-  same = refl;
-  source_faults = refl;
-  target_faults = refl;
+  leaves = record { kept = refl; same = refl; blames_source = refl; blames_target = refl };
   named = named_none (length c.args.replica.now.table.sessions) c.args.target.now.checks c.requires.target.checks;
   grid = record { layout_is = refl; grid = refl; copied = refl };
   replying = λ apart. replying_none c.args.target.now.layout c.args.replica.now (g.A.Disk.told c.args.from.now) (g.B.Disk.told c.args.to.now) c.args.target.now.checks c.requires.target.checks;
@@ -46,7 +44,7 @@ returns-in-Err-clause-copies g c = λ apart.
     let sessions = ap (λ (x : Summary). x.sessions) c.summary-place-end.ensures in
     replying_ends layout s from (g.B.Disk.told c.args.to.now) t.checks (g.B.Disk.told c.loop-place.to) n (inside n c.summary-place-end.result.sessions s c.loop-place-test.true sessions) (i.replying apart)
     (Unit {0}) c.copy_reply.new.target.checks c.copy_reply.new.target.checks (g.B.Disk.told c.copy_reply.new.to) c.in-Err.ending
-    (at_entry {T = Unit {0}} n t.checks c.copy_reply.new.target.checks (g.B.Disk.told c.loop-place.to) (g.B.Disk.told c.copy_reply.new.to) (Err c.in-Err.ending) layout t.layout s c.loop-place.replica from (g.A.Disk.told c.loop-place.from) i.grid.layout_is i.kept i.same
+    (at_entry {T = Unit {0}} n t.checks c.copy_reply.new.target.checks (g.B.Disk.told c.loop-place.to) (g.B.Disk.told c.copy_reply.new.to) (Err c.in-Err.ending) layout t.layout s c.loop-place.replica from (g.A.Disk.told c.loop-place.from) i.grid.layout_is i.leaves.kept i.leaves.same
       c.in-Err.ensures.copies apart)
 
 pub loop-place-preserved : goal.loop-place-preserved
@@ -62,17 +60,17 @@ loop-place-preserved g c =
     let less = inside n c.summary-place-end.result.sessions s c.loop-place-test.true sessions in
     let few : n < 64 = omega (arith, sessions, layout.clients_within.1) in
     record {
-      kept = c.in-Ok.ensures.kept ∙ i.kept;
-      same = c.in-Ok.ensures.same ∙ i.same;
-      source_faults = c.in-Ok.ensures.source ∙ i.source_faults;
-      target_faults = c.in-Ok.ensures.disk ∙ i.target_faults;
+      leaves =
+          leaves_then {T = Unit {0}} {U = Unit {0}} (beside c.args.replica.now (g.A.Disk.told c.args.from.now) (g.A.Disk.faults c.args.from.now) (g.B.Disk.faults c.args.to.now))
+          (beside c.loop-place.replica (g.A.Disk.told c.loop-place.from) (g.A.Disk.faults c.loop-place.from) (g.B.Disk.faults c.loop-place.to))
+          (beside c.copy_reply.new.replica (g.A.Disk.told c.copy_reply.new.from) (g.A.Disk.faults c.copy_reply.new.from) (g.B.Disk.faults c.copy_reply.new.to)) (tt {0}) (Ok c.in-Ok.field-0) i.leaves c.in-Ok.ensures.leaves;
       named =
           named_more (length s.table.sessions) t.checks c.copy_reply.new.target.checks i.named
-          (subst (λ (q : State). SetsCheck (length q.table.sessions) t.checks c.copy_reply.new.target.checks) i.kept c.in-Ok.ensures.named);
+          (subst (λ (q : State). SetsCheck (length q.table.sessions) t.checks c.copy_reply.new.target.checks) i.leaves.kept c.in-Ok.ensures.named);
       grid = record { layout_is = k.layout_is ∙ i.grid.layout_is; grid = k.grid ∙ i.grid.grid; copied = k.copied ∙ i.grid.copied };
       replying = λ apart.
           let one =
-          at_entry n t.checks c.copy_reply.new.target.checks (g.B.Disk.told c.loop-place.to) (g.B.Disk.told c.copy_reply.new.to) (Ok c.in-Ok.field-0) layout t.layout s c.loop-place.replica from (g.A.Disk.told c.loop-place.from) i.grid.layout_is i.kept i.same
+          at_entry n t.checks c.copy_reply.new.target.checks (g.B.Disk.told c.loop-place.to) (g.B.Disk.told c.copy_reply.new.to) (Ok c.in-Ok.field-0) layout t.layout s c.loop-place.replica from (g.A.Disk.told c.loop-place.from) i.grid.layout_is i.leaves.kept i.leaves.same
             c.in-Ok.ensures.copies apart in
           replying_more layout s from (g.B.Disk.told c.args.to.now) t.checks (g.B.Disk.told c.loop-place.to) n less (i.replying apart) c.copy_reply.new.target.checks (g.B.Disk.told c.copy_reply.new.to) few one.0 one.1 one.2 one.3;
     }
@@ -82,5 +80,16 @@ returns-clause-begun g c =
     let i = c.loop-place.invariant in
     let t = c.requires.target in
     let few = c.args.target.now.layout.clients_within.1 in
-    let by = named_by (length c.args.replica.now.table.sessions) c.loop-place.target.checks (omega (arith, few, c.requires.fits)) i.named in
+    let by = named_by (length c.args.replica.now.table.sessions) c.loop-place.target.checks (omega (arith, few, c.requires.ready.fits)) i.named in
     (by.0, by.1, record { layout_is = i.grid.layout_is; grid = i.grid.grid ∙ t.grid; checks = by.2; copied = i.grid.copied ∙ t.copied })
+
+pub returns-in-Err-clause-leaves : goal.returns-in-Err-clause-leaves
+returns-in-Err-clause-leaves g c =
+    leaves_then {T = Unit {0}} {U = Unit {0}} (beside c.args.replica.now (g.A.Disk.told c.args.from.now) (g.A.Disk.faults c.args.from.now) (g.B.Disk.faults c.args.to.now))
+    (beside c.loop-place.replica (g.A.Disk.told c.loop-place.from) (g.A.Disk.faults c.loop-place.from) (g.B.Disk.faults c.loop-place.to))
+    (beside c.copy_reply.new.replica (g.A.Disk.told c.copy_reply.new.from) (g.A.Disk.faults c.copy_reply.new.from) (g.B.Disk.faults c.copy_reply.new.to)) (tt {0}) (Err c.in-Err.ending) c.loop-place.invariant.leaves c.in-Err.ensures.leaves
+
+pub copy_reply-requires-clause-ready : goal.copy_reply-requires-clause-ready
+copy_reply-requires-clause-ready g c =
+    let i = c.loop-place.invariant in
+    subst (λ (l : Layout). IsReady l c.loop-place.replica) (sym i.grid.layout_is) (subst (λ (s : State). IsReady c.args.target.now.layout s) (sym i.leaves.kept) c.requires.ready)
