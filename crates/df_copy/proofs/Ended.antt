@@ -1,5 +1,6 @@
 -- What the status of a copy blames, and what becomes of a source that isn't opened.
-use Rattle.std.proofs.Common.{◌≡◌, ◌⊎◌, inl, inr, ℕ, ◌≤◌, Bool, true, false, List, Option, Some, Result, Ok, Err, refl, ◌∙◌, ap, subst, arith}
+use Rattle.std.proofs.Common.{◌≡◌, ◌⊎◌, inl, inr, ℕ, ◌<◌, ◌≤◌, Bool, true, false, List, [], ◌∷◌, length, map, Option, Some, None, Result, Ok, Err, refl, sym, ◌∙◌, ap, subst, arith}
+use Rattle.std.specs.Prelude.{IfNone, get_or}
 use Rattle.df_base.specs.Causes.{Blamed, IsBlamed, Rose}
 use Rattle.df_base.specs.Image.{IsImage}
 use Rattle.df_base.specs.Log.{Sync}
@@ -16,11 +17,12 @@ use Rattle.df_opening.specs.Surveying.{TellsSurvey}
 use Rattle.df_telling.specs.Telling.{Blames, PrintsError, Writes}
 use Rattle.df_telling.specs.Two.{Faults, HasCauses, Outside}
 use Rattle.df_telling.proofs.Laws.{open_fault, refusal_ends, text_ends}
+use Rattle.df_words.specs.Names.{NamesLayout, OneLayout}
 use Rattle.df_copy.specs.declared.ending.Ending.{Ending}
 use Rattle.df_copy.specs.declared.ending.Ending.TheVariants.{BlockTooLong, Damaged, NotAtRest, NotBlank, ReplyTooLong, Source, Target, TooFewBlocks, TooFewClients}
 use Rattle.df_copy.specs.declared.status.Status.{Status}
 use Rattle.df_copy.specs.declared.status.Status.TheVariants as ends
-use Rattle.df_copy.specs.Run.{Does, Outcome, Prints}
+use Rattle.df_copy.specs.Run.{Does, Means, MeansNothing, Outcome, Prints}
 use Rattle.df_copy.specs.Statuses.{EndsWithFiles, is_fault, is_source, is_target}
 use Rattle.df_copy.specs.Texts.{ending_text}
 
@@ -141,3 +143,20 @@ not_probed layout t old new status e told answer same silent prints = elim (open
       first = same;
     }))
 ]
+
+-- ---- words
+
+pub one_meaning : (words : List (List ℕ)) (layout other : Layout) → OneLayout → Means words layout → Means words other → layout ≡ other
+one_meaning words layout other one m n =
+    let same : m.0 ≡ n.0 = ap (λ (ws : List (List ℕ)). get_or ws 0 []) (sym m.1 ∙ n.1) in
+    one n.0 layout other (subst (λ (name : List ℕ). NamesLayout name layout) same m.2) n.2
+
+-- one word is the name
+pub one_name : {X : Type 0} (bytes : X → List ℕ) (words : List X) (word : X) (name : List ℕ) (r : Option Layout) → word ≡ get_or words 0 word → 1 ≤ length words → length words < 2 → name ≡ bytes word
+    → IfNone r ((layout : Layout) → NamesLayout name layout → ⊥) → IfNone r (MeansNothing (map bytes words))
+one_name bytes words word name (Some layout) at least below is none = tt
+one_name bytes [] word name None at least below is none = absurd (omega (arith, least))
+one_name bytes (w ∷ v ∷ words) word name None at least below is none = absurd (omega (arith, below))
+one_name bytes (w ∷ []) word name None at least below is none = λ layout means.
+    let same : means.0 ≡ name = ap (λ (ws : List (List ℕ)). get_or ws 0 []) (sym means.1) ∙ ap bytes (sym at) ∙ sym is in
+    none layout (subst (λ (n : List ℕ). NamesLayout n layout) same means.2)

@@ -142,7 +142,7 @@ module _ (T : Type 0) (layout : Layout) (s : State) (from old : Option Told) whe
 
   pub planned_stop : (new : Option Told) (e : Ending) → BeginsTarget {T = T} layout cluster old new (Err e) → CopiesPlanned {T = T} layout s from old new (Err e)
   planned_stop new TargetFails begins = record { writes = (nothing, inl (part_then (ring_events layout cluster) (units_written layout [] []) old new begins)); judged = silent }
-  planned_stop new Source begins = record { writes = inl begins.0; judged = silent }
+  planned_stop new Source begins = absurd begins
   planned_stop new (NotAtRest a b c) begins = record { writes = inl begins.0; judged = begun_refused (NotAtRest a b c) begins.1 }
   planned_stop new (TooFewClients a b) begins = record { writes = inl begins.0; judged = begun_refused (TooFewClients a b) begins.1 }
   planned_stop new (TooFewBlocks a b) begins = record { writes = inl begins.0; judged = begun_refused (TooFewBlocks a b) begins.1 }

@@ -1,7 +1,6 @@
 -- Behind the open of its source a copy spares the sectors of the target's superblock until the first copy of it, and the target holds it whole where it is made.
 use Rattle.std.proofs.Common.{◌≡◌, ◌⊎◌, inl, inr, ℕ, ◌+◌, ◌<◌, ◌≤◌, ◌++◌, Bool, true, false, not, if◌then◌else◌, List, [], ◌∷◌, length, Option, Some, None, Result, Ok, Err, refl, sym, ◌∙◌, ap, subst, arith}
 use Rattle.std.specs.Prelude.{nat_lt, slice_get}
-use Rattle.std.proofs.lemmas.Bool.{ltb-false}
 use Rattle.std.proofs.lemmas.List.{length-map}
 use Rattle.std.proofs.lemmas.Option.{same_Some}
 use Rattle.df_base.specs.Fields.{AreBytes}
@@ -45,6 +44,7 @@ use Rattle.df_copy.specs.Tests.{blank_tests, is_at_rest, needed, tests, unit_tes
 use Rattle.df_copy.specs.Views.{HoldsCopy, IsCopyOf, IsEmpty, file_in}
 use Rattle.df_copy.proofs.Alike.{WereRead, copy_alike}
 use Rattle.df_copy.proofs.Holding.{copy_found, copy_stands, copy_view, copy_whole, mapped, place_shows, shown}
+use Rattle.df_copy.proofs.Planning.{Passes, passes_tests}
 use Rattle.df_copy.proofs.Seen.{block_seen, reply_seen}
 use Rattle.df_copy.proofs.Sources.{IsSource, opened_lawful, rest_source}
 use Rattle.df_copy.proofs.Spares.{spare_units, spares_all, spares_copy, spares_part}
@@ -75,33 +75,8 @@ copy_spares layout s from o new (Err (Damaged a b)) writes = unbegun layout s fr
 
 -- ---- the tests
 
-passes_first : (b : Bool) (e : Ending) (rest : List (Bool × Ending)) → first_refusal ((b, e) ∷ rest) ≡ None → (b ≡ false) × (first_refusal rest ≡ None)
-passes_first true e rest none = absurd (cc)
-passes_first false e rest none = (refl, none)
-
-not_false : (b : Bool) → not b ≡ false → b ≡ true
-not_false true is = refl
-not_false false is = absurd (cc)
-
--- none of those that read nothing holds
-pub record Passes (layout : Layout) (s : State) : Type 0 where
-  pub rest : is_at_rest (memory s) ≡ true
-  pub fits : length s.table.sessions ≤ layout.clients
-  pub room : needed layout (memory s) ≤ layout.blocks
-
 pub passes_all : (layout : Layout) (s : State) (seen : Shown) (image : Image) → first_refusal (tests layout seen (memory s) image) ≡ None → Passes layout s
-passes_all layout s seen image none =
-    let behind : List (Bool × Ending) = blank_tests image ++ unit_tests layout seen (memory s) in
-    let full : Bool × Ending = (nat_lt layout.blocks (needed layout (memory s)), TooFewBlocks (needed layout (memory s)) layout.blocks) in
-    let few : Bool × Ending = (nat_lt layout.clients (length (memory s).sessions), TooFewClients (length (memory s).sessions) layout.clients) in
-    let one = passes_first (not (is_at_rest (memory s))) (NotAtRest (memory s).content.op (memory s).head (memory s).replies) (few ∷ full ∷ behind) none in
-    let two = passes_first few.0 few.1 (full ∷ behind) one.1 in
-    let three = passes_first full.0 full.1 behind two.1 in
-    record {
-      rest = not_false (is_at_rest (memory s)) one.0;
-      fits = omega (arith, ltb-false layout.clients (length (memory s).sessions) two.0, length-map s.table.sessions session_of);
-      room = ltb-false layout.blocks (needed layout (memory s)) three.0;
-    }
+passes_all layout s seen image none = passes_tests layout s (blank_tests image ++ unit_tests layout seen (memory s)) none
 
 -- ---- the target
 

@@ -1,8 +1,10 @@
 -- What the tests that read nothing say: none holds, or the first that does.
-use Rattle.std.proofs.Common.{◌≡◌, ℕ, suc, ◌+◌, ◌-◌, ◌<◌, ◌≤◌, ◌==◌, Bool, true, false, not, if◌then◌else◌, List, [], ◌∷◌, length, Option, Some, None, sym, ◌∙◌, ap, arith}
+use Rattle.std.proofs.Common.{◌≡◌, ℕ, suc, ◌+◌, ◌-◌, ◌<◌, ◌≤◌, ◌==◌, Bool, true, false, not, if◌then◌else◌, List, [], ◌∷◌, ◌++◌, length, Option, Some, None, refl, sym, ◌∙◌, ap, subst, arith}
 use Rattle.std.specs.Prelude.{nat_lt}
-use Rattle.std.proofs.lemmas.Bool.{eq-eqb, le-ltb, lt-ltb, ne_eqb}
+use Rattle.std.proofs.lemmas.Bool.{eq-eqb, le-ltb, lt-ltb, ltb-false, ne_eqb}
 use Rattle.std.proofs.lemmas.List.{length-map}
+use Rattle.std.proofs.lemmas.Option.{none-some, same_Some}
+use Rattle.df_base.specs.Causes.{Blamed}
 use Rattle.df_layout.specs.declared.layout.Layout.{Layout}
 use Rattle.df_sessions.specs.Requests.{session_of}
 use Rattle.df_trailer.specs.Spelling.{text_size}
@@ -13,13 +15,59 @@ use Rattle.df_model.specs.Refusals.{first_refusal}
 use Rattle.df_opening.specs.Below.{State, memory}
 use Rattle.df_copy.specs.declared.ending.Ending.{Ending}
 use Rattle.df_copy.specs.declared.ending.Ending.TheVariants.{NotAtRest, TooFewBlocks, TooFewClients}
+use Rattle.df_copy.specs.Statuses.{is_source, is_target}
 use Rattle.df_copy.specs.Tests.{is_at_rest, needed, references, references_from, rest_tests, trailer_size}
+
+-- ---- the tests that read nothing
+
+passes_first : (b : Bool) (e : Ending) (rest : List (Bool × Ending)) → first_refusal ((b, e) ∷ rest) ≡ None → (b ≡ false) × (first_refusal rest ≡ None)
+passes_first true e rest none = absurd (cc)
+passes_first false e rest none = (refl, none)
+
+not_false : (b : Bool) → not b ≡ false → b ≡ true
+not_false true is = refl
+not_false false is = absurd (cc)
+
+-- none of them holds
+pub record Passes (layout : Layout) (s : State) : Type 0 where
+  pub rest : is_at_rest (memory s) ≡ true
+  pub fits : length s.table.sessions ≤ layout.clients
+  pub room : needed layout (memory s) ≤ layout.blocks
+
+pub passes_tests : (layout : Layout) (s : State) (behind : List (Bool × Ending)) → first_refusal (rest_tests layout (memory s) ++ behind) ≡ None → Passes layout s
+passes_tests layout s behind none =
+    let full : Bool × Ending = (nat_lt layout.blocks (needed layout (memory s)), TooFewBlocks (needed layout (memory s)) layout.blocks) in
+    let few : Bool × Ending = (nat_lt layout.clients (length (memory s).sessions), TooFewClients (length (memory s).sessions) layout.clients) in
+    let one = passes_first (not (is_at_rest (memory s))) (NotAtRest (memory s).content.op (memory s).head (memory s).replies) (few ∷ full ∷ behind) none in
+    let two = passes_first few.0 few.1 (full ∷ behind) one.1 in
+    let three = passes_first full.0 full.1 behind two.1 in
+    record {
+      rest = not_false (is_at_rest (memory s)) one.0;
+      fits = omega (arith, ltb-false layout.clients (length (memory s).sessions) two.0, length-map s.table.sessions session_of);
+      room = ltb-false layout.blocks (needed layout (memory s)) three.0;
+    }
 
 -- the three tests
 abbrev three : (a b c : Bool) (x y z : Ending) → Option Ending
 three a b c x y z = first_refusal ((a, x) ∷ (b, y) ∷ (c, z) ∷ [])
 
+-- what none of the three endings is, the first that is answered isn't
+first_is : (a b c : Bool) (x y z e : Ending) (test : Ending → Bool) → test x ≡ false → test y ≡ false → test z ≡ false → three a b c x y z ≡ Some e → test e ≡ false
+first_is true b c x y z e test one two last is = ap test (sym (same_Some x e is)) ∙ one
+first_is false true c x y z e test one two last is = ap test (sym (same_Some y e is)) ∙ two
+first_is false false true x y z e test one two last is = ap test (sym (same_Some z e is)) ∙ last
+first_is false false false x y z e test one two last is = absurd (none-some e is)
+
 module _ (layout : Layout) (s : State) where
+  -- a refusal by one of them blames no disk
+  pub rest_blames : (count : ℕ) (e : Ending) → first_refusal (rest_tests layout (memory s)) ≡ Some e → Blamed (is_source e) count count × Blamed (is_target e) count count
+  rest_blames count e is = (by is_source refl refl refl, by is_target refl refl refl)
+    where
+      by : (test : Ending → Bool) → test (NotAtRest (memory s).content.op (memory s).head (memory s).replies) ≡ false → test (TooFewClients (length (memory s).sessions) layout.clients) ≡ false → test (TooFewBlocks (needed layout (memory s)) layout.blocks) ≡ false → Blamed (test e) count count
+      by test one two last =
+          subst (λ (b : Bool). Blamed b count count)
+          (sym (first_is (not (is_at_rest (memory s))) (nat_lt layout.clients (length (memory s).sessions)) (nat_lt layout.blocks (needed layout (memory s))) (NotAtRest (memory s).content.op (memory s).head (memory s).replies) (TooFewClients (length (memory s).sessions) layout.clients) (TooFewBlocks (needed layout (memory s)) layout.blocks) e test one two last is)) refl
+
   abbrev sessions : ℕ
   sessions = length (memory s).sessions
 

@@ -66,6 +66,7 @@ pub record CopiesInto {T : Type 0} (layout : Layout) (s : State) (from old new :
 abbrev pub BeginsTarget : {T : Type 0} → Layout → (cluster : ℕ) → (old new : Option Told) → Result T Ending → Type 0
 BeginsTarget layout cluster old new (Ok x) = (new ≡ after_all (ring_events layout cluster) old) × OverTold old (λ image. first_refusal (blank_tests image) ≡ None)
 BeginsTarget layout cluster old new (Err Target) = AddsPart (ring_events layout cluster) old new
+BeginsTarget layout cluster old new (Err Source) = ⊥
 BeginsTarget layout cluster old new (Err e) = (new ≡ old) × OverTold old (λ image. first_refusal (blank_tests image) ≡ Some e)
 
 -- the replies and the blocks

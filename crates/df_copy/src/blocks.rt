@@ -130,9 +130,9 @@ fn copy_at<A: Disk, B: Disk>(
     target: &mut Target,
     address: u64,
 ) -> Result<(), Ending>
+    requires begun { IsBegun replica.old target.old }
     requires live { replica.old.live ≡ true }
     requires room { is_known (sum_at address (memory replica.old).blocks.live) ≡ true → target.old.copied < target.old.layout.blocks }
-    requires begun { IsBegun replica.old target.old }
     ensures copies { CopiesAt target.old.layout address (sum_at address replica.old.blocks.live) replica.old target.old target.new (A.told from.old) (B.told to.old) (B.told to.new) result }
     ensures layout { target.new.layout ≡ target.old.layout }
     ensures leaves { Leaves (beside replica.old (A.told from.old) (A.faults from.old) (B.faults to.old)) (beside replica.new (A.told from.new) (A.faults from.new) (B.faults to.new)) result }
@@ -150,8 +150,8 @@ pub(crate) fn copy_blocks<A: Disk, B: Disk>(
     replica: &mut Replica,
     target: &mut Target,
 ) -> Result<(), Ending>
-    requires live { replica.old.live ≡ true }
     requires room { length (references (memory replica.old)) ≤ target.old.layout.blocks }
+    requires live { replica.old.live ≡ true }
     requires begun { (rs : List Message) × IsTarget target.old.layout replica.old.file.cluster rs [] target.old }
     ensures copies { (rs : List Message) → IsTarget target.old.layout replica.old.file.cluster rs [] target.old
         → CopiesBlocks target.old.layout replica.old rs target.new (A.told from.old) (B.told to.old) (B.told to.new) result }

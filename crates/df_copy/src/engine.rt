@@ -20,7 +20,7 @@ use df_disk::Disk;
 use df_layout::Layout;
 use df_replica::{Replica, Rooms, probe};
 use df_telling::end_with;
-use df_words::layout_named;
+use df_words::{a_name_is_of_one_layout, layout_named};
 use std::alloc::Global;
 
 pub use crate::telling::USAGE;
@@ -68,6 +68,8 @@ fn copy_opened<A: Disk, B: Disk, W: Sink>(
 {
     let mut replica = replica;
     let layout = rooms.layout;
+    // The state makes sense, and its superblock can be used.
+    let _fields = replica.fields();
     let mut target = Target::over(rooms, replica.summary().cluster);
     match copy_into(from, to, &mut replica, &mut target) {
         Ok(()) => tell_copied(sink, &layout),
@@ -140,6 +142,7 @@ pub fn copy<A: Disk, B: Disk, W: Sink>(
     ensures causes { HasCauses Status.DiskFault Status.WriteFault (counts (A.faults from.old) (B.faults to.old) (W.faults sink.old)) (counts (A.faults from.new) (B.faults to.new) (W.faults sink.new)) result }
     ensures memory { result ≡ Status.Memory → around (A.told from.new) (B.told to.new) (W.written sink.new) ≡ around (A.told from.old) (B.told to.old) (W.written sink.old) }
 {
+    a_name_is_of_one_layout();
     match layout_in(words) {
         Some(layout) => copy_file(alloc, &layout, from, to, sink),
         None => end_with(sink, USAGE, Status::Words, Status::WriteFault),

@@ -1,5 +1,5 @@
 // What is refused, in its order, each with its text.
-use crate::shown::{LEAST, WORKED, copy_failing, expect, file_behind};
+use crate::shown::{LEAST, WORKED, copy_failing, done, expect, file_behind, refused};
 use df_copy::Status;
 use df_memdisk::Strike;
 use df_runs::{blank, expect_words, words};
@@ -40,7 +40,7 @@ fn a_source_that_does_not_fit_is_refused(rt: HostRuntime) -> Result<(), Fail> {
     for (script, text) in &REFUSED {
         let mut from = file_behind(alloc, script)?;
         let mut to = blank(alloc, &[])?;
-        expect(alloc, &mut from, &mut to, LEAST, text, Status::Refused)?;
+        expect(alloc, &mut from, &mut to, LEAST, refused(text))?;
         if to.calls() != 0 {
             return Err("the target was touched".into());
         }
@@ -55,14 +55,7 @@ fn seven_blocks_and_their_trailer_fit_in_eight(rt: HostRuntime) -> Result<(), Fa
         b"block 1 00\nblock 1 01\nblock 1 02\nblock 1 03\nblock 1 04\nblock 1 05\nblock 1 06\ncheckpoint -\nstep\nstep\n";
     let mut from = file_behind(alloc, script)?;
     let mut to = blank(alloc, &[])?;
-    expect(
-        alloc,
-        &mut from,
-        &mut to,
-        LEAST,
-        "copied 30\n",
-        Status::Done,
-    )?;
+    expect(alloc, &mut from, &mut to, LEAST, done("copied 30\n"))?;
     expect_words(alloc, &mut to, &["scrub"], "tour 8 0\n")
 }
 
@@ -74,14 +67,7 @@ fn a_target_that_is_not_blank_is_refused(rt: HostRuntime) -> Result<(), Fail> {
         let mut to = blank(alloc, &[])?;
         to.strike(u64::from(copy), Strike::Fill { byte: 1 })?;
         let text = format!(in alloc; "refused NotBlank copy {copy}\n")?;
-        expect(
-            alloc,
-            &mut from,
-            &mut to,
-            LEAST,
-            text.as_str(),
-            Status::Refused,
-        )?;
+        expect(alloc, &mut from, &mut to, LEAST, refused(text.as_str()))?;
         if to.events() != 0 {
             return Err("something was written".into());
         }
@@ -107,19 +93,12 @@ fn a_reply_that_is_too_long_is_refused(rt: HostRuntime) -> Result<(), Fail> {
     let mut from = file_behind(alloc, &script)?;
     let mut to = blank(alloc, &[])?;
     let text = "refused ReplyTooLong place 0 size 4097\n";
-    expect(alloc, &mut from, &mut to, LEAST, text, Status::Refused)?;
+    expect(alloc, &mut from, &mut to, LEAST, refused(text))?;
     expect_words(alloc, &mut to, &["recover"], "refused NotFormatted\n")?;
     let script = with_body(alloc, "append 1 1 aa\nreply 1 ", 3840, behind)?;
     let mut from = file_behind(alloc, &script)?;
     let mut to = blank(alloc, &[])?;
-    expect(
-        alloc,
-        &mut from,
-        &mut to,
-        LEAST,
-        "copied 30\n",
-        Status::Done,
-    )
+    expect(alloc, &mut from, &mut to, LEAST, done("copied 30\n"))
 }
 
 #[test]
@@ -130,18 +109,18 @@ fn a_block_that_is_too_long_is_refused(rt: HostRuntime) -> Result<(), Fail> {
     let mut from = file_behind(alloc, &script)?;
     let mut to = blank(alloc, &[])?;
     let text = "refused BlockTooLong address 2 size 4097\n";
-    expect(alloc, &mut from, &mut to, LEAST, text, Status::Refused)?;
+    expect(alloc, &mut from, &mut to, LEAST, refused(text))?;
     expect_words(alloc, &mut to, &["recover"], "refused NotFormatted\n")?;
     // A damaged block before it is met first, and one behind it isn't.
     let mut from = file_behind(alloc, &script)?;
     from.strike(80, Strike::Fill { byte: 0xa5 })?;
     let mut to = blank(alloc, &[])?;
     let damaged = "refused Damaged Grid 1 Garbled\n";
-    expect(alloc, &mut from, &mut to, LEAST, damaged, Status::Refused)?;
+    expect(alloc, &mut from, &mut to, LEAST, refused(damaged))?;
     let mut from = file_behind(alloc, &script)?;
     from.strike(88, Strike::Fill { byte: 0xa5 })?;
     let mut to = blank(alloc, &[])?;
-    expect(alloc, &mut from, &mut to, LEAST, text, Status::Refused)
+    expect(alloc, &mut from, &mut to, LEAST, refused(text))
 }
 
 #[test]
@@ -150,12 +129,12 @@ fn a_source_that_is_not_opened_is_refused_as_by_an_open(rt: HostRuntime) -> Resu
     let mut from = blank(alloc, &[])?;
     let mut to = blank(alloc, &[])?;
     let text = "refused NotFormatted\n";
-    expect(alloc, &mut from, &mut to, LEAST, text, Status::Refused)?;
+    expect(alloc, &mut from, &mut to, LEAST, refused(text))?;
     // A stored reply is read by the open already.
     let mut from = file_behind(alloc, WORKED)?;
     from.strike(70, Strike::Fill { byte: 0xa5 })?;
     let text = "refused Damaged ClientReplies 0 Garbled\n";
-    expect(alloc, &mut from, &mut to, LEAST, text, Status::Refused)?;
+    expect(alloc, &mut from, &mut to, LEAST, refused(text))?;
     if to.calls() != 0 {
         return Err("the target was touched".into());
     }

@@ -1,7 +1,6 @@
 // Copies that are made: what stands in them is what stood in the source, but for the layout.
-use crate::shown::{LEAST, WORKED, expect, file_behind, worked_copy};
+use crate::shown::{LEAST, WORKED, done, expect, file_behind, worked_copy};
 use df_base::SECTOR;
-use df_copy::Status;
 use df_disk::Disk;
 use df_memdisk::MemoryDisk;
 use df_runs::{blank, expect_script, expect_words, made_file};
@@ -60,21 +59,13 @@ fn a_file_grows_and_shrinks_again(rt: HostRuntime) -> Result<(), Fail> {
     let mut first = file_behind(alloc, script)?;
     let mut second = blank(alloc, &[])?;
     let mut third = blank(alloc, &[])?;
-    expect(
-        alloc,
-        &mut first,
-        &mut second,
-        MORE,
-        MORE_COPIED,
-        Status::Done,
-    )?;
+    expect(alloc, &mut first, &mut second, MORE, done(MORE_COPIED))?;
     expect(
         alloc,
         &mut second,
         &mut third,
         "small",
-        "copied 336\n",
-        Status::Done,
+        done("copied 336\n"),
     )?;
     let text =
         "cluster 7\nlayout 32 8192 4 16384 64\nsequence 2\ncheckpoint 2\nhead 2\nreplies 2\nsessions 2\nreferences 2\n";
@@ -97,27 +88,13 @@ fn a_new_file_is_copied_without_a_trailer(rt: HostRuntime) -> Result<(), Fail> {
     let alloc = rt.alloc();
     let mut from = made_file(alloc, "small", &[])?;
     let mut to = blank(alloc, &[])?;
-    expect(
-        alloc,
-        &mut from,
-        &mut to,
-        LEAST,
-        "copied 30\n",
-        Status::Done,
-    )?;
+    expect(alloc, &mut from, &mut to, LEAST, done("copied 30\n"))?;
     let text =
         "cluster 7\nlayout 16 4096 1 4096 8\nsequence 1\ncheckpoint 0\nhead 0\nreplies 0\nsessions 0\nreferences 0\n";
     expect_words(alloc, &mut to, &["recover"], text)?;
     // Four copies are read; a header sector, a sync, and four copies with a sync each are written.
     let mut to = blank(alloc, &[])?;
-    expect(
-        alloc,
-        &mut from,
-        &mut to,
-        LEAST,
-        "copied 30\n",
-        Status::Done,
-    )?;
+    expect(alloc, &mut from, &mut to, LEAST, done("copied 30\n"))?;
     if to.events() != 10 || to.calls() != 14 {
         return Err("another number of calls".into());
     }
@@ -157,14 +134,7 @@ fn each_unit_is_read_once(rt: HostRuntime) -> Result<(), Fail> {
     let mut opened = file_behind(alloc, WORKED)?;
     let before = from.calls();
     let mut to = blank(alloc, &[])?;
-    expect(
-        alloc,
-        &mut from,
-        &mut to,
-        LEAST,
-        "copied 30\n",
-        Status::Done,
-    )?;
+    expect(alloc, &mut from, &mut to, LEAST, done("copied 30\n"))?;
     let copied = from.calls().saturating_sub(before);
     let before = opened.calls();
     let _ran = df_runs::run_words(alloc, &mut opened, &["recover"])?;

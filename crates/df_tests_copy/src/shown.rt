@@ -51,15 +51,27 @@ pub fn expect<A: Disk, B: Disk>(
     from: &mut A,
     to: &mut B,
     layout: &str,
-    text: &str,
-    status: Status,
+    answer: (Status, &str),
 ) -> Result<(), Fail> {
     let words = words(alloc, &[layout])?;
     let ran = copy_failing(alloc, from, to, &words, &[])?;
-    if ran.status != status {
+    if ran.status != answer.0 {
         return Err("another status".into());
     }
-    expect_text(ran.text.as_slice(), text)
+    expect_text(ran.text.as_slice(), answer.1)
+}
+
+/// A disk failed, and nothing is printed.
+pub const FAULT: (Status, &str) = (Status::DiskFault, "");
+
+/// The copy is made, with this text.
+pub fn done(text: &str) -> (Status, &str) {
+    (Status::Done, text)
+}
+
+/// It is refused, with this text.
+pub fn refused(text: &str) -> (Status, &str) {
+    (Status::Refused, text)
 }
 
 /// A new file of layout small behind a script.
@@ -75,13 +87,6 @@ pub const WORKED: &[u8] =
 pub fn worked_copy(alloc: Global) -> Result<(MemoryDisk, MemoryDisk), Fail> {
     let mut from = file_behind(alloc, WORKED)?;
     let mut to = blank(alloc, &[])?;
-    expect(
-        alloc,
-        &mut from,
-        &mut to,
-        LEAST,
-        "copied 30\n",
-        Status::Done,
-    )?;
+    expect(alloc, &mut from, &mut to, LEAST, done("copied 30\n"))?;
     Ok((from, to))
 }

@@ -1,5 +1,5 @@
 // A copy whose device calls fail one after the other, with a stop of the target behind each; and a failing sink.
-use crate::shown::{LEAST, WORKED, copy_failing, expect, file_behind};
+use crate::shown::{FAULT, LEAST, WORKED, copy_failing, done, expect, file_behind, refused};
 use df_copy::Status;
 use df_memdisk::MemoryDisk;
 use df_runs::{blank, disk_behind, expect_words, made_file, run_words, stopped, words};
@@ -44,7 +44,7 @@ fn a_target_is_a_file_once_its_second_copy_is_there(rt: HostRuntime) -> Result<(
     for (failing, sectors, text) in &STOPS {
         let mut from = file_behind(alloc, WORKED)?;
         let mut to = blank(alloc, &[*failing])?;
-        expect(alloc, &mut from, &mut to, LEAST, "", Status::DiskFault)?;
+        expect(alloc, &mut from, &mut to, LEAST, FAULT)?;
         let mut to = stopped(alloc, to, sectors)?;
         let ran = run_words(alloc, &mut to, &["recover"])?;
         if !ran.text.as_slice().starts_with(text.as_bytes()) {
@@ -59,18 +59,11 @@ fn a_stopped_copy_is_begun_anew_on_a_blank_disk(rt: HostRuntime) -> Result<(), F
     let alloc = rt.alloc();
     let mut from = file_behind(alloc, WORKED)?;
     let mut to = blank(alloc, &[13])?;
-    expect(alloc, &mut from, &mut to, LEAST, "", Status::DiskFault)?;
+    expect(alloc, &mut from, &mut to, LEAST, FAULT)?;
     let text = "refused NotBlank copy 0\n";
-    expect(alloc, &mut from, &mut to, LEAST, text, Status::Refused)?;
+    expect(alloc, &mut from, &mut to, LEAST, refused(text))?;
     let mut to = blank(alloc, &[])?;
-    expect(
-        alloc,
-        &mut from,
-        &mut to,
-        LEAST,
-        "copied 30\n",
-        Status::Done,
-    )?;
+    expect(alloc, &mut from, &mut to, LEAST, done("copied 30\n"))?;
     expect_words(alloc, &mut to, &["recover"], SUMMARY)
 }
 
@@ -87,14 +80,7 @@ fn each_call_of_the_source_may_fail(rt: HostRuntime) -> Result<(), Fail> {
     let mut whole = file_behind(alloc, WORKED)?;
     let before = whole.calls();
     let mut to = blank(alloc, &[])?;
-    expect(
-        alloc,
-        &mut whole,
-        &mut to,
-        LEAST,
-        "copied 30\n",
-        Status::Done,
-    )?;
+    expect(alloc, &mut whole, &mut to, LEAST, done("copied 30\n"))?;
     let calls = whole.calls().saturating_sub(before);
     // The first calls, those about the barrier, the last of the open's, the reply's and the block's.
     for call in [
@@ -110,19 +96,12 @@ fn each_call_of_the_source_may_fail(rt: HostRuntime) -> Result<(), Fail> {
     ] {
         let mut from = failing_source(alloc, call)?;
         let mut to = blank(alloc, &[])?;
-        expect(alloc, &mut from, &mut to, LEAST, "", Status::DiskFault)?;
+        expect(alloc, &mut from, &mut to, LEAST, FAULT)?;
         expect_words(alloc, &mut to, &["recover"], NOT_FORMATTED)?;
     }
     let mut from = failing_source(alloc, calls + 1)?;
     let mut to = blank(alloc, &[])?;
-    expect(
-        alloc,
-        &mut from,
-        &mut to,
-        LEAST,
-        "copied 30\n",
-        Status::Done,
-    )
+    expect(alloc, &mut from, &mut to, LEAST, done("copied 30\n"))
 }
 
 #[test]
