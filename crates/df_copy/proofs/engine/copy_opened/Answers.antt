@@ -50,8 +50,8 @@ returns-clause-copies g c = λ t whole mends.
     let same : g.A.Disk.told c.args.from.now ≡ later = sym (c.in-Err.ensures {u = tt}).leaves.same in
     file_copied c.args.rooms.layout t s (Err e) later old new written wrote c.tell_ending.result whole c.fields-fields.ensures.state c.fields-fields.ensures.usable c.requires.live
     (subst (λ (o : Option Told). MendsAll t s o) same mends)
-    (subst (λ (l : Layout). CopiesInto l s later old new (Err e)) c.over-target.ensures.layout_is
-      (subst (λ (o : Option Told). CopiesInto c.over-target.result.layout s o old new (Err e)) same ((c.in-Err.ensures {u = tt}).copies (opened_apart t s (g.A.Disk.told c.args.from.now) whole mends))))
+    (subst (λ (l : Layout). CopiesInto {T = Unit {0}} l s later old new (Err e)) c.over-target.ensures.layout_is
+      (subst (λ (o : Option Told). CopiesInto {T = Unit {0}} c.over-target.result.layout s o old new (Err e)) same ((c.in-Err.ensures {u = tt}).copies (opened_apart t s (g.A.Disk.told c.args.from.now) whole mends))))
     (ending_prints written wrote c.tell_ending.result (Unit {0}) c.args.rooms.layout e c.tell_ending.ensures.refused c.tell_ending.ensures.fault)
 
 pub returns-clause-causes : goal.returns-clause-causes
