@@ -76,6 +76,12 @@ module _ (puts : List Units) (reserved : AllReserved puts) (replies blocks trail
   past_blocks : (place : Place) (o : Option AnyUnit) → ((a : ℕ) → same_place (BlockPlace a) place ≡ false) → unit_after block_row place o ≡ o
   past_blocks place o apart = after_other BlockPlace place apart 1 blocks o
 
+  -- what is neither a copy of the superblock nor a block is as the ring and the replies left it
+  past_units : (place : Place) → ((n : ℕ) → same_place (CopyPlace n) place ≡ false) → ((a : ℕ) → same_place (BlockPlace a) place ≡ false) → image_behind place ≡ unit_after reply_row place (ring place)
+  past_units place copies others =
+      in_order place ∙ past_update place (unit_after trailer_row place (unit_after block_row place (unit_after reply_row place (ring place)))) copies
+      ∙ past_trailer place (unit_after block_row place (unit_after reply_row place (ring place))) others ∙ past_blocks place (unit_after reply_row place (ring place)) others
+
   past_replies : (place : Place) (o : Option AnyUnit) → ((k : ℕ) → same_place (ReplyPlace k) place ≡ false) → unit_after reply_row place o ≡ o
   past_replies place o apart = after_other ReplyPlace place apart 0 replies o
 
@@ -90,10 +96,7 @@ module _ (puts : List Units) (reserved : AllReserved puts) (replies blocks trail
   header_is_ring : (s : ℕ) → image_behind (HeaderPlace s) ≡ ring (HeaderPlace s)
   header_is_ring s =
       let place = HeaderPlace s in
-      in_order place
-      ∙ past_update place (unit_after trailer_row place (unit_after block_row place (unit_after reply_row place (ring place)))) (λ n. refl)
-      ∙ past_trailer place (unit_after block_row place (unit_after reply_row place (ring place))) (λ a. refl)
-      ∙ past_blocks place (unit_after reply_row place (ring place)) (λ a. refl)
+      past_units place (λ n. refl) (λ a. refl)
       ∙ past_replies place (ring place) (λ k. refl)
 
   pub shows_reserved : (s : ℕ) (h : Header) → image_behind (HeaderPlace s) ≡ Some (HeaderUnit h) → IsReserved h
@@ -111,20 +114,14 @@ module _ (puts : List Units) (reserved : AllReserved puts) (replies blocks trail
   pub shows_no_prepare : (s : ℕ) → image_behind (PreparePlace s) ≡ None
   shows_no_prepare s =
       let place = PreparePlace s in
-      in_order place
-      ∙ past_update place (unit_after trailer_row place (unit_after block_row place (unit_after reply_row place (ring place)))) (λ n. refl)
-      ∙ past_trailer place (unit_after block_row place (unit_after reply_row place (ring place))) (λ a. refl)
-      ∙ past_blocks place (unit_after reply_row place (ring place)) (λ a. refl)
+      past_units place (λ n. refl) (λ a. refl)
       ∙ past_replies place (ring place) (λ k. refl)
       ∙ past_ring place (λ t same. cc)
 
   reply_is_row : (k : ℕ) → image_behind (ReplyPlace k) ≡ unit_after reply_row (ReplyPlace k) None
   reply_is_row k =
       let place = ReplyPlace k in
-      in_order place
-      ∙ past_update place (unit_after trailer_row place (unit_after block_row place (unit_after reply_row place (ring place)))) (λ n. refl)
-      ∙ past_trailer place (unit_after block_row place (unit_after reply_row place (ring place))) (λ a. refl)
-      ∙ past_blocks place (unit_after reply_row place (ring place)) (λ a. refl)
+      past_units place (λ n. refl) (λ a. refl)
       ∙ ap (unit_after reply_row place) (past_ring place (λ t same. cc))
 
   pub shows_reply : (k : ℕ) (x : AnyUnit) → slice_get replies k ≡ Some x → image_behind (ReplyPlace k) ≡ Some x

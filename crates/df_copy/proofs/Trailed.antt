@@ -102,17 +102,17 @@ no_units (u ∷ us) none = absurd (omega arith)
 -- ---- the copy's
 
 module _ (layout : Layout) (s : State) (rs bs : List Message) (image : Units) (v : View) (is : IsNamed layout s rs bs) (source : IsSource s image v) where
+  abbrev f : SuperFields
+  f = superblock_of layout s rs bs
+
+  abbrev n : ℕ
+  n = trailer_blocks layout (memory s)
+
   abbrev us : List Message
   us = moved_from 1 bs
 
   abbrev ts : List Message
   ts = trailer_of layout s us
-
-  abbrev n : ℕ
-  n = trailer_blocks layout (memory s)
-
-  abbrev f : SuperFields
-  f = superblock_of layout s rs bs
 
   abbrev pub copy_content : Content
   copy_content = content_of (content_with f)

@@ -33,10 +33,10 @@ fn root_of(root: &[u8]) -> ArrayVec<u8, ROOT>
     ensures { result.items ≡ root.now }
 {
     let mut copy = ArrayVec::new();
-    match copy.try_extend_from_slice(root) {
-        Ok(()) => copy,
-        Err(_) => unreachable!(),
-    }
+    let Ok(()) = copy.try_extend_from_slice(root) else {
+        unreachable!()
+    };
+    copy
 }
 
 // The source's sessions, in a list of their own.

@@ -82,19 +82,17 @@ returns-in-Ok-copy_units-clause-copies g c = λ apart.
 
 pub returns-in-Err-copy_units-clause-copies : goal.returns-in-Err-copy_units-clause-copies
 returns-in-Err-copy_units-clause-copies g c = λ apart.
-    let layout : Layout = c.args.target.now.layout in
-    let s : State = c.args.replica.now in
-    let old : Option Told = g.B.Disk.told c.args.to.now in
-    let begun : Option Told = g.B.Disk.told c.begin.new.to in
-    let ring = ring_of layout s c.summary-cluster.result.cluster old begun (Ok c.in-Ok.field-0) (ap (λ (x : Summary). x.cluster) c.summary-cluster.ensures) c.in-Ok.ensures.begins in
-    planned_units (Unit {0}) layout s (g.A.Disk.told c.args.from.now) old begun ring.0 ring.1 c.begin.new.target c.copy_units.new.target (g.B.Disk.told c.copy_units.new.to) c.in-Err-copy_units.ending c.in-Ok.ensures.grid.layout_is
-    (c.in-Err-copy_units.ensures.copies apart)
+    let source : Option Told = g.A.Disk.told c.args.from.now in
+    let ring = ring_of c.args.target.now.layout c.args.replica.now c.summary-cluster.result.cluster (g.B.Disk.told c.args.to.now) (g.B.Disk.told c.begin.new.to) (Ok c.in-Ok.field-0) (ap (λ (x : Summary). x.cluster) c.summary-cluster.ensures) c.in-Ok.ensures.begins in
+    planned_units (Unit {0}) c.args.target.now.layout c.args.replica.now source (g.B.Disk.told c.args.to.now) (g.B.Disk.told c.begin.new.to) ring.0 ring.1 c.begin.new.target c.copy_units.new.target (g.B.Disk.told c.copy_units.new.to)
+    c.in-Err-copy_units.ending c.in-Ok.ensures.grid.layout_is (c.in-Err-copy_units.ensures.copies apart)
 
 -- ---- what is left
 
--- the ring leaves the source as it was
-ring_leaves : (s : State) (told : Option Told) (faults before now : ℕ) → now ≡ before → Leaves {T = Unit {0}} (beside s told faults before) (beside s told faults now) (Ok tt)
-ring_leaves s told faults before now same = record { kept = refl; same = refl; blames_source = refl; blames_target = same }
+-- the ring leaves the source as it was, and what is left behind it is left by all
+ring_leaves : (s : State) (told : Option Told) (faults before begun : ℕ) (now : Beside) (r : Result (Unit {0}) Ending) → begun ≡ before → Leaves (beside s told faults begun) now r → Leaves (beside s told faults before) now r
+ring_leaves s told faults before begun now r same leaves =
+    leaves_then {T = Unit {0}} {U = Unit {0}} (beside s told faults before) (beside s told faults begun) now (tt {0}) r (record { kept = refl; same = refl; blames_source = refl; blames_target = same }) leaves
 
 -- and so does what comes last
 last_leaves : (s : State) (told : Option Told) (faults before now : ℕ) (r : Result (Unit {0}) Ending) → IsBlamed is_target before now r → IfErr r (λ ending. ending ≡ Target) → Leaves (beside s told faults before) (beside s told faults now) r
@@ -110,21 +108,17 @@ returns-in-Ok-copy_units-clause-leaves g c =
     let s : State = c.args.replica.now in
     let told : Option Told = g.A.Disk.told c.args.from.now in
     let faults : ℕ = g.A.Disk.faults c.args.from.now in
-    let zeroth : Beside = beside s told faults (g.B.Disk.faults c.args.to.now) in
+    let q : State = c.copy_units.new.replica in
+    let later : Option Told = g.A.Disk.told c.copy_units.new.from in
+    let more : ℕ = g.A.Disk.faults c.copy_units.new.from in
     let first : Beside = beside s told faults (g.B.Disk.faults c.begin.new.to) in
-    let second : Beside = beside c.copy_units.new.replica (g.A.Disk.told c.copy_units.new.from) (g.A.Disk.faults c.copy_units.new.from) (g.B.Disk.faults c.copy_units.new.to) in
-    let third : Beside = beside c.copy_units.new.replica (g.A.Disk.told c.copy_units.new.from) (g.A.Disk.faults c.copy_units.new.from) (g.B.Disk.faults c.finish.new.to) in
-    let ring = ring_leaves s told faults (g.B.Disk.faults c.args.to.now) (g.B.Disk.faults c.begin.new.to) c.in-Ok.ensures.disk in
-    let last = last_leaves c.copy_units.new.replica (g.A.Disk.told c.copy_units.new.from) (g.A.Disk.faults c.copy_units.new.from) (g.B.Disk.faults c.copy_units.new.to) (g.B.Disk.faults c.finish.new.to) c.finish.result c.finish.ensures.disk c.finish.ensures.target in
-    leaves_then {T = Unit {0}} {U = Unit {0}} zeroth first third (tt {0}) c.finish.result ring (leaves_then {T = Unit {0}} {U = Unit {0}} first second third c.in-Ok-copy_units.field-0 c.finish.result c.in-Ok-copy_units.ensures.leaves last)
+    let second : Beside = beside q later more (g.B.Disk.faults c.copy_units.new.to) in
+    let third : Beside = beside q later more (g.B.Disk.faults c.finish.new.to) in
+    let last = last_leaves q later more (g.B.Disk.faults c.copy_units.new.to) (g.B.Disk.faults c.finish.new.to) c.finish.result c.finish.ensures.disk c.finish.ensures.target in
+    ring_leaves s told faults (g.B.Disk.faults c.args.to.now) (g.B.Disk.faults c.begin.new.to) third c.finish.result c.in-Ok.ensures.disk
+    (leaves_then {T = Unit {0}} {U = Unit {0}} first second third c.in-Ok-copy_units.field-0 c.finish.result c.in-Ok-copy_units.ensures.leaves last)
 
 pub returns-in-Err-copy_units-clause-leaves : goal.returns-in-Err-copy_units-clause-leaves
 returns-in-Err-copy_units-clause-leaves g c =
-    let s : State = c.args.replica.now in
-    let told : Option Told = g.A.Disk.told c.args.from.now in
-    let faults : ℕ = g.A.Disk.faults c.args.from.now in
-    let zeroth : Beside = beside s told faults (g.B.Disk.faults c.args.to.now) in
-    let first : Beside = beside s told faults (g.B.Disk.faults c.begin.new.to) in
-    let second : Beside = beside c.copy_units.new.replica (g.A.Disk.told c.copy_units.new.from) (g.A.Disk.faults c.copy_units.new.from) (g.B.Disk.faults c.copy_units.new.to) in
-    let ring = ring_leaves s told faults (g.B.Disk.faults c.args.to.now) (g.B.Disk.faults c.begin.new.to) c.in-Ok.ensures.disk in
-    leaves_then {T = Unit {0}} {U = Unit {0}} zeroth first second (tt {0}) (Err c.in-Err-copy_units.ending) ring c.in-Err-copy_units.ensures.leaves
+    ring_leaves c.args.replica.now (g.A.Disk.told c.args.from.now) (g.A.Disk.faults c.args.from.now) (g.B.Disk.faults c.args.to.now) (g.B.Disk.faults c.begin.new.to)
+    (beside c.copy_units.new.replica (g.A.Disk.told c.copy_units.new.from) (g.A.Disk.faults c.copy_units.new.from) (g.B.Disk.faults c.copy_units.new.to)) (Err c.in-Err-copy_units.ending) c.in-Ok.ensures.disk c.in-Err-copy_units.ensures.leaves

@@ -1,5 +1,5 @@
 -- The trailer, and then the superblock.
-use Rattle.std.proofs.Common.{◌≡◌, ◌∙◌, ℕ, ◌∷◌, List, length, Ok, Err, Option, subst}
+use Rattle.std.proofs.Common.{◌≡◌, ◌++◌, ◌∷◌, List, length, Option, Result, Ok, Err, subst}
 use Rattle.df_base.specs.Log.{Event, Sync}
 use Rattle.df_disk.specs.Told.{Told}
 use Rattle.df_disk.specs.Adds.{Adds}
@@ -15,6 +15,7 @@ use Rattle.df_copy.specs.declared.target.Target.{Target}
 use Rattle.df_copy.specs.Acts.{IsWritten}
 use Rattle.df_copy.specs.Targets.{superblock_events, superblock_of, trailer_of}
 use Rattle.df_copy.specs.Tests.{references}
+use Rattle.df_copy.specs.Trailers.{AddsTrailer}
 use Rattle.df_copy.specs.Units.{all_events, moved_from}
 use Rattle.df_copy.proofs.copying.finish.Goals as goal
 
@@ -22,6 +23,14 @@ use Rattle.df_copy.proofs.copying.finish.Goals as goal
 says : (layout l : Layout) (s : State) (rs bs : List Message) (n : Target) (f : SuperFields) → l ≡ layout → ((rs bs : List Message) → IsWritten l s rs bs n → length bs ≡ length (references (memory s)) → f ≡ superblock_of l s rs bs)
     → IsWritten layout s rs bs n → length bs ≡ length (references (memory s)) → f ≡ superblock_of layout s rs bs
 says layout l s rs bs n f same is = subst (λ (x : Layout). (rs bs : List Message) → IsWritten x s rs bs n → length bs ≡ length (references (memory s)) → f ≡ superblock_of x s rs bs) same is rs bs
+
+-- however it is written behind the trailer
+ends : {T E : Type 0} (s : State) (rs bs : List Message) (t n : Target) (f : SuperFields) (old mid new : Option Told) (x : Unit {0}) (r : Result T E) → n.layout ≡ t.layout → AddsTrailer s rs bs t n old mid (Ok x)
+    → ((rs bs : List Message) → IsWritten n.layout s rs bs n → length bs ≡ length (references (memory s)) → f ≡ superblock_of n.layout s rs bs) → length bs ≡ length (references (memory s)) → Adds (Sync ∷ update_events f) mid new r
+    → Adds (all_events (made_events t.layout) (trailer_of t.layout s (moved_from 1 bs)) ++ superblock_events t.layout s rs bs) old new r
+ends {T = T} {E = E} s rs bs t n f old mid new x r layouts trailer is all adds =
+    adds_then (all_events (made_events t.layout) (trailer_of t.layout s (moved_from 1 bs))) (superblock_events t.layout s rs bs) old mid new r trailer.events
+    (subst (λ (g : SuperFields). Adds {T = T} {E = E} (Sync ∷ update_events g) mid new r) (says t.layout n.layout s rs bs n f layouts is trailer.written all) adds)
 
 pub returns-in-Err-clause-finishes : goal.returns-in-Err-clause-finishes
 returns-in-Err-clause-finishes g c = λ rs bs is all.
@@ -31,22 +40,10 @@ returns-in-Err-clause-finishes g c = λ rs bs is all.
 
 pub returns-in-Ok-write_synced-clause-finishes : goal.returns-in-Ok-write_synced-clause-finishes
 returns-in-Ok-write_synced-clause-finishes g c = λ rs bs is all.
-    let layout : Layout = c.args.target.now.layout in
-    let s : State = c.args.replica.now in
-    let mid : Option Told = g.B.Disk.told c.write_trailer.new.to in
-    let new : Option Told = g.B.Disk.told c.write_synced.new.disk in
-    let trailer = c.in-Ok.ensures.trailer rs bs is in
-    let same = says layout c.write_trailer.new.target.layout s rs bs c.write_trailer.new.target c.copied_superblock-content.result c.in-Ok.ensures.layout c.copied_superblock-content.ensures trailer.written all in
-    adds_then {T = Unit {0}} {E = Ending} (all_events (made_events layout) (trailer_of layout s (moved_from 1 bs))) (superblock_events layout s rs bs) (g.B.Disk.told c.args.to.now) mid new (Ok c.in-Ok-write_synced.field-0) trailer.events
-    (subst (λ (f : SuperFields). Adds {T = Unit {0}} {E = Ending} (Sync ∷ update_events f) mid new (Ok c.in-Ok-write_synced.field-0)) same c.in-Ok-write_synced.ensures.events)
+    ends {E = Ending} c.args.replica.now rs bs c.args.target.now c.write_trailer.new.target c.copied_superblock-content.result (g.B.Disk.told c.args.to.now) (g.B.Disk.told c.write_trailer.new.to) (g.B.Disk.told c.write_synced.new.disk) c.in-Ok.field-0
+    (Ok c.in-Ok-write_synced.field-0) c.in-Ok.ensures.layout (c.in-Ok.ensures.trailer rs bs is) c.copied_superblock-content.ensures all c.in-Ok-write_synced.ensures.events
 
 pub returns-in-Err-write_synced-clause-finishes : goal.returns-in-Err-write_synced-clause-finishes
 returns-in-Err-write_synced-clause-finishes g c = λ rs bs is all.
-    let layout : Layout = c.args.target.now.layout in
-    let s : State = c.args.replica.now in
-    let mid : Option Told = g.B.Disk.told c.write_trailer.new.to in
-    let new : Option Told = g.B.Disk.told c.write_synced.new.disk in
-    let trailer = c.in-Ok.ensures.trailer rs bs is in
-    let same = says layout c.write_trailer.new.target.layout s rs bs c.write_trailer.new.target c.copied_superblock-content.result c.in-Ok.ensures.layout c.copied_superblock-content.ensures trailer.written all in
-    adds_then {T = Unit {0}} (all_events (made_events layout) (trailer_of layout s (moved_from 1 bs))) (superblock_events layout s rs bs) (g.B.Disk.told c.args.to.now) mid new (Err c.in-Err-write_synced.field-0) trailer.events
-    (subst (λ (f : SuperFields). Adds {T = Unit {0}} (Sync ∷ update_events f) mid new (Err c.in-Err-write_synced.field-0)) same c.in-Err-write_synced.ensures.events)
+    ends {T = Unit {0}} c.args.replica.now rs bs c.args.target.now c.write_trailer.new.target c.copied_superblock-content.result (g.B.Disk.told c.args.to.now) (g.B.Disk.told c.write_trailer.new.to) (g.B.Disk.told c.write_synced.new.disk)
+    c.in-Ok.field-0 (Err c.in-Err-write_synced.field-0) c.in-Ok.ensures.layout (c.in-Ok.ensures.trailer rs bs is) c.copied_superblock-content.ensures all c.in-Err-write_synced.ensures.events
