@@ -20,14 +20,14 @@ number_of ends.DiskFault = 5
 number_of ends.WriteFault = 7
 number_of ends.Memory = 8
 
--- it ended by what it did with the files: neither for want of memory nor for its words
-abbrev pub EndsWithFiles : Status → Type 0
-EndsWithFiles status = (status ≡ ends.Memory → ⊥) × (status ≡ ends.Words → ⊥)
-
 -- the source's disk failed
 abbrev pub is_source : Ending → Bool
 is_source Source = true
 is_source e = false
+
+-- it ended by what it did with the files: neither for want of memory nor for its words
+abbrev pub EndsWithFiles : Status → Type 0
+EndsWithFiles status = (status ≡ ends.Memory → ⊥) × (status ≡ ends.Words → ⊥)
 
 -- the target's disk failed
 abbrev pub is_target : Ending → Bool

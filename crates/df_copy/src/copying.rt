@@ -115,14 +115,14 @@ fn finish<B: Disk>(
 
 // Copies what passed the tests.
 fn copy_planned<A: Disk, B: Disk>(
+    plan: Plan,
     from: &mut A,
     to: &mut B,
     replica: &mut Replica,
     target: &mut Target,
-    plan: Plan,
 ) -> Result<(), Ending>
-    requires ready { IsReady target.old.layout replica.old }
     requires plan { IsPlan target.old.layout replica.old plan }
+    requires ready { IsReady target.old.layout replica.old }
     requires room { needed target.old.layout (memory replica.old) ≤ target.old.layout.blocks }
     requires begun { IsTarget target.old.layout replica.old.file.cluster [] [] target.old }
     ensures copies { AreApart replica.old.table.sessions → CopiesPlanned target.old.layout replica.old (A.told from.old) (B.told to.old) (B.told to.new) result }
@@ -152,7 +152,7 @@ pub(crate) fn copy_into<A: Disk, B: Disk>(
     ensures leaves { Leaves (beside replica.old (A.told from.old) (A.faults from.old) (B.faults to.old)) (beside replica.new (A.told from.new) (A.faults from.new) (B.faults to.new)) result }
 {
     match plan_copy(replica, &target.layout) {
-        Ok(plan) => copy_planned(from, to, replica, target, plan),
+        Ok(plan) => copy_planned(plan, from, to, replica, target),
         Err(ending) => Err(ending),
     }
 }

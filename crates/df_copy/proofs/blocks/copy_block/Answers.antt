@@ -32,12 +32,12 @@ returns-in-Ok-clause-copies g c =
 
 pub returns-in-Ok-clause-leaves : goal.returns-in-Ok-clause-leaves
 returns-in-Ok-clause-leaves g c = record {
+  blames_target = c.put_block.ensures.disk;
   kept = on_ok c.put_block.result (c.read_block.follows.holds-at-none ∙ ap (left_by is_read_fault c.args.replica.now) c.in-Ok.is);
   same = c.in-Ok.ensures.same;
   blames_source =
       unblamed c.put_block.result (g.A.Disk.faults c.args.from.now) (g.A.Disk.faults c.read_block.new.disk)
       (λ is. subst (λ (r : Result (Unit {0}) Ending). PutsBlock c.args.address c.in-Ok.unit.now.unit c.args.target.now c.put_block.new.target (g.B.Disk.told c.args.to.now) (g.B.Disk.told c.put_block.new.to) r) is c.put_block.ensures.puts) c.in-Ok.ensures.cause;
-  blames_target = c.put_block.ensures.disk;
 }
 
 -- ---- it isn't
