@@ -1,5 +1,5 @@
 -- The view of a copy beside that of its source: the same state in another layout, with the k-th referenced block at address k.
-use Rattle.std.proofs.Common.{◌≡◌, ◌↔◌, ◌≢◌, inl, inr, ℕ, zero, suc, ◌+◌, ◌-◌, ◌<◌, ◌≤◌, List, [], ◌∷◌, length, map, Option, Some, None, refl, sym, ◌∙◌, ap, subst, arith}
+use Rattle.std.proofs.Common.{◌≡◌, ◌↔◌, inl, inr, ℕ, zero, suc, ◌+◌, ◌<◌, ◌≤◌, List, [], ◌∷◌, length, map, Option, Some, None, refl, sym, ◌∙◌, ap, subst, arith}
 use Rattle.std.specs.Prelude.{slice_get}
 use Rattle.std.specs.List.{range_with_len}
 use Rattle.std.proofs.lemmas.Bool.{cases_eq}
@@ -9,7 +9,6 @@ use Rattle.df_layout.specs.declared.layout.Layout.{Layout}
 use Rattle.df_format.specs.declared.superblock.SuperFields.{SuperFields}
 use Rattle.df_format.specs.Copies.{content_with}
 use Rattle.df_format.specs.Message.{Message}
-use Rattle.df_format.specs.Spelling.{no_checksum}
 use Rattle.df_sessions.specs.Requests.{session_of, sessions_of}
 use Rattle.df_sessions.specs.declared.session.Session as told
 use Rattle.df_theory.specs.Trailer.{InChain}
@@ -17,19 +16,19 @@ use Rattle.df_theory.specs.Units as units
 use Rattle.df_theory.specs.Units.{Block, BlockPlace, BlockUnit, Content, ReplyPlace, ReplyUnit, Units}
 use Rattle.df_theory.specs.View.{View}
 use Rattle.df_units.specs.Meaning.{block_of, content_of, layout_of, message_of, number_of}
-use Rattle.df_units.proofs.Laws.{by_second, no_number}
+use Rattle.df_units.proofs.Laws.{by_second}
 use Rattle.df_model.specs.Blocks.{entries, entry, sum_at}
 use Rattle.df_model.specs.Making.{named_places}
 use Rattle.df_model.specs.Memory.{joined, reply_sum}
 use Rattle.df_model.specs.Sense.{RiseFrom}
 use Rattle.df_rooms.specs.Recorded.{check_or_zeros, stored_check, stored_checks}
 use Rattle.df_opening.specs.Below.{State, memory, reply_sum as check_sum, stored_sum}
-use Rattle.df_copy.specs.Targets.{check_of, checks_of, numbered, superblock_of}
-use Rattle.df_copy.specs.Tests.{references, trailer_blocks}
+use Rattle.df_copy.specs.Targets.{check_of, superblock_of}
+use Rattle.df_copy.specs.Tests.{references}
 use Rattle.df_copy.specs.Units.{moved, moved_from}
-use Rattle.df_copy.specs.Views.{AreReferenced, AreRenamed, IsCopyOf, SameButLayout, address_in, renamed}
+use Rattle.df_copy.specs.Views.{IsCopyOf, SameButLayout, address_in, renamed}
 use Rattle.df_copy.proofs.Frees.{numbered_known, numbered_there}
-use Rattle.df_copy.proofs.Holding.{as_stored, block_shown, copy_checkpoint, copy_view, item_at, moved_at, none_past, session_reply, shown, stored_of}
+use Rattle.df_copy.proofs.Holding.{as_stored, block_shown, copy_view, item_at, moved_at, none_past, session_reply, shown}
 use Rattle.df_copy.proofs.Listed.{moved_length}
 use Rattle.df_copy.proofs.Sources.{IsSource}
 use Rattle.df_copy.proofs.Usables.{IsNamed, fitted, named_none, named_some, no_trailer_there, trailer_there}
@@ -276,7 +275,7 @@ module _ (layout : Layout) (s : State) (rs bs : List Message) (image : Units) (v
           number_of (moved (1 + i) one.unit).header.checksum,
           numbered_there 1 i (i + 1) us (moved (1 + i) one.unit) there next,
           block_shown layout s rs bs image v is source read i (i + 1) (moved (1 + i) one.unit) there refl
-          ∙ ap (λ (x : Block). Some (BlockUnit (renamed (number_of (moved (1 + i) one.unit).header.checksum) x))) (sym one.block),
+              ∙ ap (λ (x : Block). Some (BlockUnit (renamed (number_of (moved (1 + i) one.unit).header.checksum) x))) (sym one.block),
         )
 
     renamed_only : (k sum : ℕ) → u.checkpoint.parts.references k ≡ Some sum → (0 < k) × (k ≤ length blocks)

@@ -1,5 +1,5 @@
 -- The test of the target's first sectors: each shows zeros alone, or which is the first that doesn't.
-use Rattle.std.proofs.Common.{◌≡◌, inl, inr, ℕ, zero, suc, ◌+◌, ◌<◌, ◌≤◌, Bool, true, false, not, if◌then◌else◌, List, [], ◌∷◌, map, Option, Some, None, Result, Ok, Err, refl, sym, ◌∙◌, ap, subst, arith}
+use Rattle.std.proofs.Common.{◌≡◌, inl, inr, ℕ, zero, suc, ◌+◌, ◌<◌, ◌≤◌, Bool, true, false, not, if◌then◌else◌, List, [], ◌∷◌, map, Option, Some, None, Ok, Err, refl, ◌∙◌, ap, arith}
 use Rattle.std.specs.List.{range_with_len}
 use Rattle.std.proofs.lemmas.Bool.{cases_eq}
 use Rattle.df_base.specs.Causes.{Blamed}
@@ -16,7 +16,7 @@ use Rattle.df_model.specs.Faults.{is_format_fault}
 use Rattle.df_model.specs.Refusals.{first_refusal}
 use Rattle.df_opening.specs.Formatting.{IsFirstWritten, RefusesCluster, TellsBlank}
 use Rattle.df_copy.specs.declared.ending.Ending.{Ending}
-use Rattle.df_copy.specs.declared.ending.Ending.TheVariants.{NotBlank, Target}
+use Rattle.df_copy.specs.declared.ending.Ending.TheVariants.{NotBlank}
 use Rattle.df_copy.specs.Copying.{BeginsTarget, OverTold}
 use Rattle.df_copy.specs.Statuses.{blank_ending, is_target}
 use Rattle.df_copy.specs.Targets.{ring_events}

@@ -157,15 +157,20 @@ module _ (layout : Layout) (s : State) (rs : List Message) (from old : Option To
 
       ends_refused : (e : Ending) (newer : Option Told) → OverShown s.file from (λ shown. test shown ≡ (true, e)) × (newer ≡ new)
           → OverShown s.file from (λ shown. first_refusal (block_tests layout shown (memory s)) ≡ Some e) × (bs : List Message) × FitBlocks layout s from bs × (newer ≡ after_all (all_events (made_events layout) (moved_from 1 bs)) old)
-      ends_refused e newer copies =
-          (over_both s.file from (Rests b) (λ shown. test shown ≡ (true, e)) (λ shown. first_refusal (block_tests layout shown (memory s)) ≡ Some e) is.rest copies.0
+      ends_refused e newer copies = (
+        over_both s.file from (Rests b) (λ shown. test shown ≡ (true, e)) (λ shown. first_refusal (block_tests layout shown (memory s)) ≡ Some e) is.rest copies.0
             (λ shown rest there. tested shown rest ∙ ap (λ (q : Bool × Ending). first_refusal (q ∷ block_tests_of layout shown (memory s) (behind_of s (b + 1)))) there),
-          is.bs, is.are, copies.1 ∙ is.events)
+        is.bs,
+        is.are,
+        copies.1 ∙ is.events,
+      )
 
       stopped : (T : Type 0) (u all : Target) (newer : Option Told) (e : Ending) → CopiesBlock {T = T} layout (b + 1) s t u from new newer (Err e) → CopiesBlocks {T = T} layout s rs all from old newer (Err e)
-      stopped T u all newer TargetFails copies =
-          (is.bs ++ copies.0 ∷ [], fit_push copies.0 copies.1,
-          subst (λ (l : List Event). AddsPart l old newer) (sym (events_to copies.0 copies.1)) (all_then (all_events (made_events layout) (moved_from 1 is.bs)) (made_events layout (moved (t.copied + 1) copies.0)) old new newer is.events copies.2))
+      stopped T u all newer TargetFails copies = (
+        is.bs ++ copies.0 ∷ [],
+        fit_push copies.0 copies.1,
+        subst (λ (l : List Event). AddsPart l old newer) (sym (events_to copies.0 copies.1)) (all_then (all_events (made_events layout) (moved_from 1 is.bs)) (made_events layout (moved (t.copied + 1) copies.0)) old new newer is.events copies.2),
+      )
       stopped T u all newer Source copies = (is.bs, is.are, copies ∙ is.events)
       stopped T u all newer (NotAtRest a c d) copies = ends_refused (NotAtRest a c d) newer copies
       stopped T u all newer (TooFewClients a c) copies = ends_refused (TooFewClients a c) newer copies

@@ -1,5 +1,5 @@
 -- What the status of a copy blames, and what becomes of a source that isn't opened.
-use Rattle.std.proofs.Common.{◌≡◌, ◌⊎◌, inl, inr, ℕ, ◌<◌, ◌≤◌, Bool, true, false, List, [], ◌∷◌, length, map, Option, Some, None, Result, Ok, Err, refl, sym, ◌∙◌, ap, subst, arith}
+use Rattle.std.proofs.Common.{◌≡◌, inl, inr, ℕ, ◌<◌, ◌≤◌, Bool, true, false, List, [], ◌∷◌, length, map, Option, Some, None, Err, refl, sym, ◌∙◌, ap, subst, arith}
 use Rattle.std.specs.Prelude.{IfNone, get_or}
 use Rattle.df_base.specs.Causes.{Blamed, IsBlamed, Rose}
 use Rattle.df_base.specs.Image.{IsImage}
@@ -7,7 +7,6 @@ use Rattle.df_base.specs.Log.{Sync}
 use Rattle.df_disk.specs.Told.{Told, after}
 use Rattle.df_inspect.specs.Opening.{open_refusal}
 use Rattle.df_layout.specs.declared.layout.Layout.{Layout}
-
 use Rattle.df_model.specs.declared.errors.OpenError.{OpenError}
 use Rattle.df_model.specs.declared.errors.OpenError.TheVariants as opens
 use Rattle.df_model.specs.Faults.{is_open_fault}
@@ -110,13 +109,13 @@ pub not_opened : (layout own : Layout) (t : Told) (old new : Outside) (status : 
 not_opened layout own t old new status e whole told answer silent barrier stops prints = elim (open_fault e) [
   | inl fault ↦ inr (inl (record { fault = (prints.failing fault).0; silent = record { second = silent; written = (prints.failing fault).1 }; disk = stops whole fault }))
   | inr other ↦ inl (record {
-      error = e;
-      why = (subst (λ (o : Option Told). TellsSurvey own o (Err e)) told answer) whole;
-      other = other.0;
-      prints = prints.other other.0;
-      second = silent;
-      first = barrier other.0 ∙ ap (after Sync) told;
-    })
+    error = e;
+    why = (subst (λ (o : Option Told). TellsSurvey own o (Err e)) told answer) whole;
+    other = other.0;
+    prints = prints.other other.0;
+    second = silent;
+    first = barrier other.0 ∙ ap (after Sync) told;
+  })
 ]
 
 -- what a probe says of a refusal
@@ -135,13 +134,13 @@ pub not_probed : (layout : Layout) (t : Told) (old new : Outside) (status : Stat
 not_probed layout t old new status e told answer same silent prints = elim (open_fault e) [
   | inl fault ↦ inl ((λ i. record { first = same i; second = silent i; written = (prints.failing fault).1 i }), inr (prints.failing fault).0)
   | inr other ↦ inr (inl (record {
-      error = e;
-      why = probe_refuses t e other.0 (subst (λ (o : Option Told). TellsLayout o (Err e)) told answer);
-      other = other.0;
-      prints = prints.other other.0;
-      second = silent;
-      first = same;
-    }))
+    error = e;
+    why = probe_refuses t e other.0 (subst (λ (o : Option Told). TellsLayout o (Err e)) told answer);
+    other = other.0;
+    prints = prints.other other.0;
+    second = silent;
+    first = same;
+  }))
 ]
 
 -- ---- words

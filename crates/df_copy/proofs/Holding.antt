@@ -1,12 +1,10 @@
 -- A target on which nothing was written holds the copy whole behind all that is written: an open finds it, nothing is to be mended, and each block that it references is shown.
-use Rattle.std.proofs.Common.{◌≡◌, ◌↔◌, inl, inr, ℕ, zero, suc, ◌+◌, ◌-◌, ◌^◌, ◌<◌, ◌≤◌, ◌==◌, Bool, true, List, [], ◌∷◌, ◌++◌, length, map, get_or, Option, Some, None, Ok, refl, sym, ◌∙◌, ap, subst, arith, eqb-true}
+use Rattle.std.proofs.Common.{◌≡◌, inl, inr, ℕ, zero, suc, ◌+◌, ◌<◌, ◌≤◌, List, [], ◌∷◌, ◌++◌, length, map, Option, Some, None, refl, sym, ◌∙◌, ap, subst, arith}
 use Rattle.std.specs.Prelude.{slice_get, slice_index}
-use Rattle.std.specs.List.{range_with_len}
-use Rattle.std.proofs.lemmas.Bool.{and_parts, cases_lt}
+use Rattle.std.proofs.lemmas.Bool.{cases_lt}
 use Rattle.std.proofs.lemmas.List.{get_or-map, length-map}
 use Rattle.std.proofs.lemmas.Option.{same_Some, slice_get_within}
 use Rattle.df_base.specs.Image.{Image, IsImage, blank}
-use Rattle.df_base.specs.Log.{now}
 use Rattle.df_base.proofs.Laws.{blank_is_image}
 use Rattle.df_layout.specs.declared.layout.Layout.{Layout}
 use Rattle.df_format.specs.declared.kind.Kind.{Kind}
@@ -14,7 +12,6 @@ use Rattle.df_format.specs.declared.kind.Kind.TheVariants.{Block as IsBlock}
 use Rattle.df_format.specs.declared.superblock.SuperFields.{SuperFields}
 use Rattle.df_format.specs.Message.{Message}
 use Rattle.df_format.specs.Rules.{ObeysBlock, ObeysKind}
-use Rattle.df_format.specs.Spelling.{no_checksum}
 use Rattle.df_theory.specs.Found.{IsFound}
 use Rattle.df_theory.specs.Holds.{IsWhole, Stands}
 use Rattle.df_theory.specs.MakingLaws.{AllReserved, all_puts}
@@ -30,28 +27,27 @@ use Rattle.df_units.specs.Bytes.{unit_at}
 use Rattle.df_units.specs.Making.{header_puts}
 use Rattle.df_units.specs.Meaning.{block_of, message_of, number_of}
 use Rattle.df_units.specs.Puts.{put_copies}
-use Rattle.df_units.proofs.Laws.{blank_empty, by_second, no_number}
+use Rattle.df_units.proofs.Laws.{blank_empty, by_second}
 use Rattle.df_sessions.specs.Requests.{session_of, sessions_of}
 use Rattle.df_model.specs.Making.{named_places}
-use Rattle.df_opening.specs.Below.{State, memory, shape}
+use Rattle.df_opening.specs.Below.{State, shape}
 use Rattle.df_opening.specs.Making.{reserved_table, sectors_in}
 use Rattle.df_opening.specs.Sparing.{image_after}
 use Rattle.df_opening.proofs.Laws.{shown_by, unit_after}
-use Rattle.df_copy.specs.Targets.{all_steps, check_of, checks_of, copy_events, copy_steps, numbered, reply_steps, superblock_of, trailer_of}
+use Rattle.df_copy.specs.Targets.{all_steps, check_of, checks_of, copy_events, copy_steps, reply_steps, superblock_of, trailer_of}
 use Rattle.df_grid.specs.Writes.{block_steps}
-use Rattle.df_copy.specs.Tests.{is_at_rest, trailer_blocks}
 use Rattle.df_copy.specs.Units.{moved, moved_from}
 use Rattle.df_copy.specs.Views.{file_in}
 use Rattle.df_copy.proofs.Afters.{placed}
-use Rattle.df_copy.proofs.Frees.{numbered_known, numbered_there}
+use Rattle.df_copy.proofs.Frees.{numbered_known}
 use Rattle.df_copy.proofs.Images.{image_behind, row_steps, shows_block, shows_copy, shows_no_prepare, shows_no_reply, shows_reply, shows_reserved, shows_slot, shows_trailer}
 use Rattle.df_copy.proofs.Listed.{check_at, many_checks, moved_length}
 use Rattle.df_copy.proofs.Rested.{IsEarlier, NamesAll, ShowsRest, rest_found, rest_whole, view_at_rest}
 use Rattle.df_copy.proofs.Rings.{ring_all_reserved, ring_reaches}
 use Rattle.df_copy.proofs.Rows.{as_block, as_reply, reply_row_placed, row_at, row_placed}
 use Rattle.df_copy.proofs.Sources.{IsSource}
-use Rattle.df_copy.proofs.Trailed.{chain_in, copy_chain, copy_content, copy_lawful, copy_parts, copy_sound}
-use Rattle.df_copy.proofs.Usables.{IsNamed, copy_are_steps, long}
+use Rattle.df_copy.proofs.Trailed.{chain_in, copy_chain, copy_content, copy_parts, copy_sound}
+use Rattle.df_copy.proofs.Usables.{IsNamed, copy_are_steps}
 use Rattle.df_copy.proofs.Written.{trailer_in_row}
 
 -- ---- lists

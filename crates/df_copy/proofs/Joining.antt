@@ -1,5 +1,5 @@
 -- The parts of a copy, one behind the other: what is written in all, and which refusal it is.
-use Rattle.std.proofs.Common.{◌≡◌, ◌⊎◌, inl, inr, ℕ, ◌+◌, List, [], ◌∷◌, ◌++◌, length, Option, Some, None, Result, Ok, Err, refl, sym, ◌∙◌, ap, subst, append_assoc}
+use Rattle.std.proofs.Common.{◌≡◌, ◌⊎◌, inl, inr, ℕ, List, [], ◌∷◌, ◌++◌, length, Option, Some, None, Result, Ok, Err, refl, sym, ◌∙◌, ap, subst, append_assoc}
 use Rattle.std.specs.Prelude.{IfErr}
 use Rattle.std.proofs.lemmas.List.{append-nil}
 use Rattle.df_base.specs.Image.{Image}
@@ -52,10 +52,12 @@ module _ (T : Type 0) (s : State) (t n : Target) (from old : Option Told) where
   -- the copy ends in the replies
   replies_refused : (e : Ending) (new : Option Told) → OverShown s.file from (λ shown. first_refusal (reply_tests t.layout shown (memory s)) ≡ Some e) × (rs : List Message) × FitReplies t.layout s from rs × (new ≡ after_all (all_events (reply_events t.layout) rs) old)
       → OverShown s.file from (λ shown. first_refusal (unit_tests t.layout shown (memory s)) ≡ Some e) × (c : Copied t.layout s from) × (new ≡ after_all (units_written t.layout c.replies c.blocks) old)
-  replies_refused e new copies =
-      (over_by s.file from (λ shown. first_refusal (reply_tests t.layout shown (memory s)) ≡ Some e) (λ shown. first_refusal (unit_tests t.layout shown (memory s)) ≡ Some e) copies.0
+  replies_refused e new copies = (
+    over_by s.file from (λ shown. first_refusal (reply_tests t.layout shown (memory s)) ≡ Some e) (λ shown. first_refusal (unit_tests t.layout shown (memory s)) ≡ Some e) copies.0
         (λ shown is. first_refuses (reply_tests t.layout shown (memory s)) (block_tests t.layout shown (memory s)) e is),
-      only_replies t.layout s from copies.1 copies.2, replies_only t.layout s from copies.1 old new copies.3)
+    only_replies t.layout s from copies.1 copies.2,
+    replies_only t.layout s from copies.1 old new copies.3,
+  )
 
   pub units_stop : (checks : List (List ℕ)) (new : Option Told) (e : Ending) → CopiesReplies {T = T} t.layout s checks from old new (Err e) → CopiesUnits {T = T} s t n from old new (Err e)
   units_stop checks new TargetFails copies = (only_replies t.layout s from copies.0 copies.1, part_then (all_events (reply_events t.layout) copies.0) [] old new copies.2)
@@ -73,16 +75,22 @@ module _ (T : Type 0) (s : State) (t n : Target) (from old : Option Told) where
       (none : OverShown s.file from (λ shown. first_refusal (reply_tests t.layout shown (memory s)) ≡ None)) where
     blocks_refused : (e : Ending) (new : Option Told) → OverShown s.file from (λ shown. first_refusal (block_tests t.layout shown (memory s)) ≡ Some e) × (bs : List Message) × FitBlocks t.layout s from bs × (new ≡ after_all (all_events (made_events t.layout) (moved_from 1 bs)) mid)
         → OverShown s.file from (λ shown. first_refusal (unit_tests t.layout shown (memory s)) ≡ Some e) × (c : Copied t.layout s from) × (new ≡ after_all (units_written t.layout c.replies c.blocks) old)
-    blocks_refused e new copies =
-        (over_both s.file from (λ shown. first_refusal (reply_tests t.layout shown (memory s)) ≡ None) (λ shown. first_refusal (block_tests t.layout shown (memory s)) ≡ Some e) (λ shown. first_refusal (unit_tests t.layout shown (memory s)) ≡ Some e) none copies.0
+    blocks_refused e new copies = (
+      over_both s.file from (λ shown. first_refusal (reply_tests t.layout shown (memory s)) ≡ None) (λ shown. first_refusal (block_tests t.layout shown (memory s)) ≡ Some e) (λ shown. first_refusal (unit_tests t.layout shown (memory s)) ≡ Some e) none copies.0
           (λ shown passed is. behind_decides (reply_tests t.layout shown (memory s)) (block_tests t.layout shown (memory s)) passed ∙ is),
-        with_blocks t.layout s from rs copies.1 fit all copies.2, then_blocks t.layout s from rs copies.1 old mid new first copies.3)
+      with_blocks t.layout s from rs copies.1 fit all copies.2,
+      then_blocks t.layout s from rs copies.1 old mid new first copies.3,
+    )
 
     pub units_go : (new : Option Told) (r : Result T Ending) → CopiesBlocks t.layout s rs n from mid new r → CopiesUnits s t n from old new r
-    units_go new (Ok x) copies =
-        (with_blocks t.layout s from rs copies.0 fit all copies.1, record { replies = all; blocks = copies.2 }, then_blocks t.layout s from rs copies.0 old mid new first copies.3, copies.4,
-        over_both s.file from (λ shown. first_refusal (reply_tests t.layout shown (memory s)) ≡ None) (λ shown. first_refusal (block_tests t.layout shown (memory s)) ≡ None) (λ shown. first_refusal (unit_tests t.layout shown (memory s)) ≡ None) none copies.5
-          (λ shown passed is. behind_decides (reply_tests t.layout shown (memory s)) (block_tests t.layout shown (memory s)) passed ∙ is))
+    units_go new (Ok x) copies = (
+      with_blocks t.layout s from rs copies.0 fit all copies.1,
+      record { replies = all; blocks = copies.2 },
+      then_blocks t.layout s from rs copies.0 old mid new first copies.3,
+      copies.4,
+      over_both s.file from (λ shown. first_refusal (reply_tests t.layout shown (memory s)) ≡ None) (λ shown. first_refusal (block_tests t.layout shown (memory s)) ≡ None) (λ shown. first_refusal (unit_tests t.layout shown (memory s)) ≡ None) none copies.5
+          (λ shown passed is. behind_decides (reply_tests t.layout shown (memory s)) (block_tests t.layout shown (memory s)) passed ∙ is),
+    )
     units_go new (Err TargetFails) copies =
         (with_blocks t.layout s from rs copies.0 fit all copies.1, all_then (all_events (reply_events t.layout) rs) (all_events (made_events t.layout) (moved_from 1 copies.0)) old mid new first copies.2)
     units_go new (Err Source) copies = (with_blocks t.layout s from rs copies.0 fit all copies.1, then_blocks t.layout s from rs copies.0 old mid new first copies.2)
@@ -126,7 +134,7 @@ module _ (T : Type 0) (layout : Layout) (s : State) (from old : Option Told) whe
   planned_refused e blank is =
       over_told old (λ image. first_refusal (blank_tests image) ≡ None) (λ image. OverShown s.file from (λ shown. first_refusal (blank_tests image ++ unit_tests layout shown (memory s)) ≡ Some e)) blank
       (λ image passed. over_by s.file from (λ shown. first_refusal (unit_tests layout shown (memory s)) ≡ Some e) (λ shown. first_refusal (blank_tests image ++ unit_tests layout shown (memory s)) ≡ Some e) is
-        (λ shown refused. behind_decides (blank_tests image) (unit_tests layout shown (memory s)) passed ∙ refused))
+      (λ shown refused. behind_decides (blank_tests image) (unit_tests layout shown (memory s)) passed ∙ refused))
 
   -- nothing is begun
   begun_refused : (e : Ending) → OverTold old (λ image. first_refusal (blank_tests image) ≡ Some e) → OverTold old (λ image. OverShown s.file from (λ shown. first_refusal (blank_tests image ++ unit_tests layout shown (memory s)) ≡ Some e))
@@ -209,7 +217,7 @@ module _ (T : Type 0) (layout : Layout) (s : State) (from old : Option Told) whe
       passed =
           over_told old (λ image. first_refusal (blank_tests image) ≡ None) (λ image. OverShown s.file from (λ shown. first_refusal (blank_tests image ++ unit_tests layout shown (memory s)) ≡ None)) blank
           (λ image pass. over_by s.file from (λ shown. first_refusal (unit_tests layout shown (memory s)) ≡ None) (λ shown. first_refusal (blank_tests image ++ unit_tests layout shown (memory s)) ≡ None) none
-            (λ shown more. behind_decides (blank_tests image) (unit_tests layout shown (memory s)) pass ∙ more))
+          (λ shown more. behind_decides (blank_tests image) (unit_tests layout shown (memory s)) pass ∙ more))
 
       pub planned_done : (new : Option Told) (x : T) → Finishes {T = T} layout s c.replies c.blocks mid new (Ok x) → CopiesPlanned {T = T} layout s from old new (Ok x)
       planned_done new x finishes = record {

@@ -1,8 +1,8 @@
 -- The checksums of replies, as those of a list of messages: whatever was set at places of sessions.
 use Rattle.std.proofs.Common.{◌≡◌, inl, inr, ℕ, zero, suc, ◌+◌, ◌<◌, ◌≤◌, List, [], ◌∷◌, length, take, map, refl, sym, ◌∙◌, ap, arith}
-use Rattle.std.specs.Prelude.{get_or, slice_get, slice_set}
+use Rattle.std.specs.Prelude.{get_or, slice_get}
 use Rattle.std.proofs.lemmas.Bool.{cases_lt}
-use Rattle.std.proofs.lemmas.List.{ext_get_or, get_or-set_other, length-map, length-set}
+use Rattle.std.proofs.lemmas.List.{ext_get_or, get_or-set_other, length-set}
 use Rattle.std.proofs.lemmas.List.FromFn.{get_or-map-range_with_len, length-map-range_with_len}
 use Rattle.df_format.specs.Making.{blank_header}
 use Rattle.df_format.specs.Message.{Message}

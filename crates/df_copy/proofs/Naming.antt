@@ -1,16 +1,15 @@
 -- The superblock of a copy names the last block of its trailer, as the grid does.
-use Rattle.std.proofs.Common.{◌≡◌, ℕ, zero, suc, List, Option, Some, None, refl, sym, ◌∙◌, ap, subst}
+use Rattle.std.proofs.Common.{◌≡◌, ℕ, zero, suc, List, Option, Some, None, ap, subst}
 use Rattle.df_base.proofs.Laws.{AreBytes-check_of, length-check_of}
 use Rattle.df_layout.specs.declared.layout.Layout.{Layout}
 use Rattle.df_format.specs.declared.reference.Reference.{Reference}
-use Rattle.df_format.specs.declared.superblock.SuperFields.{SuperFields}
 use Rattle.df_format.specs.Message.{Message}
 use Rattle.df_format.specs.Spelling.{IsCheck, no_checksum}
 use Rattle.df_format.proofs.Laws.{no_check}
 use Rattle.df_units.specs.Meaning.{number_of}
 use Rattle.df_units.proofs.Laws.{one_number}
 use Rattle.df_grid.specs.Grid.{GridState}
-use Rattle.df_grid.specs.Table.{last_of as last_named, pair_in}
+use Rattle.df_grid.specs.Table.{last_of as last_named}
 use Rattle.df_opening.specs.Below.{State, memory}
 use Rattle.df_copy.specs.declared.target.Target.{Target}
 use Rattle.df_copy.specs.Acts.{IsWritten}

@@ -1,7 +1,6 @@
 -- Behind the open of its source a copy spares the sectors of the target's superblock until the first copy of it, and the target holds it whole where it is made.
-use Rattle.std.proofs.Common.{◌≡◌, ◌⊎◌, inl, inr, ℕ, ◌+◌, ◌<◌, ◌≤◌, ◌++◌, Bool, true, false, not, if◌then◌else◌, List, [], ◌∷◌, length, Option, Some, None, Result, Ok, Err, refl, sym, ◌∙◌, ap, subst, arith}
-use Rattle.std.specs.Prelude.{nat_lt, slice_get}
-use Rattle.std.proofs.lemmas.List.{length-map}
+use Rattle.std.proofs.Common.{◌≡◌, ◌⊎◌, inl, inr, ℕ, ◌≤◌, ◌++◌, true, List, [], ◌∷◌, length, Option, Some, None, Result, Ok, Err, refl, sym, ◌∙◌, ap, subst, arith}
+use Rattle.std.specs.Prelude.{slice_get}
 use Rattle.std.proofs.lemmas.Option.{same_Some}
 use Rattle.df_base.specs.Fields.{AreBytes}
 use Rattle.df_base.specs.Image.{Image, IsImage}
@@ -18,7 +17,7 @@ use Rattle.df_sessions.specs.Table.{AreApart}
 use Rattle.df_sessions.specs.declared.session.Session as told
 use Rattle.df_theory.specs.Found.{IsFound}
 use Rattle.df_theory.specs.Holds.{IsWhole, Stands}
-use Rattle.df_theory.specs.Units.{BlockPlace, BlockUnit, ReplyPlace, ReplyUnit, Units}
+use Rattle.df_theory.specs.Units.{ReplyPlace, ReplyUnit, Units}
 use Rattle.df_theory.specs.View.{View}
 use Rattle.df_units.specs.Bytes.{unit_at}
 use Rattle.df_units.specs.Meaning.{block_of, layout_of, message_of}
@@ -40,7 +39,7 @@ use Rattle.df_copy.specs.declared.status.Status.{Status}
 use Rattle.df_copy.specs.Copying.{Copied, CopiesInto, IsAll, WritesCopy}
 use Rattle.df_copy.specs.Run.{CopiesFile, Prints, SparesCopies}
 use Rattle.df_copy.specs.Targets.{copy_events, unit_events}
-use Rattle.df_copy.specs.Tests.{blank_tests, is_at_rest, needed, tests, unit_tests}
+use Rattle.df_copy.specs.Tests.{blank_tests, tests, unit_tests}
 use Rattle.df_copy.specs.Views.{HoldsCopy, IsCopyOf, IsEmpty, file_in}
 use Rattle.df_copy.proofs.Alike.{WereRead, copy_alike}
 use Rattle.df_copy.proofs.Holding.{copy_found, copy_stands, copy_view, copy_whole, mapped, place_shows, shown}

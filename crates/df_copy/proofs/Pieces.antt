@@ -7,7 +7,6 @@ use Rattle.std.proofs.Math.Nat.{mul-suc}
 use Rattle.std.proofs.Math.Seq.{take-add}
 use Rattle.df_base.specs.Fields.{AreBytes, spelled}
 use Rattle.df_base.proofs.Laws.{AreBytes-drop, AreBytes-spelled, AreBytes-take, length-spelled}
-use Rattle.df_layout.specs.declared.layout.Layout.{Layout}
 use Rattle.df_layout.specs.declared.places.Zone.TheVariants.{Grid}
 use Rattle.df_format.specs.declared.header.Header.{Header}
 use Rattle.df_format.specs.declared.kind.Kind.TheVariants.{Trailer}
@@ -15,7 +14,7 @@ use Rattle.df_format.specs.Making.{for_body}
 use Rattle.df_format.specs.Message.{Message}
 use Rattle.df_format.specs.Own.{own_place, place_in}
 use Rattle.df_format.specs.Rules.{ObeysRules, ObeysVersion}
-use Rattle.df_format.specs.Spelling.{IsCheck, no_checksum}
+use Rattle.df_format.specs.Spelling.{no_checksum}
 use Rattle.df_format.specs.Valid.{IsUnit}
 use Rattle.df_format.proofs.Laws.{given_obeys, is_own, sealed_is}
 use Rattle.df_theory.specs.Trailer.{InChain, Links, piece_size, text_of}
@@ -27,7 +26,7 @@ use Rattle.df_model.specs.Making.{first_of}
 use Rattle.df_model.specs.Memory.{last_address, last_sum}
 use Rattle.df_trailer.specs.Writing.{piece_of}
 use Rattle.df_grid.specs.Grid.{GridState}
-use Rattle.df_grid.specs.Table.{next_written, written_of}
+use Rattle.df_grid.specs.Table.{written_of}
 use Rattle.df_grid.specs.Writes.{first_address, first_sum, next_header}
 use Rattle.df_copy.specs.Targets.{behind_piece, grid_behind, next_piece, pieces_from}
 use Rattle.df_copy.proofs.Rows.{AreInRow}
@@ -179,7 +178,7 @@ module _ (sequence : ℕ) (text : List ℕ) (bytes : AreBytes text) (c : Content
         body_size,
         refl,
         subst (λ (a : ℕ). Links (room g) c chain a (number_of (spelled 16 (first_sum g.blocks.written)))) (sym before)
-        (subst (Links (room g) c chain (last_address chain)) (sym (is.back ∙ ap first_sum is.pairs ∙ listed_sum chain)) is.links),
+            (subst (Links (room g) c chain (last_address chain)) (sym (is.back ∙ ap first_sum is.pairs ∙ listed_sum chain)) is.links),
       );
       text_is = body_text;
       back = ap (λ (b : Blocks). number_of (spelled 16 (first_sum b.written))) grown ∙ ap number_of (whole_check u.header.checksum (sealed_check u.header piece_unit.sealed)) ∙ sym (ap (λ (b : Blocks). first_sum b.written) grown);
@@ -209,7 +208,7 @@ module _ (sequence : ℕ) (text : List ℕ) (bytes : AreBytes text) (c : Content
       let u = next_piece g sequence text in
       let on : next + 1 + n ≡ next + suc n = omega arith in
       let rest = pieces_are (behind_piece g sequence text) (record { named = writing.named; boot = writing.boot; running = writing.running }) n (next + 1) ((u.header.op, block_of u) ∷ chain) (piece_pieced g writing next chain is (range_with_len (next + 1) n) left low)
-          (behind_left g writing next chain is (range_with_len (next + 1) n) left low) (omega (arith, inside)) in
+      (behind_left g writing next chain is (range_with_len (next + 1) n) left low) (omega (arith, inside)) in
       record {
         row = (ap first_of left, piece_unit g writing next chain is (range_with_len (next + 1) n) left low, rest.row);
         pieced = subst (λ (k : ℕ). IsPieced k (grid_behind (behind_piece g sequence text) sequence text n) (chain_with (pieces_from (behind_piece g sequence text) sequence text n) ((u.header.op, block_of u) ∷ chain))) on rest.pieced;

@@ -91,11 +91,11 @@ has_session (y ∷ ys) (suc k) x at =
     elim (cases_eq y.client x.client) [
       | inl same ↦ first_of x.client y ys same
       | inr other ↦ record {
-          place = suc more.place;
-          session = more.session;
-          at = more.at;
-          is = ap (λ (b : Bool). if b then Some (session_of y) else session_of_client x.client (sessions_of ys)) (ne_eqb y.client x.client other) ∙ more.is;
-        }
+        place = suc more.place;
+        session = more.session;
+        at = more.at;
+        is = ap (λ (b : Bool). if b then Some (session_of y) else session_of_client x.client (sessions_of ys)) (ne_eqb y.client x.client other) ∙ more.is;
+      }
     ]
 
 pub rest_is : (s : State) → is_at_rest (memory s) ≡ true → (s.fields.op ≡ s.head) × (s.head ≡ s.replies)

@@ -109,17 +109,22 @@ module _ (layout : Layout) (s : State) (from old : Option Told) where
 
     ends_refused : (e : Ending) (newer : Option Told) → OverShown s.file from (λ shown. reply_test layout n (reply_at shown (reply_sum (memory s) n) n) ≡ (true, e)) × (newer ≡ new)
         → OverShown s.file from (λ shown. first_refusal (reply_tests layout shown (memory s)) ≡ Some e) × (rs : List Message) × FitReplies layout s from rs × (newer ≡ after_all (all_events (reply_events layout) rs) old)
-    ends_refused e newer copies =
-        (over_both s.file from
+    ends_refused e newer copies = (
+      over_both s.file from
           (λ shown. first_refusal (reply_tests layout shown (memory s)) ≡ first_refusal (reply_tests_from layout shown (memory s) n (length (memory s).sessions - n)))
           (λ shown. reply_test layout n (reply_at shown (reply_sum (memory s) n) n) ≡ (true, e))
           (λ shown. first_refusal (reply_tests layout shown (memory s)) ≡ Some e) is.rest copies.0 (refused e),
-        is.rs, is.are, copies.1 ∙ is.events)
+      is.rs,
+      is.are,
+      copies.1 ∙ is.events,
+    )
 
     pub replying_ends : (T : Type 0) (behind all : List (List ℕ)) (newer : Option Told) (e : Ending) → CopiesReply {T = T} layout n s now behind from new newer (Err e) → CopiesReplies {T = T} layout s all from old newer (Err e)
-    replying_ends T behind all newer TargetFails one =
-        (is.rs ++ one.0 ∷ [], fit_push layout s from is.rs one.0 is.are (subst (λ (k : ℕ). FitsReply layout s from k one.0) (sym is.count) one.1),
-        subst (λ (l : List Event). AddsPart l old newer) (sym (events_push (reply_events layout) is.rs one.0)) (all_then (all_events (reply_events layout) is.rs) (reply_events layout one.0) old new newer is.events one.2))
+    replying_ends T behind all newer TargetFails one = (
+      is.rs ++ one.0 ∷ [],
+      fit_push layout s from is.rs one.0 is.are (subst (λ (k : ℕ). FitsReply layout s from k one.0) (sym is.count) one.1),
+      subst (λ (l : List Event). AddsPart l old newer) (sym (events_push (reply_events layout) is.rs one.0)) (all_then (all_events (reply_events layout) is.rs) (reply_events layout one.0) old new newer is.events one.2),
+    )
     replying_ends T behind all newer Source one = (is.rs, is.are, one ∙ is.events)
     replying_ends T behind all newer (Damaged a b) one = ends_refused (Damaged a b) newer one
     replying_ends T behind all newer (NotBlank a) one = ends_refused (NotBlank a) newer one

@@ -1,9 +1,9 @@
 -- What an open finds of a file at rest: its copies are equal, no slot of its rings has a prepare, and each session's reply is named.
-use Rattle.std.proofs.Common.{◌≡◌, inl, inr, ℕ, zero, suc, ◌+◌, ◌-◌, ◌<◌, ◌≤◌, List, [], ◌∷◌, length, take, Option, Some, None, refl, sym, ◌∙◌, ap, subst, arith}
+use Rattle.std.proofs.Common.{◌≡◌, inl, ℕ, ◌+◌, ◌-◌, ◌<◌, ◌≤◌, List, [], ◌∷◌, length, take, Option, Some, None, refl, sym, ◌∙◌, ap, arith}
 use Rattle.std.specs.Prelude.{slice_get, slice_index}
-use Rattle.df_theory.specs.Units.{AnyUnit, Block, BlockPlace, BlockUnit, Content, CopyPlace, CopyUnit, Header, HeaderPlace, HeaderUnit, IsReserved, Message, Parts, PreparePlace, PrepareUnit, ReplyPlace, ReplyUnit, Session, Units}
+use Rattle.df_theory.specs.Units.{Block, BlockPlace, BlockUnit, Content, CopyPlace, CopyUnit, Header, HeaderPlace, HeaderUnit, IsReserved, Message, PreparePlace, PrepareUnit, ReplyPlace, ReplyUnit, Session, Units}
 use Rattle.df_theory.specs.Cases.{Takes}
-use Rattle.df_theory.specs.Copies.{Agree, IsChosen}
+use Rattle.df_theory.specs.Copies.{IsChosen}
 use Rattle.df_theory.specs.Found.{IsFound, IsStored}
 use Rattle.df_theory.specs.Groups.{AreMore}
 use Rattle.df_theory.specs.Holds.{IsNamed, IsWhole}

@@ -8,7 +8,6 @@ use Rattle.std.proofs.lemmas.Option.{get_or_from_slice_get, slice_get-get_or, sl
 use Rattle.df_layout.specs.declared.layout.Layout.{Layout}
 use Rattle.df_format.specs.declared.header.Header.{Header}
 use Rattle.df_format.specs.declared.kind.Kind.TheVariants.{Reserved}
-use Rattle.df_theory.specs.Units as units
 use Rattle.df_theory.specs.Units.{AnyUnit, HeaderPlace, is_some}
 use Rattle.df_theory.specs.MakingLaws.{AllReserved, all_puts}
 use Rattle.df_theory.specs.MendLaws.{Reaches}

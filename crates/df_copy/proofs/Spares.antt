@@ -14,10 +14,9 @@ use Rattle.df_layout.specs.Spans.{span_of}
 use Rattle.df_layout.specs.Zones.{first_sector, zone_sectors}
 use Rattle.df_layout.proofs.Laws.{zones_follow}
 use Rattle.df_format.specs.declared.header.Header.{Header}
-use Rattle.df_format.specs.Message.{Message, sectors_of}
+use Rattle.df_format.specs.Message.{Message}
 use Rattle.df_format.specs.Own.{place_in}
 use Rattle.df_format.specs.Super.{copy_bytes}
-use Rattle.df_format.specs.UnitLaws.{headers_bytes}
 use Rattle.df_units.specs.Making.{header_writes}
 use Rattle.df_superblock.specs.Events.{copy_written}
 use Rattle.df_opening.specs.Below.{State}

@@ -74,8 +74,21 @@ block_kind h address some obeys =
 pub moved_rules : (h : Header) (address : ℕ) → h.kind ≡ Block → 0 < address → address < 2 ^ 64 → ObeysRules h → ObeysRules (at_address address h)
 moved_rules h address kind some small rules = record {
   fits = (let f = rules.fits in record {
-    body = f.body; cluster = f.cluster; parent = f.parent; client = f.client; op = small; request = f.request; mark = f.mark; checkpoint = f.checkpoint; size = f.size;
-    slot = f.slot; block_kind = f.block_kind; version = f.version; boot = f.boot; group = f.group; group_last = f.group_last;
+    body = f.body;
+    cluster = f.cluster;
+    parent = f.parent;
+    client = f.client;
+    op = small;
+    request = f.request;
+    mark = f.mark;
+    checkpoint = f.checkpoint;
+    size = f.size;
+    slot = f.slot;
+    block_kind = f.block_kind;
+    version = f.version;
+    boot = f.boot;
+    group = f.group;
+    group_last = f.group_last;
   });
   cluster = rules.cluster;
   size = rules.size;

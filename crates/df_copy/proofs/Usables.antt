@@ -1,5 +1,5 @@
 -- The superblock of a copy can be used: the source's can, and what changes in it is in its range.
-use Rattle.std.proofs.Common.{◌≡◌, ◌≢◌, inl, inr, ℕ, zero, suc, ◌+◌, ◌-◌, ◌*◌, ◌/◌, ◌^◌, ◌<◌, ◌≤◌, ◌==◌, true, All, List, [], ◌∷◌, ◌++◌, length, map, drop, get_or, Option, Some, None, refl, sym, ◌∙◌, ap, subst, arith}
+use Rattle.std.proofs.Common.{◌≡◌, ◌≢◌, inl, inr, ℕ, zero, suc, ◌+◌, ◌-◌, ◌*◌, ◌/◌, ◌<◌, ◌≤◌, List, [], ◌∷◌, length, drop, Option, Some, None, refl, sym, ◌∙◌, ap, subst, arith}
 use Rattle.std.specs.Prelude.{slice_get}
 use Rattle.std.proofs.lemmas.Bool.{cases_eq}
 use Rattle.std.proofs.lemmas.List.{get_or-drop, length-drop}
@@ -145,19 +145,23 @@ module _ (layout : Layout) (s : State) (rs bs : List Message) (is : IsFitted lay
   -- a copy has a trailer where its source has one
   pub trailer_there : s.fields.trailer_address ≢ 0 → (0 < n) × (size ≡ text_size (layout_of layout) (length s.root) (length s.table.sessions) (length (references (memory s))))
   trailer_there some =
-      let same = size_some layout s some in
-      (elim (cases_eq n 0) [
-        | inl none ↦ let nothing = no_size none in absurd (omega (arith, same, nothing))
-        | inr any ↦ omega (arith, any)
-      ], same)
+      let same = size_some layout s some in (
+        elim (cases_eq n 0) [
+          | inl none ↦ let nothing = no_size none in absurd (omega (arith, same, nothing))
+          | inr any ↦ omega (arith, any)
+        ],
+        same,
+      )
 
   pub no_trailer_there : s.fields.trailer_address ≡ 0 → (n ≡ 0) × (size ≡ 0)
   no_trailer_there none =
-      let same = size_none layout s none in
-      (elim (cases_eq n 0) [
-        | inl nothing ↦ nothing
-        | inr any ↦ let some = some_size (omega (arith, any)) in absurd (omega (arith, some, same))
-      ], same)
+      let same = size_none layout s none in (
+        elim (cases_eq n 0) [
+          | inl nothing ↦ nothing
+          | inr any ↦ let some = some_size (omega (arith, any)) in absurd (omega (arith, some, same))
+        ],
+        same,
+      )
 
   pub copy_super : IsSuper f
   copy_super = record {

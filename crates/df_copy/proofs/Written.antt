@@ -1,22 +1,19 @@
 -- What is written of a target, in the words of the theory: the header ring, replies and blocks that were read, and the trailer behind them.
-use Rattle.std.proofs.Common.{◌≡◌, inl, inr, ℕ, zero, suc, ◌+◌, ◌-◌, ◌*◌, ◌^◌, ◌<◌, ◌≤◌, max, take, true, List, [], ◌∷◌, ◌++◌, length, map, Option, Some, None, refl, sym, ◌∙◌, ap, subst, arith}
+use Rattle.std.proofs.Common.{◌≡◌, ℕ, suc, ◌+◌, ◌-◌, ◌*◌, ◌<◌, ◌≤◌, take, true, List, [], ◌∷◌, ◌++◌, length, Option, Some, refl, ◌∙◌, ap, subst, arith}
 use Rattle.std.specs.Prelude.{slice_get}
 use Rattle.std.specs.List.{range_with_len}
 use Rattle.std.proofs.lemmas.Option.{slice_get_within}
 use Rattle.df_base.specs.Fields.{AreBytes}
-use Rattle.df_base.specs.Log.{Event}
 use Rattle.df_disk.specs.Told.{Told}
 use Rattle.df_layout.specs.declared.layout.Layout.{Layout}
-use Rattle.df_layout.specs.declared.places.Place.{Place}
 use Rattle.df_layout.specs.declared.places.Zone.TheVariants.{ClientReplies, Grid}
 use Rattle.df_format.specs.declared.kind.Kind.{Kind}
 use Rattle.df_format.specs.Making.{for_body}
 use Rattle.df_format.specs.Message.{Message}
-use Rattle.df_format.specs.Own.{has_op_of_slot, named_elsewhere, own_place, place_in}
+use Rattle.df_format.specs.Own.{has_op_of_slot, named_elsewhere, place_in}
 use Rattle.df_format.specs.Valid.{IsUnit}
 use Rattle.df_format.proofs.Laws.{is_own, sealed_is, valid_belongs}
 use Rattle.df_theory.specs.Device.{AreSteps}
-use Rattle.df_theory.specs.Runs.{Step}
 use Rattle.df_theory.specs.Units.{Content}
 use Rattle.df_theory.proofs.Laws.{steps_join_law}
 use Rattle.df_units.specs.Format.{format_of}
@@ -25,11 +22,11 @@ use Rattle.df_format.specs.Copies.{content_with}
 use Rattle.df_model.specs.Blocks.{sum_at}
 use Rattle.df_trailer.specs.Writing.{captured_parts}
 use Rattle.df_trailer.proofs.Laws.{text_bytes}
-use Rattle.df_grid.specs.Grid.{GridState, free_of}
+use Rattle.df_grid.specs.Grid.{GridState}
 use Rattle.df_grid.specs.Writes.{block_steps, made_events}
 use Rattle.df_opening.specs.Below.{IsState, State, memory}
 use Rattle.df_copy.specs.Acts.{FitBlocks, FitReplies, IsBlockOf}
-use Rattle.df_copy.specs.Targets.{all_steps, begun_grid, front_events, front_steps, grid_with, numbered, pieces_from, reply_steps, ring_events, ring_steps, sequence_of, superblock_of, text_with, trailer_of, unit_events, unit_steps}
+use Rattle.df_copy.specs.Targets.{all_steps, begun_grid, front_events, front_steps, grid_with, numbered, reply_steps, ring_events, ring_steps, sequence_of, text_with, trailer_of, unit_events, unit_steps}
 use Rattle.df_copy.specs.Tests.{needed, references, trailer_blocks}
 use Rattle.df_copy.specs.Units.{IsBlockAt, IsReplyAt, all_events, moved, moved_from, reply_events}
 use Rattle.df_copy.proofs.Frees.{next_free}
@@ -185,7 +182,7 @@ module _ (layout : Layout) (s : State) (rs bs : List Message) (is : IsWritable l
       steps_join_law f (ring_events layout s.file.cluster) (all_events (reply_events layout) rs ++ all_events (made_events layout) us) (ring_steps layout s.file.cluster) (all_steps reply_steps rs ++ all_steps block_steps us)
       (ring_is_steps layout s.file.cluster s.file.named is.state.cluster)
       (steps_join_law f (all_events (reply_events layout) rs) (all_events (made_events layout) us) (all_steps reply_steps rs) (all_steps block_steps us)
-        (reply_row_steps layout s.file.cluster 0 rs is.replies) (row_steps layout s.file.cluster 1 us is.blocks))
+      (reply_row_steps layout s.file.cluster 0 rs is.replies) (row_steps layout s.file.cluster 1 us is.blocks))
 
   pub front_are_steps : AreSteps (format_of layout s.file.cluster) (front_events layout s rs bs) (front_steps layout s rs bs)
   front_are_steps =

@@ -1,5 +1,5 @@
 -- What each act of a copy does: a reply or a block that is read and written, all of them, the trailer, and the superblock.
-use Rattle.std.specs.Prelude.{◌≡◌, ◌<◌, ◌≤◌, ◌+◌, ℕ, true, false, List, [], ◌∷◌, ◌++◌, length, slice_get, slice_set, Option, None, Some, Result, Ok, Err, OnOk}
+use Rattle.std.specs.Prelude.{◌≡◌, ◌<◌, ◌≤◌, ◌+◌, ℕ, true, List, length, slice_get, slice_set, Option, None, Some, Result, Ok, Err, OnOk}
 use Rattle.df_base.specs.Causes.{IsBlamed}
 use Rattle.df_disk.specs.Told.{Told}
 use Rattle.df_disk.specs.Adds.{AddsPart, after_all}
@@ -13,7 +13,7 @@ use Rattle.df_format.specs.Valid.{IsUnit}
 use Rattle.df_units.specs.Meaning.{number_of}
 use Rattle.df_grid.specs.Grid.{GridState, with_blocks}
 use Rattle.df_grid.specs.Table.{last_of}
-use Rattle.df_grid.specs.Writes.{made, made_events}
+use Rattle.df_grid.specs.Writes.{made_events}
 use Rattle.df_model.specs.Blocks.{block_written}
 use Rattle.df_model.specs.Commands.{ReadBlock}
 use Rattle.df_model.specs.Memory.{reply_sum}

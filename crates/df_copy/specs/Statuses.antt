@@ -7,7 +7,7 @@ use Rattle.df_model.specs.declared.reading.LookupError.TheVariants as lookup
 use Rattle.df_model.specs.declared.reading.ReadError.{ReadError}
 use Rattle.df_model.specs.declared.reading.ReadError.TheVariants as read
 use Rattle.df_copy.specs.declared.ending.Ending.{Ending}
-use Rattle.df_copy.specs.declared.ending.Ending.TheVariants.{BlockTooLong, Damaged, NotAtRest, NotBlank, ReplyTooLong, Source, Target, TooFewBlocks, TooFewClients}
+use Rattle.df_copy.specs.declared.ending.Ending.TheVariants.{Damaged, NotBlank, Source, Target}
 use Rattle.df_copy.specs.declared.status.Status.{Status}
 use Rattle.df_copy.specs.declared.status.Status.TheVariants as ends
 

@@ -69,8 +69,15 @@ pair_of (Some u) = Some (u.header.op, number_of u.header.checksum)
 -- the source's superblock with the numbers of a layout and the checksums of these replies. The source is at rest, so its head and its replies are its checkpoint's op
 abbrev pub fields_in : Layout → SuperFields → List (List ℕ) → SuperFields
 fields_in layout f checks = record f {
-  slots = layout.slots; message_size = layout.message_size; clients = layout.clients; block_size = layout.block_size; blocks = layout.blocks;
-  head = f.op; head_checksum = f.op_checksum; replies = f.op; reply_checksums = checks;
+  slots = layout.slots;
+  message_size = layout.message_size;
+  clients = layout.clients;
+  block_size = layout.block_size;
+  blocks = layout.blocks;
+  head = f.op;
+  head_checksum = f.op_checksum;
+  replies = f.op;
+  reply_checksums = checks;
 }
 
 -- and with a trailer that ends there

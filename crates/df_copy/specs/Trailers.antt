@@ -2,12 +2,10 @@
 use Rattle.std.specs.Prelude.{◌≡◌, ◌≤◌, ℕ, List, [], length, Option, None, Some, Result, OnOk}
 use Rattle.df_disk.specs.Told.{Told}
 use Rattle.df_disk.specs.Adds.{Adds}
-use Rattle.df_layout.specs.declared.layout.Layout.{Layout}
 use Rattle.df_format.specs.Message.{Message}
 use Rattle.df_format.specs.Spelling.{no_checksum}
 use Rattle.df_format.specs.declared.reference.Reference.{Reference}
 use Rattle.df_format.specs.declared.superblock.SuperFields.{SuperFields}
-use Rattle.df_units.specs.Meaning.{layout_of, number_of}
 use Rattle.df_checkpoint.specs.declared.capture.Capture.{Capture}
 use Rattle.df_checkpoint.specs.Writing as checkpoint
 use Rattle.df_grid.specs.Grid.{GridState}

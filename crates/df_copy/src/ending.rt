@@ -15,15 +15,32 @@ pub enum Ending {
         replies: u64,
     },
     /// The layout has no room for so many sessions.
-    TooFewClients { sessions: u64, clients: u64 },
+    TooFewClients {
+        sessions: u64,
+        clients: u64,
+    },
     /// The layout has no room for so many blocks: those that are referenced, and those of the copy's trailer.
-    TooFewBlocks { needed: u64, blocks: u64 },
+    TooFewBlocks {
+        needed: u64,
+        blocks: u64,
+    },
     /// The target has a byte other than zero in the sector of this copy of the superblock.
-    NotBlank { copy: u8 },
+    NotBlank {
+        copy: u8,
+    },
     /// The reply of the session at this place has more bytes, header included, than a message of the layout.
-    ReplyTooLong { place: u64, size: u64 },
+    ReplyTooLong {
+        place: u64,
+        size: u64,
+    },
     /// The block at this address has more bytes, header included, than a block of the layout.
-    BlockTooLong { address: u64, size: u64 },
+    BlockTooLong {
+        address: u64,
+        size: u64,
+    },
     /// What stands at this place of the source isn't the reply or the block that is known of it.
-    Damaged { place: Place, class: Class },
+    Damaged {
+        place: Place,
+        class: Class,
+    },
 }

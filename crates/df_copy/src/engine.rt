@@ -13,6 +13,7 @@ ghost use Rattle.df_copy.specs.Texts.{usage};
 use crate::copying::copy_into;
 use crate::status::Status;
 use crate::target::Target;
+pub use crate::telling::USAGE;
 use crate::telling::{refuse_source, tell_copied, tell_ending};
 use df_base::{OutOfMemory, Sink};
 use df_buffers::ProbeRoom;
@@ -22,8 +23,6 @@ use df_replica::{Replica, Rooms, probe};
 use df_telling::end_with;
 use df_words::{a_name_is_of_one_layout, layout_named};
 use std::alloc::Global;
-
-pub use crate::telling::USAGE;
 
 // The layout that the words name: they are one word, and it is a layout's name.
 fn layout_in(words: &[String]) -> Option<Layout>

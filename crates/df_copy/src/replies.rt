@@ -44,11 +44,7 @@ fn put_again<B: Disk>(
 }
 
 // Writes a reply that was read, where the layout has room for it.
-fn put_reply<B: Disk>(
-    to: &mut B,
-    target: &mut Target,
-    unit: &Sound<Reply>,
-) -> Result<(), Ending>
+fn put_reply<B: Disk>(to: &mut B, target: &mut Target, unit: &Sound<Reply>) -> Result<(), Ending>
     requires place { HasPlace target.old.layout unit.now.unit }
     ensures puts { PutsReply unit.now.unit target.old target.new (B.told to.old) (B.told to.new) result }
     ensures grid { KeepsGrid target.old target.new }

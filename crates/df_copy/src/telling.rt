@@ -84,14 +84,22 @@ fn print_ending<W: Sink>(sink: &mut W, ending: Ending) -> Result<(), Failed>
         } => write_line(sink, &not_at_rest_line(checkpoint_op, head, replies)),
         Ending::TooFewClients { sessions, clients } => write_line(
             sink,
-            &two_numbers_line("refused TooFewClients sessions", sessions, "clients", clients),
+            &two_numbers_line(
+                "refused TooFewClients sessions",
+                sessions,
+                "clients",
+                clients,
+            ),
         ),
         Ending::TooFewBlocks { needed, blocks } => write_line(
             sink,
             &two_numbers_line("refused TooFewBlocks needed", needed, "blocks", blocks),
         ),
         Ending::NotBlank { copy } => {
-            write_line(sink, &number_line("refused NotBlank copy", u128::from(copy)))
+            write_line(
+                sink,
+                &number_line("refused NotBlank copy", u128::from(copy)),
+            )
         }
         Ending::ReplyTooLong { place, size } => write_line(
             sink,

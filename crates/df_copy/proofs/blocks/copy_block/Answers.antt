@@ -1,8 +1,7 @@
 -- The block is lent, or it isn't.
-use Rattle.std.proofs.Common.{◌≡◌, ◌∙◌, ℕ, Option, Err, Result, ap, subst, sym}
+use Rattle.std.proofs.Common.{◌∙◌, Option, Err, Result, ap, subst, sym}
 use Rattle.df_base.specs.Causes.{Blamed}
 use Rattle.df_disk.specs.Told.{Told}
-use Rattle.df_format.specs.Message.{Message}
 use Rattle.df_grid.specs.Grid.{GridState}
 use Rattle.df_model.specs.Faults.{is_read_fault}
 use Rattle.df_opening.specs.Below.{State}

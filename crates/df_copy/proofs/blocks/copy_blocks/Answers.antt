@@ -1,5 +1,5 @@
 -- One address after the other.
-use Rattle.std.proofs.Common.{◌≡◌, ◌∙◌, ℕ, ◌+◌, ◌<◌, ◌≤◌, true, false, List, length, Option, None, Some, Result, Ok, Err, refl, sym, ap, subst, arith}
+use Rattle.std.proofs.Common.{◌≡◌, ◌∙◌, ℕ, ◌+◌, true, Option, None, Some, Result, Ok, Err, refl, sym, ap, subst, arith}
 use Rattle.std.proofs.lemmas.Bool.{false≢true}
 use Rattle.df_disk.specs.Told.{Told}
 use Rattle.df_layout.specs.declared.layout.Layout.{Layout}
@@ -45,7 +45,7 @@ copy_at-requires-clause-room g c = λ known.
     ap (λ (k : ℕ). sum_at (k + 1) s.blocks.live) (sym c.from.ensures) ∙ ap (λ (q : State). sum_at (c.from.result + 1) q.blocks.live) (sym i.leaves.kept) ∙ one.1 in
     let has =
     blocking_room c.args.target.now.layout s c.requires.begun.0 (g.A.Disk.told c.args.from.now) (g.B.Disk.told c.args.to.now) c.loop-before.target (g.B.Disk.told c.loop-before.to) b (omega (arith, blocks)) (i.blocking c.requires.begun.0 c.requires.begun.1) one.0
-      found c.requires.room in
+    found c.requires.room in
     let same = ap (λ (l : Layout). l.blocks) i.layout in
     omega (arith, has, same)
 

@@ -1,8 +1,5 @@
 -- A test that reads nothing refuses the source, or the others decide.
-use Rattle.std.proofs.Common.{[], Option, refl}
-use Rattle.df_disk.specs.Told.{Told}
-use Rattle.df_layout.specs.declared.layout.Layout.{Layout}
-use Rattle.df_opening.specs.Below.{State}
+use Rattle.std.proofs.Common.{[], refl}
 use Rattle.df_copy.proofs.Joining.{into_planned, into_refused}
 use Rattle.df_copy.proofs.Planning.{passes_tests, rest_blames}
 use Rattle.df_copy.proofs.copying.copy_into.Goals as goal

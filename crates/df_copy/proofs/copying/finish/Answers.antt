@@ -1,6 +1,6 @@
 -- The trailer, and then the superblock.
 use Rattle.std.proofs.Common.{◌≡◌, ◌++◌, ◌∷◌, List, length, Option, Result, Ok, Err, subst}
-use Rattle.df_base.specs.Log.{Event, Sync}
+use Rattle.df_base.specs.Log.{Sync}
 use Rattle.df_disk.specs.Told.{Told}
 use Rattle.df_disk.specs.Adds.{Adds}
 use Rattle.df_disk.proofs.Laws.{adds_then, part_then}

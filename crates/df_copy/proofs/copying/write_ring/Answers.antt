@@ -1,5 +1,5 @@
 -- The table that was cleared is the one of reserved headers.
-use Rattle.std.proofs.Common.{◌≡◌, ◌∙◌, ℕ, List, Option, subst}
+use Rattle.std.proofs.Common.{◌∙◌, List, subst}
 use Rattle.df_disk.specs.Adds.{Adds}
 use Rattle.df_format.specs.declared.header.Header.{Header}
 use Rattle.df_layout.specs.declared.layout.Layout.{Layout}

@@ -1,5 +1,5 @@
 -- The words name a layout, and no other one, or none.
-use Rattle.std.proofs.Common.{◌≡◌, ◌∙◌, List, ℕ, [], ◌∷◌, map, string_bytes, ap, subst, sym}
+use Rattle.std.proofs.Common.{map, string_bytes, subst}
 use Rattle.df_layout.specs.declared.layout.Layout.{Layout}
 use Rattle.df_telling.specs.Two.{around}
 use Rattle.df_copy.specs.Run.{Runs}

@@ -19,7 +19,7 @@ returns-in-Ok-reserve-clause-runs g c = λ t told whole.
     subst (λ (o : Option Told). (u : Told) → o ≡ Some u → IsImage u.shown → Does c.args.layout.now own u (around o to written) new c.copy_reserved.result) c.probe.ensures.same
     (subst (λ (l : Layout). (u : Told) → g.A.Disk.told c.probe.new.disk ≡ Some u → IsImage u.shown → Does l own u (around (g.A.Disk.told c.probe.new.disk) to written) new c.copy_reserved.result) reserved.target
     (subst (λ (l : Layout). (u : Told) → g.A.Disk.told c.probe.new.disk ≡ Some u → IsImage u.shown → Does c.in-Ok-reserve.reserved.target.layout l u (around (g.A.Disk.told c.probe.new.disk) to written) new c.copy_reserved.result) reserved.source
-      c.copy_reserved.ensures.does)) in
+    c.copy_reserved.ensures.does)) in
     inr (inr (record {
       own = own;
       shown = subst (λ (o : Option Told). TellsLayout o (Ok own)) told (c.in-Ok-probe.ensures {u = tt}).answer;

@@ -1,5 +1,5 @@
 -- The source is opened and copied, or it isn't.
-use Rattle.std.proofs.Common.{◌≡◌, ℕ, inr, Option, Some, refl, subst, sym}
+use Rattle.std.proofs.Common.{ℕ, inr, Option, refl, subst, sym}
 use Rattle.df_disk.specs.Told.{Told}
 use Rattle.df_opening.specs.Below.{State}
 use Rattle.df_telling.specs.Two.{HasCauses, around, counts}
@@ -13,13 +13,13 @@ use Rattle.df_copy.proofs.engine.copy_reserved.Goals as goal
 pub returns-in-Ok-clause-does : goal.returns-in-Ok-clause-does
 returns-in-Ok-clause-does g c = λ t told whole.
     inr (inr (subst (λ (o : Option Told). CopiesFile c.args.reserved.target.layout t (around o (g.B.Disk.told c.args.to.now) (g.W.Sink.written c.args.sink.now))
-      (around (g.A.Disk.told c.copy_opened.new.from) (g.B.Disk.told c.copy_opened.new.to) (g.W.Sink.written c.copy_opened.new.sink)) c.copy_opened.result) (sym told)
-      (c.copy_opened.ensures.copies t whole ((c.in-Ok.ensures {u = tt}).opened t told))))
+    (around (g.A.Disk.told c.copy_opened.new.from) (g.B.Disk.told c.copy_opened.new.to) (g.W.Sink.written c.copy_opened.new.sink)) c.copy_opened.result) (sym told)
+    (c.copy_opened.ensures.copies t whole ((c.in-Ok.ensures {u = tt}).opened t told))))
 
 pub returns-in-Ok-clause-causes : goal.returns-in-Ok-clause-causes
 returns-in-Ok-clause-causes g c =
     subst (λ (n : ℕ). HasCauses ends.DiskFault ends.WriteFault (counts n (g.B.Disk.faults c.args.to.now) (g.W.Sink.faults c.args.sink.now))
-      (counts (g.A.Disk.faults c.copy_opened.new.from) (g.B.Disk.faults c.copy_opened.new.to) (g.W.Sink.faults c.copy_opened.new.sink)) c.copy_opened.result) (c.in-Ok.ensures {u = tt}).cause c.copy_opened.ensures.causes
+    (counts (g.A.Disk.faults c.copy_opened.new.from) (g.B.Disk.faults c.copy_opened.new.to) (g.W.Sink.faults c.copy_opened.new.sink)) c.copy_opened.result) (c.in-Ok.ensures {u = tt}).cause c.copy_opened.ensures.causes
 
 -- ---- it isn't
 

@@ -45,7 +45,7 @@ returns-in-Err-clause-copies g c = λ apart.
     replying_ends layout s from (g.B.Disk.told c.args.to.now) t.checks (g.B.Disk.told c.loop-place.to) n (inside n c.summary-place-end.result.sessions s c.loop-place-test.true sessions) (i.replying apart)
     (Unit {0}) c.copy_reply.new.target.checks c.copy_reply.new.target.checks (g.B.Disk.told c.copy_reply.new.to) c.in-Err.ending
     (at_entry {T = Unit {0}} n t.checks c.copy_reply.new.target.checks (g.B.Disk.told c.loop-place.to) (g.B.Disk.told c.copy_reply.new.to) (Err c.in-Err.ending) layout t.layout s c.loop-place.replica from (g.A.Disk.told c.loop-place.from) i.grid.layout_is i.leaves.kept i.leaves.same
-      c.in-Err.ensures.copies apart)
+    c.in-Err.ensures.copies apart)
 
 pub loop-place-preserved : goal.loop-place-preserved
 loop-place-preserved g c =
@@ -71,7 +71,7 @@ loop-place-preserved g c =
       replying = λ apart.
           let one =
           at_entry n t.checks c.copy_reply.new.target.checks (g.B.Disk.told c.loop-place.to) (g.B.Disk.told c.copy_reply.new.to) (Ok c.in-Ok.field-0) layout t.layout s c.loop-place.replica from (g.A.Disk.told c.loop-place.from) i.grid.layout_is i.leaves.kept i.leaves.same
-            c.in-Ok.ensures.copies apart in
+          c.in-Ok.ensures.copies apart in
           replying_more layout s from (g.B.Disk.told c.args.to.now) t.checks (g.B.Disk.told c.loop-place.to) n less (i.replying apart) c.copy_reply.new.target.checks (g.B.Disk.told c.copy_reply.new.to) few one.0 one.1 one.2 one.3;
     }
 

@@ -1,5 +1,5 @@
 -- The replies of the places before this one are written.
-use Rattle.std.proofs.Common.{◌≡◌, length, Ok}
+use Rattle.std.proofs.Common.{length, Ok}
 use Rattle.df_sessions.specs.Table.{AreApart}
 use Rattle.df_copy.specs.Acts.{Leaves, beside}
 use Rattle.df_copy.specs.Targets.{KeepsGrid}

@@ -1,10 +1,9 @@
 -- The reply of the session is lent, or it isn't.
-use Rattle.std.proofs.Common.{◌≡◌, ◌∙◌, ℕ, Option, None, Err, Result, Some, ap, subst, sym}
+use Rattle.std.proofs.Common.{◌∙◌, ℕ, Option, Err, Result, ap, subst, sym}
 use Rattle.df_base.specs.Causes.{Blamed}
 use Rattle.df_disk.specs.Told.{Told}
 use Rattle.df_model.specs.Faults.{is_lookup_fault}
 use Rattle.df_model.specs.Memory.{reply_sum}
-use Rattle.df_model.specs.Refusals.{first_refusal, lookup_refusals}
 use Rattle.df_opening.specs.Below.{State, memory}
 use Rattle.df_replica.specs.Lookups.{place_for}
 use Rattle.df_replica.specs.Stopping.{left_by}

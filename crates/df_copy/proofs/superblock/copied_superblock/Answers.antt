@@ -4,7 +4,6 @@ use Rattle.df_format.specs.Message.{Message}
 use Rattle.df_format.specs.SuperRules.{fault_of}
 use Rattle.df_format.specs.declared.superblock.SuperFields.{SuperFields}
 use Rattle.df_format.proofs.Laws.{faults}
-
 use Rattle.df_copy.specs.Targets.{fields_in, superblock_of}
 use Rattle.df_copy.specs.Trailers.{with_trailer}
 use Rattle.df_copy.proofs.Naming.{named_super}

@@ -1,5 +1,5 @@
 -- Each turn writes the next piece of the text.
-use Rattle.std.proofs.Common.{◌≡◌, ◌∙◌, ◌-◌, ◌≤◌, ℕ, List, length, ap, arith, subst, sym}
+use Rattle.std.proofs.Common.{◌∙◌, ◌-◌, ◌≤◌, ℕ, List, length, ap, arith, subst, sym}
 use Rattle.df_layout.specs.declared.layout.Layout.{Layout}
 use Rattle.df_base.specs.Log.{Event}
 use Rattle.df_disk.specs.Adds.{AddsPart, after_all}

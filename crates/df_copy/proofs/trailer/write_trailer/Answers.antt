@@ -1,5 +1,5 @@
 -- The trailer is begun behind the blocks, and its pieces are written.
-use Rattle.std.proofs.Common.{◌≡◌, ◌∙◌, ◌<◌, ◌≤◌, ℕ, List, length, take, ap, arith, refl, subst, sym}
+use Rattle.std.proofs.Common.{◌≡◌, ◌∙◌, List, length, take, ap, arith, refl, subst}
 use Rattle.df_base.specs.Log.{Event}
 use Rattle.df_disk.specs.Adds.{AddsPart, after_all}
 use Rattle.df_format.specs.declared.superblock.SuperFields.{SuperFields}
