@@ -1,0 +1,66 @@
+-- What a list of mends leaves true of the first file, whatever it is and wherever a stop falls.
+use Rattle.std.specs.Prelude.{◌≡◌, ◌⊎◌, ◌<◌, ◌++◌, ℕ, true, List}
+use Rattle.df_base.specs.Image.{Image, IsImage}
+use Rattle.df_base.specs.Log.{IsLeft, Log, Sync, now}
+use Rattle.df_base.specs.Moments.{EachMoment}
+use Rattle.df_disk.specs.Told.{IsHonest, Told, did}
+use Rattle.df_format.specs.declared.kind.Kind.{Kind}
+use Rattle.df_theory.specs.Copies.{IsChosen}
+use Rattle.df_theory.specs.Found.{IsFound}
+use Rattle.df_theory.specs.Units.{Content, Place}
+use Rattle.df_theory.specs.View.{View}
+use Rattle.df_units.specs.Bytes.{has}
+use Rattle.df_damage.specs.Anew.{IsStill, told_after}
+use Rattle.df_damage.specs.Disks.{IsAtRest}
+use Rattle.df_damage.specs.Histories.{MayReopen}
+use Rattle.df_damage.specs.Hurt.{IsUnhurt}
+use Rattle.df_damage.specs.Unrefused.{IsNotRefused}
+use Rattle.df_damage.specs.Versions.{IsUnspent}
+use Rattle.df_opening.specs.Below.{DataFile, shape}
+use Rattle.df_mirror.specs.Known.{AllShown, IsKnown, IsShownAs}
+use Rattle.df_mirror.specs.Mends.{AreMends, Mend, events_of, units_in}
+
+-- mends of what mends left go on with them
+abbrev pub MendsGoOn : Type 0
+MendsGoOn =
+    (file : DataFile) (c : Content) (second : Image) (t : Told) (ms later : List Mend) → AreMends file c second t ms → AreMends file c second (told_after (events_of file ms) t) later
+    → AreMends file c second t (ms ++ later)
+
+-- each known unit that an image shows is shown by the other one
+abbrev pub KeepsShown : DataFile → Content → (image other : Image) → Type 0
+KeepsShown file c image other =
+    (kind : Kind) (place : Place) (sum : ℕ) → IsKnown (shape file) (units_in file image) c kind place sum → IsShownAs (units_in file image) kind place sum → IsShownAs (units_in file other) kind place sum
+
+-- each image that a stop may leave at this moment shows them
+abbrev pub LeavesShown : DataFile → Content → Image → Log → Type 0
+LeavesShown file c image log = (left : Image) → IsLeft log left → KeepsShown file c image left
+
+-- At every moment each known unit that was shown is still shown, in what the disk shows and in whatever a stop leaves: those that are known and shown behind some of the mends are shown through all that come later. The log is any over which the disk is
+-- honest and of which nothing is loose, as the one that is begun anew behind the barrier.
+abbrev pub KnownStays : Type 0
+KnownStays =
+    (file : DataFile) (c : Content) (second : Image) (t u : Told) (ms later : List Mend) → IsHonest t → IsStill t.log → IsImage t.shown → AreMends file c second t (ms ++ later) → u ≡ told_after (events_of file ms) t
+    → EachMoment u.log (told_after (events_of file later) u).log (LeavesShown file c u.shown)
+
+-- ---- what an open finds then
+
+-- the sector is one of a place at which a unit is known
+pub record IsOfKnown (file : DataFile) (c : Content) (image : Image) (sector : ℕ) : Type 0 where
+  pub kind : Kind
+  pub place : Place
+  pub sum : ℕ
+  pub known : IsKnown (shape file) (units_in file image) c kind place sum
+  pub has_it : has file.layout place sector ≡ true
+
+-- whatever is hurt is a sector of the superblock, or of a unit that is known of what the log leaves
+abbrev pub IsHurtKnown : DataFile → Content → Told → Type 0
+IsHurtKnown file c t = (sector : ℕ) → IsUnhurt t sector ⊎ ((sector < 4) ⊎ IsOfKnown file c (now t.log) sector)
+
+-- The file was at rest over a lived history, with hurt in the sectors of known units and of at most two superblock copies alone, and no unit of what it shows at the end came about by chance. Then the next open, with rooms of the file's layout, finds the view
+-- that the log left, and isn't refused.
+abbrev pub MirroredIsOpened : Type 0
+MirroredIsOpened =
+    (file : DataFile) (view : View) (c : Content) (second : Image) (t n : Told) (logs : List Log) (ms : List Mend)
+    → IsAtRest file t.log → IsFound (shape file) (units_in file (now t.log)) view → IsUnspent 2 view → IsHurtKnown file view.checkpoint.content t → MayReopen file t.log logs n.shown
+    → IsImage t.shown → IsChosen (units_in file t.shown) c → AreMends file c second (did Sync t) ms → n ≡ told_after (events_of file ms) (did Sync t) → AllShown (shape file) (units_in file n.shown) c
+    → IsFound (shape file) (units_in file n.shown) view × IsNotRefused file n.shown
