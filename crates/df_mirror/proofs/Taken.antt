@@ -6,6 +6,7 @@ use Rattle.std.specs.Prelude.{Result, Ok, Err, IfOk}
 use Rattle.df_base.specs.Image.{IsImage}
 use Rattle.df_base.specs.Log.{Sync, Write}
 use Rattle.df_base.specs.Streams.{Appends, AppendsPart}
+use Rattle.df_base.proofs.Laws.{appends_none}
 use Rattle.df_disk.specs.Adds.{AddsPart, after_all}
 use Rattle.df_disk.specs.Told.{Told, did}
 use Rattle.df_disk.proofs.Laws.{all_is_part}
@@ -30,27 +31,12 @@ use Rattle.df_opening.specs.Below.{DataFile, shape}
 use Rattle.df_mirror.specs.declared.ending.Ending.{Ending}
 use Rattle.df_mirror.specs.declared.ending.Ending.TheVariants.{First, Neither, Second, Sink, Unopened}
 use Rattle.df_mirror.specs.Known.{IsDue, IsKnown, IsShownAs}
-use Rattle.df_mirror.specs.Mends.{Answers, AreOfKind, Came, Failed, IsMend, IsNeither, Mend, units_in}
+use Rattle.df_mirror.specs.Mends.{Answers, AreAt, Came, Failed, IsMend, IsNeither, Mend, units_in}
 use Rattle.df_mirror.specs.Outside.{Outside}
 use Rattle.df_mirror.specs.Taking.{IsFor, IsSame, LacksIt, PutsUnit, ShowsIt, ShowsUnit, Takes, TakesUnit, WritesUnit, count_in}
 use Rattle.df_mirror.specs.Texts.{mended_text}
+use Rattle.df_mirror.proofs.Joined.{none_came, none_failed}
 use Rattle.df_mirror.proofs.Loaded.{IsUnitOf, class_is, found_unit, lacks_unit, shows_unit}
-
--- ---- nothing
-
-appends_none : (old text : Option (List ℕ)) → text ≡ old → Appends old text []
-appends_none None text same = subst (λ (o : Option (List ℕ)). Appends None o []) (sym same) tt
-appends_none (Some xs) text same = subst (λ (o : Option (List ℕ)). Appends (Some xs) o []) (sym same) (sym (append-nil xs))
-
-appends_front : (old text : Option (List ℕ)) (piece : List ℕ) → text ≡ old → AppendsPart old text piece
-appends_front old text piece same = (0, omega arith, appends_none old text same)
-
-module _ (file : DataFile) (c : Content) (kind : Kind) (t o : Told) (new : Option Told) (old text : Option (List ℕ)) (same : new ≡ Some t) (silent : text ≡ old) where
-  pub none_mended : (Last : List Mend → Told → Type 0) → Last [] t → Came file c (AreOfKind kind) t o new old text Last
-  none_mended Last last = record { mends = []; after = t; after_is = same; are_of = tt; does = record { are = tt; told = refl; printed = appends_none old text silent }; last = last }
-
-  pub none_failed : Failed file c (AreOfKind kind) t o new old text
-  none_failed = record { mends = []; are_of = tt; does = record { are = tt; told = same; printed = appends_front old text [] silent } }
 
 -- ---- one
 
@@ -113,7 +99,7 @@ module _ (file : DataFile) (kind : Kind) (at : Place) (check : List ℕ) (identi
           puts = put;
         }
 
-    pub one_mended : (new : Option Told) (old text : Option (List ℕ)) → WritesUnit identity.layout identity.place held (Some t) new old text {T = Unit {0}} (Ok tt) → Came file c (AreOfKind kind) t o new old text (λ ms n. 1 ≡ length ms)
+    pub one_mended : (new : Option Told) (old text : Option (List ℕ)) → WritesUnit identity.layout identity.place held (Some t) new old text {T = Unit {0}} (Ok tt) → Came file c (AreAt kind at) t o new old text (λ ms n. 1 ≡ length ms)
     unfolding the_mend
     one_mended new old text writes =
         let own = own_place {T = Unit {0}} (Ok tt) (Some t) new old text writes in
@@ -121,24 +107,24 @@ module _ (file : DataFile) (kind : Kind) (at : Place) (check : List ℕ) (identi
           mends = the_mend ∷ [];
           after = _;
           after_is = own.0;
-          are_of = (refl, tt);
+          are_of = (refl, refl, tt);
           does = record { are = (is_mend, tt); told = refl; printed = subst (λ (p : List ℕ). Appends old text p) (sym (append-nil (mended_text (place_of at)))) own.1 };
           last = refl;
         }
 
-    pub one_unwritten : (new : Option Told) (old text : Option (List ℕ)) → WritesUnit identity.layout identity.place held (Some t) new old text {T = Unit {0}} (Err First) → Failed file c (AreOfKind kind) t o new old text
+    pub one_unwritten : (new : Option Told) (old text : Option (List ℕ)) → WritesUnit identity.layout identity.place held (Some t) new old text {T = Unit {0}} (Err First) → Failed file c (AreAt kind at) t o new old text
     unfolding the_mend
     one_unwritten new old text writes =
         let own = own_place {T = Unit {0}} (Err First) (Some t) new old text writes in
-        record { mends = the_mend ∷ []; are_of = (refl, tt); does = record { are = (is_mend, tt); told = own.0; printed = appends_front old text _ own.1 } }
+        record { mends = the_mend ∷ []; are_of = (refl, refl, tt); does = record { are = (is_mend, tt); told = own.0; printed = (0, omega arith, subst (λ (x : Option (List ℕ)). Appends old x []) (sym own.1) (appends_none old)) } }
 
-    pub one_unprinted : (new : Option Told) (old text : Option (List ℕ)) → WritesUnit identity.layout identity.place held (Some t) new old text {T = Unit {0}} (Err Sink) → Failed file c (AreOfKind kind) t o new old text
+    pub one_unprinted : (new : Option Told) (old text : Option (List ℕ)) → WritesUnit identity.layout identity.place held (Some t) new old text {T = Unit {0}} (Err Sink) → Failed file c (AreAt kind at) t o new old text
     unfolding the_mend
     one_unprinted new old text writes =
         let own = own_place {T = Unit {0}} (Err Sink) (Some t) new old text writes in
         record {
           mends = the_mend ∷ [];
-          are_of = (refl, tt);
+          are_of = (refl, refl, tt);
           does = record { are = (is_mend, tt); told = all_is_part (unit_events file.layout (place_of at) held) (Some t) new own.0; printed = subst (λ (p : List ℕ). AppendsPart old text p) (sym (append-nil (mended_text (place_of at)))) own.1 };
         }
 
@@ -167,14 +153,14 @@ module _ (file : DataFile) (c : Content) (kind : Kind) (at : Place) (check : Lis
   }
 
   pub taken : (class : Class) (old : Option (List ℕ)) (new : Outside) (result : Result Holding Ending) → IsImage o.shown → LacksIt kind identity (Some t) class → TakesUnit kind identity class (From old) new result
-      → Answers file c (AreOfKind kind) t o new.first old new.written (one_in result)
+      → Answers file c (AreAt kind at) t o new.first old new.written (one_in result)
   taken class old new (Ok held) whole first takes = one_mended file kind at check identity for held takes.found takes.puts c t o takes.shown due lacks new.first old new.written takes.writes
   taken class old new (Err First) whole first takes = let h = takes.0 in let by = takes.1 in one_unwritten file kind at check identity for h by.found by.puts c t o by.shown due lacks new.first old new.written by.writes
   taken class old new (Err Sink) whole first takes = let h = takes.0 in let by = takes.1 in one_unprinted file kind at check identity for h by.found by.puts c t o by.shown due lacks new.first old new.written by.writes
-  taken class old new (Err Second) whole first takes = none_failed file c kind t o new.first old new.written takes.0 takes.1
+  taken class old new (Err Second) whole first takes = none_failed file c (AreAt kind at) tt t o new.first old new.written takes.0 takes.1
   taken class old new (Err (Unopened e)) whole first takes = absurd takes
   taken class old new (Err (Neither place other)) whole first takes =
-      none_mended file c kind t o new.first old new.written takes.2.0 takes.2.1 (λ ms n. IsNeither file c n.shown o.shown place other)
+      none_came file c (AreAt kind at) tt t o new.first old new.written takes.2.0 takes.2.1 (λ ms n. IsNeither file c n.shown o.shown place other)
       (neither other takes.3.0 place whole takes.0 (subst (λ (k : Class). LacksIt kind identity (Some t) k) (sym takes.1) first) takes.3.1)
 
 -- the outside as it is told

@@ -7,3 +7,5 @@ pub mod Mends
 pub mod Taking
 pub mod Laws
 pub mod Run
+pub mod Walks
+pub mod Trailers

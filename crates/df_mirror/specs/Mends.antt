@@ -70,6 +70,11 @@ abbrev pub AreOfKind : Kind → List Mend → Type 0
 AreOfKind kind [] = Unit {0}
 AreOfKind kind (m ∷ ms) = (m.kind ≡ kind) × AreOfKind kind ms
 
+-- each is of this kind, and at this place
+abbrev pub AreAt : Kind → Place → List Mend → Type 0
+AreAt kind place [] = Unit {0}
+AreAt kind place (m ∷ ms) = (m.kind ≡ kind) × (m.place ≡ place) × AreAt kind place ms
+
 -- the kinds in the order in which they are mended
 abbrev pub rank_of : Kind → ℕ
 rank_of Reserved = 0
@@ -81,6 +86,10 @@ rank_of Reply = 4
 abbrev pub AreFrom : ℕ → List Mend → Type 0
 AreFrom rank [] = Unit {0}
 AreFrom rank (m ∷ ms) = (rank ≤ rank_of m.kind) × AreFrom (rank_of m.kind) ms
+
+-- prepares come first, and then replies
+abbrev pub AreLate : List Mend → Type 0
+AreLate ms = AreFrom 3 ms
 
 -- blocks of the trailer come first, then those that it references, then prepares, and then replies
 abbrev pub AreInOrder : List Mend → Type 0

@@ -1,5 +1,5 @@
 -- How a run ends: the numbers of the statuses, and what each ending blames.
-use Rattle.std.specs.Prelude.{ℕ, Bool, true, false}
+use Rattle.std.specs.Prelude.{◌≡◌, ℕ, Bool, true, false}
 use Rattle.df_mirror.specs.declared.ending.Ending.{Ending}
 use Rattle.df_mirror.specs.declared.ending.Ending.TheVariants.{First, Neither, Second, Sink, Unopened}
 use Rattle.df_mirror.specs.declared.status.Status.{Status}
@@ -29,3 +29,7 @@ is_second e = false
 abbrev pub is_sink : Ending → Bool
 is_sink Sink = true
 is_sink e = false
+
+-- neither the second file's disk nor the sink is blamed
+abbrev pub IsOfFirst : Ending → Type 0
+IsOfFirst e = (is_second e ≡ false) × (is_sink e ≡ false)

@@ -24,8 +24,8 @@ use Rattle.df_units.specs.Meaning.{number_of, place_of, unit_of}
 use Rattle.df_units.specs.Wanted.{IsOfKind, checksum_of}
 use Rattle.df_opening.specs.Below.{DataFile, shape}
 use Rattle.df_mirror.specs.Known.{IsDue}
-use Rattle.df_mirror.specs.Mends.{Answers, AreOfKind, units_in}
-use Rattle.df_mirror.specs.Outside.{Outside}
+use Rattle.df_mirror.specs.Mends.{Answers, AreAt, units_in}
+use Rattle.df_mirror.specs.Outside.{Outside, Tell}
 use Rattle.df_mirror.specs.Texts.{mended_text}
 use Rattle.df_mirror.specs.declared.ending.Ending.{Ending}
 use Rattle.df_mirror.specs.declared.ending.Ending.TheVariants.{First, Neither, Second, Sink, Unopened}
@@ -95,8 +95,8 @@ count_in (Err e) = Err e
 -- where it is due and both files tell what they show, it is mended as one of its kind
 abbrev pub MendsUnit : Kind → Identity → Outside → Outside → Result ℕ Ending → Type 0
 MendsUnit kind identity old new result =
-    (file : DataFile) (c : Content) (at : Place) (check : List ℕ) (t o : Told) → IsFor file kind at check identity → old.first ≡ Some t → old.second ≡ Some o → IsImage t.shown → IsImage o.shown
-    → IsDue (shape file) (units_in file t.shown) c kind at (number_of check) → Answers file c (AreOfKind kind) t o new.first old.written new.written result
+    (file : DataFile) (c : Content) (at : Place) (check : List ℕ) (t o : Told) → IsFor file kind at check identity → Tell t o old → IsDue (shape file) (units_in file t.shown) c kind at (number_of check)
+    → Answers file c (AreAt kind at) t o new.first old.written new.written result
 
 -- the image shows this unit at the place, which is the one that is wanted
 pub record ShowsUnit (file : DataFile) (kind : Kind) (at : Place) (check : List ℕ) (image : Image) (u : Message) : Type 0 where

@@ -1,21 +1,30 @@
 // The program: it has no words, and takes its memory once the first file's layout is known.
-ghost use Rattle.std.specs.Prelude.{◌≡◌};
+ghost use Rattle.std.specs.Prelude.{◌≡◌, ◌⊎◌, ◌≢◌, [], map, string_bytes, Err, IfOk};
+ghost use Rattle.df_base.specs.Log.{Sync};
+ghost use Rattle.df_disk.specs.Told.{Told, after};
+ghost use Rattle.df_mirror.specs.Outside.{Blames, HasCauses, PrintsError, Tell, Writes, around, counts};
+ghost use Rattle.df_mirror.specs.Run.{IsUndone, Mirrored, Runs, Tells};
+ghost use Rattle.df_mirror.specs.Texts.{usage};
 
 use crate::ending::Ending;
 use crate::mending::{Reserved, mend_all};
 use crate::status::Status;
 use crate::superblock::Superblock;
-use crate::telling::{print_usage, refuse_file, tell_count, tell_neither};
+use crate::telling::{USAGE, tell_count, tell_neither};
 use df_base::{OutOfMemory, Sink};
 use df_buffers::{ProbeRoom, Raw};
 use df_disk::Disk;
 use df_format::Super;
 use df_layout::Layout;
-use df_opening::{DataFile, Rooms, survey_superblock};
+use df_opening::{DataFile, OpenError, Rooms, survey_superblock};
+use df_telling::{end_with, refuse_file};
 use std::alloc::Global;
 
-// The file of a superblock.
-fn superblock_of(content: Super) -> Superblock {
+// The file of a superblock of version 2.
+fn superblock_of(content: Super) -> Superblock
+    requires { content.version ≡ 2 }
+    ensures { result.content ≡ content }
+{
     let layout = content.layout();
     let fields = content.fields();
     Superblock {
@@ -29,7 +38,11 @@ fn superblock_of(content: Super) -> Superblock {
 }
 
 // Takes all the memory of a mending over a layout.
-fn reserve(alloc: Global, layout: &Layout) -> Result<Reserved, OutOfMemory> {
+fn reserve(alloc: Global, layout: &Layout) -> Result<Reserved, OutOfMemory>
+    ensures rooms { IfOk result (λ reserved. reserved.rooms.layout ≡ layout.now) }
+    ensures trailer { IfOk result (λ reserved. reserved.trailer.layout ≡ layout.now) }
+    ensures block { IfOk result (λ reserved. reserved.block.layout ≡ layout.now) }
+{
     let rooms = Rooms::reserve(alloc, layout)?;
     let trailer = Raw::reserve(alloc, layout)?;
     let block = Raw::reserve(alloc, layout)?;
@@ -40,12 +53,30 @@ fn reserve(alloc: Global, layout: &Layout) -> Result<Reserved, OutOfMemory> {
     })
 }
 
+// Says why the first file isn't mended.
+fn refuse<W: Sink>(sink: &mut W, error: &OpenError) -> Status
+    ensures prints { PrintsError Status.Refused Status.DiskFault Status.WriteFault error.now (W.written sink.old) (W.written sink.new) result }
+    ensures sink { Blames Status.WriteFault (W.faults sink.old) (W.faults sink.new) result }
+{
+    refuse_file(
+        sink,
+        error,
+        Status::Refused,
+        Status::DiskFault,
+        Status::WriteFault,
+    )
+}
+
 // Says how a mending ended.
-fn tell<W: Sink>(sink: &mut W, mended: Result<u64, Ending>) -> Status {
+fn tell<W: Sink>(sink: &mut W, mended: Result<u64, Ending>) -> Status
+    ensures tells { Tells mended (W.written sink.old) (W.written sink.new) result }
+    ensures sink { (mended ≡ Err Ending.Sink → ⊥) → Blames Status.WriteFault (W.faults sink.old) (W.faults sink.new) result }
+    ensures failed { mended ≡ Err Ending.Sink → W.faults sink.new ≡ W.faults sink.old }
+{
     match mended {
         Ok(count) => tell_count(sink, count),
         Err(Ending::Neither { place, class }) => tell_neither(sink, place, class),
-        Err(Ending::Unopened { error }) => refuse_file(sink, &error),
+        Err(Ending::Unopened { error }) => refuse(sink, &error),
         Err(Ending::First | Ending::Second) => Status::DiskFault,
         Err(Ending::Sink) => Status::WriteFault,
     }
@@ -58,7 +89,14 @@ fn mend_file<A: Disk, B: Disk, W: Sink>(
     second: &mut B,
     sink: &mut W,
     base: &Superblock,
-) -> Status {
+) -> Status
+    ensures mirrors { (t o : Told) → Tell t o (around (A.told first.old) (B.told second.old) (W.written sink.old)) → result ≢ Status.Memory
+        → Mirrored base.now t o (around (A.told first.old) (B.told second.old) (W.written sink.old)) (around (A.told first.new) (B.told second.new) (W.written sink.new)) result }
+    ensures causes { HasCauses Status.DiskFault Status.WriteFault (counts (A.faults first.old) (B.faults second.old) (W.faults sink.old)) (counts (A.faults first.new) (B.faults second.new) (W.faults sink.new)) result }
+    ensures memory { result ≡ Status.Memory → (A.told first.new ≡ A.told first.old) × (W.written sink.new ≡ W.written sink.old) }
+    ensures words { result ≡ Status.Words → ⊥ }
+    ensures same { B.told second.new ≡ B.told second.old }
+{
     match reserve(alloc, &base.file.layout) {
         Ok(reserved) => {
             let mended = mend_all(first, second, sink, base, reserved);
@@ -74,13 +112,19 @@ fn mend_first<A: Disk, B: Disk, W: Sink>(
     first: &mut A,
     second: &mut B,
     sink: &mut W,
-) -> Status {
+) -> Status
+    ensures runs { Runs (around (A.told first.old) (B.told second.old) (W.written sink.old)) (around (A.told first.new) (B.told second.new) (W.written sink.new)) result }
+    ensures causes { HasCauses Status.DiskFault Status.WriteFault (counts (A.faults first.old) (B.faults second.old) (W.faults sink.old)) (counts (A.faults first.new) (B.faults second.new) (W.faults sink.new)) result }
+    ensures memory { result ≡ Status.Memory → IsUndone (around (A.told first.old) (B.told second.old) (W.written sink.old)) (around (A.told first.new) (B.told second.new) (W.written sink.new)) }
+    ensures words { result ≡ Status.Words → ⊥ }
+    ensures same { B.told second.new ≡ B.told second.old }
+{
     let Ok(mut room) = ProbeRoom::reserve(alloc) else {
         return Status::Memory;
     };
     match survey_superblock(first, &mut room, 2) {
         Ok(found) => mend_file(alloc, first, second, sink, &superblock_of(found.content)),
-        Err(error) => refuse_file(sink, &error),
+        Err(error) => refuse(sink, &error),
     }
 }
 
@@ -93,9 +137,23 @@ pub fn mirror<A: Disk, B: Disk, W: Sink>(
     first: &mut A,
     second: &mut B,
     sink: &mut W,
-) -> Status {
+) -> Status
+    // Any words print the usage line, and touch neither file.
+    ensures usage { (map string_bytes words.now ≡ [] → ⊥) → Writes Status.WriteFault usage Status.Words (W.written sink.old) (W.written sink.new) result }
+    ensures untouched { (map string_bytes words.now ≡ [] → ⊥) → A.told first.new ≡ A.told first.old }
+    ensures words { result ≡ Status.Words → map string_bytes words.now ≡ [] → ⊥ }
+
+    // The first file is synced, and refused as an open refuses its superblock or its trailer. What is mended is known and wasn't shown just before, each by one write and a sync, in order, and it is the unit of that checksum, which the second file shows; where the run ends as
+    // Done or Found, all known units are shown, and it is Found exactly where one was mended. The second file is only read.
+    ensures runs { map string_bytes words.now ≡ [] → Runs (around (A.told first.old) (B.told second.old) (W.written sink.old)) (around (A.told first.new) (B.told second.new) (W.written sink.new)) result }
+    ensures second { B.told second.new ≡ B.told second.old }
+
+    // Each fault has its cause; want of memory comes before anything was written.
+    ensures causes { HasCauses Status.DiskFault Status.WriteFault (counts (A.faults first.old) (B.faults second.old) (W.faults sink.old)) (counts (A.faults first.new) (B.faults second.new) (W.faults sink.new)) result }
+    ensures memory { result ≡ Status.Memory → IsUndone (around (A.told first.old) (B.told second.old) (W.written sink.old)) (around (A.told first.new) (B.told second.new) (W.written sink.new)) }
+{
     match words {
         [] => mend_first(alloc, first, second, sink),
-        _ => print_usage(sink),
+        _ => end_with(sink, USAGE, Status::Words, Status::WriteFault),
     }
 }

@@ -1,5 +1,14 @@
 // All known units, in their order: the trailer, what it references, the prepares, and the replies.
-ghost use Rattle.std.specs.Prelude.{◌≡◌};
+ghost use Rattle.std.specs.Prelude.{◌≡◌, ◌≤◌, ◌+◌, ◌^◌, List, Some, IfOk, OnOk};
+ghost use Rattle.df_base.specs.Causes.{IsBlamed};
+ghost use Rattle.df_disk.specs.Told.{Told};
+ghost use Rattle.df_opening.specs.Below.{shape};
+ghost use Rattle.df_sessions.specs.Requests.{sessions_of};
+ghost use Rattle.df_mirror.specs.Known.{AllShown, ShowsTrailer};
+ghost use Rattle.df_mirror.specs.Mends.{Answers, AreInOrder, AreLate};
+ghost use Rattle.df_mirror.specs.Outside.{Tell, around};
+ghost use Rattle.df_mirror.specs.Statuses.{is_first, is_second, is_sink};
+ghost use Rattle.df_mirror.specs.Walks.{ShowsLog, content_of, units_of};
 
 use crate::blocks::mend_blocks;
 use crate::chain::mend_chain;
@@ -25,7 +34,10 @@ pub(crate) struct Reserved {
 }
 
 // Where the scan of the ring of prepares begins.
-fn start_of(base: &Superblock) -> Start {
+fn start_of(base: &Superblock) -> Start
+    ensures op { result.op ≤ 2 ^ 62 }
+    ensures cluster { result.cluster ≡ base.now.file.cluster }
+{
     let fields = base.content.fields();
     Start {
         cluster: fields.cluster,
@@ -43,7 +55,19 @@ fn mend_log<A: Disk, B: Disk, W: Sink>(
     base: &Superblock,
     rooms: LogRooms,
     sessions: SessionTable,
-) -> Result<u64, Ending> {
+) -> Result<u64, Ending>
+    requires rooms { rooms.layout ≡ base.now.file.layout }
+    requires places { sessions.max ≡ base.now.file.layout.clients }
+    ensures mends { (t o : Told) → Tell t o (around (A.told first.old) (B.told second.old) (W.written sink.old)) → (says : ShowsTrailer (shape base.now.file) (units_of base.now t.shown) (content_of base.now)) → says.parts.sessions ≡ sessions_of sessions.sessions
+        → Answers base.now.file (content_of base.now) AreLate t o (A.told first.new) (W.written sink.old) (W.written sink.new) result }
+    ensures shown { (t o u : Told) → Tell t o (around (A.told first.old) (B.told second.old) (W.written sink.old)) → (says : ShowsTrailer (shape base.now.file) (units_of base.now t.shown) (content_of base.now)) → says.parts.sessions ≡ sessions_of sessions.sessions → A.told first.new ≡ Some u
+        → OnOk result (ShowsLog base.now (units_of base.now t.shown) (units_of base.now u.shown)) }
+    ensures few { IfOk result (λ mended. mended ≤ base.now.file.layout.slots + 64) }
+    ensures same { B.told second.new ≡ B.told second.old }
+    ensures first { IsBlamed is_first (A.faults first.old) (A.faults first.new) result }
+    ensures second { IsBlamed is_second (B.faults second.old) (B.faults second.new) result }
+    ensures sink { IsBlamed is_sink (W.faults sink.old) (W.faults sink.new) result }
+{
     let LogRooms {
         layout,
         superblock: _,
@@ -88,7 +112,17 @@ pub(crate) fn mend_all<A: Disk, B: Disk, W: Sink>(
     sink: &mut W,
     base: &Superblock,
     reserved: Reserved,
-) -> Result<u64, Ending> {
+) -> Result<u64, Ending>
+    requires rooms { reserved.rooms.layout ≡ base.now.file.layout }
+    requires trailer { reserved.trailer.layout ≡ base.now.file.layout }
+    requires block { reserved.block.layout ≡ base.now.file.layout }
+    ensures mends { (t o : Told) → Tell t o (around (A.told first.old) (B.told second.old) (W.written sink.old)) → Answers base.now.file (content_of base.now) AreInOrder t o (A.told first.new) (W.written sink.old) (W.written sink.new) result }
+    ensures shown { (t o u : Told) → Tell t o (around (A.told first.old) (B.told second.old) (W.written sink.old)) → A.told first.new ≡ Some u → OnOk result (AllShown (shape base.now.file) (units_of base.now u.shown) (content_of base.now)) }
+    ensures same { B.told second.new ≡ B.told second.old }
+    ensures first { IsBlamed is_first (A.faults first.old) (A.faults first.new) result }
+    ensures second { IsBlamed is_second (B.faults second.old) (B.faults second.new) result }
+    ensures sink { IsBlamed is_sink (W.faults sink.old) (W.faults sink.new) result }
+{
     let Reserved {
         rooms,
         trailer,
@@ -101,7 +135,7 @@ pub(crate) fn mend_all<A: Disk, B: Disk, W: Sink>(
     };
     let found = match read_trailer(first, base, grid, room) {
         Ok(found) => found,
-        Err(error) => return Err(Ending::Unopened { error }),
+        Err(ending) => return Err(ending),
     };
     let blocks = match mend_blocks(first, second, sink, base, &found.grid, block) {
         Ok(mended) => mended,

@@ -1,5 +1,18 @@
 // The replies that the superblock records, of the sessions at its head, in order of place.
-ghost use Rattle.std.specs.Prelude.{◌≡◌};
+ghost use Rattle.std.specs.Prelude.{◌≡◌, ◌<◌, ◌≤◌, length, Some, IfOk, IsFalse, IsTrue, OnOk};
+ghost use Rattle.df_base.specs.Causes.{IsBlamed};
+ghost use Rattle.df_disk.specs.Told.{Told};
+ghost use Rattle.df_buffers.specs.declared.identity.Wanted.TheVariants.{Checksum as WithChecksum};
+ghost use Rattle.df_format.specs.declared.kind.Kind.TheVariants.{Reply as AsReply};
+ghost use Rattle.df_format.specs.Spelling.{IsCheck};
+ghost use Rattle.df_opening.specs.Below.{shape};
+ghost use Rattle.df_theory.specs.Units.{ReplyPlace};
+ghost use Rattle.df_units.specs.Meaning.{place_of};
+ghost use Rattle.df_mirror.specs.Known.{AreShown};
+ghost use Rattle.df_mirror.specs.Mends.{Answers, AreOfKind};
+ghost use Rattle.df_mirror.specs.Outside.{Tell, around};
+ghost use Rattle.df_mirror.specs.Statuses.{is_first, is_second, is_sink};
+ghost use Rattle.df_mirror.specs.Walks.{HasHead, IsNewer, MendsRecorded, MendsReply, ShowsReplies, content_of, units_of};
 
 use crate::ending::Ending;
 use crate::sessions::has_later;
@@ -15,7 +28,10 @@ use df_places::scan_place;
 use df_sessions::SessionTable;
 
 // The reply in the slot of a session, by its checksum.
-fn reply_at(base: &Superblock, place: u64, checksum: Check) -> Identity {
+fn reply_at(base: &Superblock, place: u64, checksum: Check) -> Identity
+    ensures identity { result ≡ record { layout = base.now.file.layout; cluster = base.now.file.cluster; place = place_of (ReplyPlace place); wanted = WithChecksum checksum } }
+    ensures check { IsCheck checksum }
+{
     Identity {
         layout: base.file.layout,
         cluster: base.file.cluster,
@@ -28,7 +44,10 @@ fn reply_at(base: &Superblock, place: u64, checksum: Check) -> Identity {
 }
 
 // Whether what is seen in a slot is a reply of the superblock's boot above those that it records.
-fn is_newer(base: &Superblock, seen: &Result<Header, Class>) -> bool {
+fn is_newer(base: &Superblock, seen: &Result<Header, Class>) -> bool
+    ensures yes { IsTrue result → IsNewer base.now seen.now }
+    ensures no { IsFalse result → IsNewer base.now seen.now → ⊥ }
+{
     let fields = base.content.fields();
     match seen {
         Ok(header) => header.boot == fields.boot && fields.replies < header.op,
@@ -43,15 +62,26 @@ fn mend_recorded<A: Disk, B: Disk, W: Sink>(
     sink: &mut W,
     base: &Superblock,
     room: Raw<Reply>,
-    wanted: &Identity,
-) -> Result<(Raw<Reply>, u64), Ending> {
+    place: u64,
+    checksum: Check,
+) -> Result<(Raw<Reply>, u64), Ending>
+    requires place { place < base.now.file.layout.clients }
+    requires room { room.layout ≡ base.now.file.layout }
+    ensures mends { (t o : Told) → Tell t o (around (A.told first.old) (B.told second.old) (W.written sink.old)) → MendsRecorded base.now place checksum t o (around (A.told first.old) (B.told second.old) (W.written sink.old)) (around (A.told first.new) (B.told second.new) (W.written sink.new)) result }
+    ensures back { IfOk result (λ done. (done.0.layout ≡ base.now.file.layout) × (done.1 ≤ 1)) }
+    ensures same { B.told second.new ≡ B.told second.old }
+    ensures first { IsBlamed is_first (A.faults first.old) (A.faults first.new) result }
+    ensures second { IsBlamed is_second (B.faults second.old) (B.faults second.new) result }
+    ensures sink { IsBlamed is_sink (W.faults sink.old) (W.faults sink.new) result }
+{
+    let wanted = reply_at(base, place, checksum);
     let (room, seen) = scan_place(first, &base.file.layout, base.file.cluster, wanted.place, room);
     match seen {
         Ok(seen) => {
             if is_newer(base, &seen) {
                 return Ok((room, 0));
             }
-            match mend_unit(first, second, sink, room, wanted) {
+            match mend_unit(first, second, sink, room, &wanted) {
                 Ok((unit, more)) => Ok((unit.loosen(), more)),
                 Err(ending) => Err(ending),
             }
@@ -70,7 +100,19 @@ fn mend_reply<A: Disk, B: Disk, W: Sink>(
     sessions: &SessionTable,
     room: Raw<Reply>,
     place: u64,
-) -> Result<(Raw<Reply>, u64), Ending> {
+) -> Result<(Raw<Reply>, u64), Ending>
+    requires place { place < length sessions.now.sessions }
+    requires places { sessions.now.max ≡ base.now.file.layout.clients }
+    requires table { length slots.now.slots ≡ base.now.file.layout.slots }
+    requires room { room.layout ≡ base.now.file.layout }
+    ensures mends { (t o : Told) → Tell t o (around (A.told first.old) (B.told second.old) (W.written sink.old)) → ShowsReplies base.now (units_of base.now t.shown) slots.now sessions.now place
+        → MendsReply base.now slots.now sessions.now place t o (around (A.told first.old) (B.told second.old) (W.written sink.old)) (around (A.told first.new) (B.told second.new) (W.written sink.new)) result }
+    ensures back { IfOk result (λ done. (done.0.layout ≡ base.now.file.layout) × (done.1 ≤ 1)) }
+    ensures same { B.told second.new ≡ B.told second.old }
+    ensures first { IsBlamed is_first (A.faults first.old) (A.faults first.new) result }
+    ensures second { IsBlamed is_second (B.faults second.old) (B.faults second.new) result }
+    ensures sink { IsBlamed is_sink (W.faults sink.old) (W.faults sink.new) result }
+{
     let checksum = base.content.fields().reply_checksums[place as usize];
     if checksum == [0; 16] {
         return Ok((room, 0));
@@ -78,10 +120,10 @@ fn mend_reply<A: Disk, B: Disk, W: Sink>(
     match sessions.get(place) {
         Some(session) => {
             if has_later(base, slots, session.client) {
-                return Ok((room, 0));
+                Ok((room, 0))
+            } else {
+                mend_recorded(first, second, sink, base, room, place, checksum)
             }
-            let wanted = reply_at(base, place, checksum);
-            mend_recorded(first, second, sink, base, room, &wanted)
         }
         None => Ok((room, 0)),
     }
@@ -96,7 +138,20 @@ pub(crate) fn mend_replies<A: Disk, B: Disk, W: Sink>(
     slots: &SlotTable,
     sessions: &SessionTable,
     room: Raw<Reply>,
-) -> Result<u64, Ending> {
+) -> Result<u64, Ending>
+    requires places { sessions.now.max ≡ base.now.file.layout.clients }
+    requires table { length slots.now.slots ≡ base.now.file.layout.slots }
+    requires room { room.layout ≡ base.now.file.layout }
+    ensures mends { (t o : Told) → Tell t o (around (A.told first.old) (B.told second.old) (W.written sink.old)) → HasHead base.now (units_of base.now t.shown) slots.now sessions.now
+        → Answers base.now.file (content_of base.now) (AreOfKind AsReply) t o (A.told first.new) (W.written sink.old) (W.written sink.new) result }
+    ensures shown { (t o u : Told) → Tell t o (around (A.told first.old) (B.told second.old) (W.written sink.old)) → HasHead base.now (units_of base.now t.shown) slots.now sessions.now → A.told first.new ≡ Some u
+        → OnOk result (AreShown (shape base.now.file) (units_of base.now u.shown) (content_of base.now) AsReply) }
+    ensures few { IfOk result (λ mended. mended ≤ 64) }
+    ensures same { B.told second.new ≡ B.told second.old }
+    ensures first { IsBlamed is_first (A.faults first.old) (A.faults first.new) result }
+    ensures second { IsBlamed is_second (B.faults second.old) (B.faults second.new) result }
+    ensures sink { IsBlamed is_sink (W.faults sink.old) (W.faults sink.new) result }
+{
     let mut room = room;
     let mut mended = 0;
     for place in 0..sessions.len() {

@@ -4,6 +4,7 @@ ghost use Rattle.df_base.specs.Causes.{HasCause, IsBlamed};
 ghost use Rattle.df_format.specs.Valid.{IsUnit};
 ghost use Rattle.df_layout.specs.Spans.{HasPlace};
 ghost use Rattle.df_places.specs.Shelves.{IsFound};
+ghost use Rattle.df_mirror.specs.Outside.{around};
 ghost use Rattle.df_mirror.specs.Statuses.{is_first, is_second, is_sink};
 ghost use Rattle.df_mirror.specs.Taking.{HoldsShown, Loads, MendsUnit, PutsUnit, TakesUnit, WritesUnit, count_in};
 
@@ -74,8 +75,8 @@ fn take_unit<A: Disk, B: Disk, W: Sink, K: UnitKind>(
     requires zone { identity.now.place.zone ≡ K.ZONE }
     ensures layout { IfOk result (λ unit. unit.layout ≡ identity.now.layout) }
     ensures takes { TakesUnit K.KIND identity.now class
-        (record { first = A.told first.old; second = B.told second.old; written = W.written sink.old })
-        (record { first = A.told first.new; second = B.told second.new; written = W.written sink.new }) result }
+        (around (A.told first.old) (B.told second.old) (W.written sink.old))
+        (around (A.told first.new) (B.told second.new) (W.written sink.new)) result }
     ensures same { B.told second.new ≡ B.told second.old }
     ensures first { IsBlamed is_first (A.faults first.old) (A.faults first.new) result }
     ensures second { IsBlamed is_second (B.faults second.old) (B.faults second.new) result }
@@ -106,8 +107,8 @@ pub(crate) fn mend_unit<A: Disk, B: Disk, W: Sink, K: UnitKind>(
     ensures unit { IfOk result (λ done. (done.0.layout ≡ identity.now.layout) × IsFound K.KIND identity.now done.0.unit × (done.1 ≤ 1)) }
     ensures shown { IfOk result (λ done. HoldsShown K.KIND identity.now (A.told first.old) (A.told first.new) done.0) }
     ensures mends { MendsUnit K.KIND identity.now
-        (record { first = A.told first.old; second = B.told second.old; written = W.written sink.old })
-        (record { first = A.told first.new; second = B.told second.new; written = W.written sink.new }) (count_in result) }
+        (around (A.told first.old) (B.told second.old) (W.written sink.old))
+        (around (A.told first.new) (B.told second.new) (W.written sink.new)) (count_in result) }
     ensures same { B.told second.new ≡ B.told second.old }
     ensures first { IsBlamed is_first (A.faults first.old) (A.faults first.new) result }
     ensures second { IsBlamed is_second (B.faults second.old) (B.faults second.new) result }
