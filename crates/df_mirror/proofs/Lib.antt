@@ -1,5 +1,10 @@
 pub mod Loaded
 pub mod Joined
+pub mod OpenedFiles
+pub mod OpenedKnown
+pub mod OpenedPasts
+pub mod OpenedPlaces
+pub mod OpenedViews
 pub mod Taken
 pub mod Frames
 pub mod Chains
