@@ -52,7 +52,7 @@ module _ (file : DataFile) (c : Content) (t : Told) (hurt : IsHurtKnown file c t
       | inl left ↦ same ∙ left
       | inr known ↦ absurd (no_header (shape file) was c known.0 s known.1 known.2)
     ]
-    | inr m ↦ absurd (no_header (shape file) (units_in file m.first) c m.kind s m.sum m.known)
+    | inr m ↦ absurd (no_header (shape file) (units_in file m.first.image) c m.first.kind s m.first.sum m.first.known)
   ]
 
   prepare_left : (s : ℕ) → (units_in file shown (PreparePlace s) ≡ was (PreparePlace s)) ⊎ IsNamedSlot (shape file) c s
@@ -61,7 +61,7 @@ module _ (file : DataFile) (c : Content) (t : Told) (hurt : IsHurtKnown file c t
       | inl left ↦ inl (same ∙ left)
       | inr known ↦ inr (named_slot file was c s known.1 (known_prepare (shape file) was c known.0 s known.1 known.2))
     ]
-    | inr m ↦ inr (named_slot file (units_in file m.first) c s m.sum (known_prepare (shape file) (units_in file m.first) c m.kind s m.sum m.known))
+    | inr m ↦ inr (named_slot file (units_in file m.first.image) c s m.first.sum (known_prepare (shape file) (units_in file m.first.image) c m.first.kind s m.first.sum m.first.known))
   ]
 
   reply_place : (k : ℕ) → (units_in file t.shown (ReplyPlace k) ≡ was (ReplyPlace k)) ⊎ ((sum : ℕ) × IsRecorded (shape file) was c k sum)
@@ -72,15 +72,15 @@ module _ (file : DataFile) (c : Content) (t : Told) (hurt : IsHurtKnown file c t
 
   recorded_anew : (k : ℕ) → IsMendedAt file c (ReplyPlace k) (units_in file t.shown (ReplyPlace k)) (units_in file shown (ReplyPlace k)) → IsRecordedAnew was (units_in file shown) c k
   recorded_anew k m =
-      let first = known_reply (shape file) (units_in file m.first) c m.kind k m.sum m.known in
-      let last = known_reply (shape file) (units_in file m.last) c m.last_kind k (checksum_of m.unit) m.last_known in
-      let r = reply_of m.unit (subst (λ (kind : Kind). IsOfKind kind m.unit) last.0 m.of_kind) in
+      let first = known_reply (shape file) (units_in file m.first.image) c m.first.kind k m.first.sum m.first.known in
+      let last = known_reply (shape file) (units_in file m.last.image) c m.last.kind k (checksum_of m.last.unit) m.last.known in
+      let r = reply_of m.last.unit (subst (λ (kind : Kind). IsOfKind kind m.last.unit) last.0 m.last.of_kind) in
       record {
         reply = r.0;
-        shown = m.new_is ∙ ap Some r.1;
+        shown = m.last.new_is ∙ ap Some r.1;
         sum = ap checksum_of (sym r.1) ∙ last.1.sum_is;
         no_reply = λ q at boot. elim (reply_place k) [
-          | inl left ↦ first.1.no_reply q (m.old_is ∙ left ∙ at) boot
+          | inl left ↦ first.1.no_reply q (m.first.old_is ∙ left ∙ at) boot
           | inr known ↦ known.1.no_reply q at boot
         ];
       }
@@ -144,7 +144,7 @@ module _ (file : DataFile) (view : View) (t : Told) (older : List Log) (shown : 
 copy_same : (file : DataFile) (c : Content) (old new : Image) → ((place : Place) → IsMendedOr file c old new place) → (n : ℕ) → units_in file new (CopyPlace n) ≡ units_in file old (CopyPlace n)
 copy_same file c old new mended n = elim (mended (CopyPlace n)) [
   | inl same ↦ same
-  | inr m ↦ absurd (no_copy (shape file) (units_in file m.first) c m.kind n m.sum m.known)
+  | inr m ↦ absurd (no_copy (shape file) (units_in file m.first.image) c m.first.kind n m.first.sum m.first.known)
 ]
 
 pub mirrored_is_opened : MirroredIsOpened

@@ -46,6 +46,13 @@ rises_sound : (sh : Shape) (images : List Units) (v : View) → Rises sh images 
 rises_sound sh [] v rises = absurd rises
 rises_sound sh (image ∷ images) v rises = rises.0.bears.sound
 
+-- a reply that agrees with a view agrees with the next one
+agrees_on : (sh : Shape) (u v : View) (r : Message) → Sound sh u → Next u v → AgreesReply u r → AgreesReply v r
+agrees_on sh u v r sound next a =
+    let g = next_grew sh u v sound next in
+    let same : r.header.boot ≡ boot_of v → r.header.boot ≡ boot_of u = λ own. omega (arith, a.boot, g.boot) in
+    record { op = λ own. omega (arith, a.op (same own), g.replies); mark = λ own. omega (arith, a.mark (same own), g.head); checkpoint = omega (arith, a.checkpoint, g.sequence); boot = omega (arith, a.boot, g.boot); alone = a.alone }
+
 -- a reply that was settled agrees with the view
 pub reply_agrees : (sh : Shape) (images : List Units) (v : View) → Rises sh images v → (k : ℕ) (x : AnyUnit) → InImages images (ReplyPlace k) x → (r : Message) × (x ≡ ReplyUnit r) × AgreesReply v r
 reply_agrees sh [] v rises k x at = absurd rises
@@ -53,17 +60,7 @@ reply_agrees sh (image ∷ images) v rises k x (inl here) = rises.0.bears.agrees
 reply_agrees sh (image ∷ images) v (holds, inl none) k x (inr there) = absurd (none k x there)
 reply_agrees sh (image ∷ images) v (holds, inr (u, next, rises)) k x (inr there) =
     let a = reply_agrees sh images u rises k x there in
-    let g = next_grew sh u v (rises_sound sh images u rises) next in (
-      a.0,
-      a.1,
-      record {
-        op = λ same. omega (arith, a.2.op (omega (arith, a.2.boot, g.boot)), g.replies);
-        mark = λ same. omega (arith, a.2.mark (omega (arith, a.2.boot, g.boot)), g.head);
-        checkpoint = omega (arith, a.2.checkpoint, g.sequence);
-        boot = omega (arith, a.2.boot, g.boot);
-        alone = a.2.alone;
-      },
-    )
+    (a.0, a.1, agrees_on sh u v a.0 (rises_sound sh images u rises) next a.2)
 
 -- ---- sessions
 

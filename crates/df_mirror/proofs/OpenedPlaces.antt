@@ -32,35 +32,29 @@ use Rattle.df_mirror.specs.Mends.{AreMends, Mend, events_of, units_in}
 
 -- ---- where units are known
 
+-- what holds of each of the five kinds
+each_kind : (P : Kind → Type 0) → P kinds.Reserved → P kinds.Prepare → P kinds.Reply → P kinds.Block → P kinds.Trailer → (kind : Kind) → P kind
+each_kind P reserved prepare reply block trailer kinds.Reserved = reserved
+each_kind P reserved prepare reply block trailer kinds.Prepare = prepare
+each_kind P reserved prepare reply block trailer kinds.Reply = reply
+each_kind P reserved prepare reply block trailer kinds.Block = block
+each_kind P reserved prepare reply block trailer kinds.Trailer = trailer
+
 module _ (sh : Shape) (image : Units) (c : Content) where
   -- none is in the superblock or in the header ring
   pub no_copy : (kind : Kind) (n sum : ℕ) → IsKnown sh image c kind (CopyPlace n) sum → ⊥
-  no_copy kinds.Reserved n sum known = known
-  no_copy kinds.Prepare n sum known = known
-  no_copy kinds.Reply n sum known = known
-  no_copy kinds.Block n sum known = known
-  no_copy kinds.Trailer n sum known = known
+  no_copy kind n sum = each_kind (λ k. IsKnown sh image c k (CopyPlace n) sum → ⊥) (λ none. none) (λ none. none) (λ none. none) (λ none. none) (λ none. none) kind
 
   pub no_header : (kind : Kind) (s sum : ℕ) → IsKnown sh image c kind (HeaderPlace s) sum → ⊥
-  no_header kinds.Reserved s sum known = known
-  no_header kinds.Prepare s sum known = known
-  no_header kinds.Reply s sum known = known
-  no_header kinds.Block s sum known = known
-  no_header kinds.Trailer s sum known = known
+  no_header kind s sum = each_kind (λ k. IsKnown sh image c k (HeaderPlace s) sum → ⊥) (λ none. none) (λ none. none) (λ none. none) (λ none. none) (λ none. none) kind
 
   pub known_prepare : (kind : Kind) (s sum : ℕ) → IsKnown sh image c kind (PreparePlace s) sum → IsNamed sh image c s sum
-  known_prepare kinds.Reserved s sum known = absurd known
-  known_prepare kinds.Prepare s sum known = known
-  known_prepare kinds.Reply s sum known = absurd known
-  known_prepare kinds.Block s sum known = absurd known
-  known_prepare kinds.Trailer s sum known = absurd known
+  known_prepare kind s sum =
+      each_kind (λ k. IsKnown sh image c k (PreparePlace s) sum → IsNamed sh image c s sum) (λ none. absurd none) (λ known. known) (λ none. absurd none) (λ none. absurd none) (λ none. absurd none) kind
 
   pub known_reply : (kind : Kind) (k sum : ℕ) → IsKnown sh image c kind (ReplyPlace k) sum → (kind ≡ kinds.Reply) × IsRecorded sh image c k sum
-  known_reply kinds.Reserved k sum known = absurd known
-  known_reply kinds.Prepare k sum known = absurd known
-  known_reply kinds.Reply k sum known = (refl, known)
-  known_reply kinds.Block k sum known = absurd known
-  known_reply kinds.Trailer k sum known = absurd known
+  known_reply kind k sum =
+      each_kind (λ j. IsKnown sh image c j (ReplyPlace k) sum → (j ≡ kinds.Reply) × IsRecorded sh image c k sum) (λ none. absurd none) (λ none. absurd none) (λ known. (refl, known)) (λ none. absurd none) (λ none. absurd none) kind
 
   outside_header : (kind : Kind) (place : Place) (sum : ℕ) → IsKnown sh image c kind place sum → (place_of place).zone ≡ WalHeaders → ⊥
   outside_header kind (CopyPlace n) sum known zone = no_copy kind n sum known
@@ -159,70 +153,56 @@ module _ (file : DataFile) (c : Content) (t : Told) (hurt : IsHurtKnown file c t
 
 -- ---- mends
 
--- units were known there: the first as the place showed what it did at first, and the last is shown
-pub record IsMendedAt (file : DataFile) (c : Content) (place : Place) (old new : Option AnyUnit) : Type 0 where
-  pub first : Image
+-- a unit was known there, as the place showed this
+pub record WasKnown (file : DataFile) (c : Content) (place : Place) (old : Option AnyUnit) : Type 0 where
+  pub image : Image
   pub kind : Kind
   pub sum : ℕ
-  pub known : IsKnown (shape file) (units_in file first) c kind place sum
-  pub old_is : units_in file first place ≡ old
-  pub last : Image
-  pub last_kind : Kind
+  pub known : IsKnown (shape file) (units_in file image) c kind place sum
+  pub old_is : units_in file image place ≡ old
+
+-- the place shows a unit that was known there
+pub record WasPut (file : DataFile) (c : Content) (place : Place) (new : Option AnyUnit) : Type 0 where
+  pub image : Image
+  pub kind : Kind
   pub unit : AnyUnit
-  pub of_kind : IsOfKind last_kind unit
-  pub last_known : IsKnown (shape file) (units_in file last) c last_kind place (checksum_of unit)
+  pub of_kind : IsOfKind kind unit
+  pub known : IsKnown (shape file) (units_in file image) c kind place (checksum_of unit)
   pub new_is : new ≡ Some unit
+
+-- units were mended there, the first as the place showed what it did at first, and the last is shown
+pub record IsMendedAt (file : DataFile) (c : Content) (place : Place) (old new : Option AnyUnit) : Type 0 where
+  pub first : WasKnown file c place old
+  pub last : WasPut file c place new
 
 -- behind mends a place shows what it did, or a unit that was mended there
 pub mends_left : (file : DataFile) (c : Content) (second : Image) (t : Told) (ms : List Mend) → AreMends file c second t ms → IsImage t.shown → (place : Place)
     → (units_in file (told_after (events_of file ms) t).shown place ≡ units_in file t.shown place) ⊎ IsMendedAt file c place (units_in file t.shown place) (units_in file (told_after (events_of file ms) t).shown place)
 mends_left file c second t [] are whole place = inl refl
-mends_left file c second t (m ∷ ms) are whole place = go (put_one m.place m.unit place) refl (mends_left file c second next ms are.1 (written_is_image at m.bytes t.shown are.0.puts.piece whole) place)
+mends_left file c second t (m ∷ ms) are whole place =
+    go (put_one m.place m.unit place) refl (mends_left file c second next ms are.1 (written_is_image (first_at file.layout m.place) m.bytes t.shown are.0.puts.piece whole) place)
   where
-    at : ℕ
-    at = first_at file.layout m.place
-
     next : Told
     next = told_after (events_of file (m ∷ [])) t
+
+    old : Option AnyUnit
+    old = units_in file t.shown place
 
     new : Option AnyUnit
     new = units_in file (told_after (events_of file (m ∷ ms)) t).shown place
 
-    go : (o : Option AnyUnit) → put_one m.place m.unit place ≡ o → (new ≡ units_in file next.shown place) ⊎ IsMendedAt file c place (units_in file next.shown place) new → (new ≡ units_in file t.shown place) ⊎ IsMendedAt file c place (units_in file t.shown place) new
-    go None put rest =
-        let same : units_in file next.shown place ≡ units_in file t.shown place = are.0.puts.shows t.shown place whole ∙ ap (λ (o : Option AnyUnit). or_else o (units_in file t.shown place)) put in
-        subst (λ (o : Option AnyUnit). (new ≡ o) ⊎ IsMendedAt file c place o new) same rest
+    shows : (o : Option AnyUnit) → put_one m.place m.unit place ≡ o → units_in file next.shown place ≡ or_else o old
+    shows o put = are.0.puts.shows t.shown place whole ∙ ap (λ (p : Option AnyUnit). or_else p old) put
+
+    go : (o : Option AnyUnit) → put_one m.place m.unit place ≡ o → (new ≡ units_in file next.shown place) ⊎ IsMendedAt file c place (units_in file next.shown place) new → (new ≡ old) ⊎ IsMendedAt file c place old new
+    go None put rest = subst (λ (o : Option AnyUnit). (new ≡ o) ⊎ IsMendedAt file c place o new) (shows None put) rest
     go (Some y) put rest =
         let is = (put_one_law m.place m.unit).only place y put in
-        let there : units_in file next.shown place ≡ Some m.unit = are.0.puts.shows t.shown place whole ∙ ap (λ (o : Option AnyUnit). or_else o (units_in file t.shown place)) put ∙ ap Some is.1 in
         let known : IsKnown (shape file) (units_in file t.shown) c m.kind place (checksum_of m.unit) = subst (λ (p : Place). IsKnown (shape file) (units_in file t.shown) c m.kind p (checksum_of m.unit)) (sym is.0) are.0.known in
-        inr (by known there rest)
-      where
-        by : IsKnown (shape file) (units_in file t.shown) c m.kind place (checksum_of m.unit) → units_in file next.shown place ≡ Some m.unit → (new ≡ units_in file next.shown place) ⊎ IsMendedAt file c place (units_in file next.shown place) new
-            → IsMendedAt file c place (units_in file t.shown place) new
-        by known there (inl same) = record {
-          first = t.shown;
-          kind = m.kind;
-          sum = checksum_of m.unit;
-          known = known;
-          old_is = refl;
-          last = t.shown;
-          last_kind = m.kind;
-          unit = m.unit;
-          of_kind = are.0.of_kind;
-          last_known = known;
-          new_is = same ∙ there;
-        }
-        by known there (inr later) = record {
-          first = t.shown;
-          kind = m.kind;
-          sum = checksum_of m.unit;
-          known = known;
-          old_is = refl;
-          last = later.last;
-          last_kind = later.last_kind;
-          unit = later.unit;
-          of_kind = later.of_kind;
-          last_known = later.last_known;
-          new_is = later.new_is;
-        }
+        inr (record {
+          first = record { image = t.shown; kind = m.kind; sum = checksum_of m.unit; known = known; old_is = refl };
+          last = elim rest [
+            | inl same ↦ record { image = t.shown; kind = m.kind; unit = m.unit; of_kind = are.0.of_kind; known = known; new_is = same ∙ shows (Some y) put ∙ ap Some is.1 }
+            | inr later ↦ later.last
+          ];
+        })
