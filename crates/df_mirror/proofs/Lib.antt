@@ -9,3 +9,8 @@ pub mod Taken
 pub mod Frames
 pub mod Chains
 pub mod Linked
+pub mod Turns
+pub mod Counts
+pub mod Trailers
+pub mod Ones
+pub mod Blocks

@@ -75,6 +75,7 @@ pub record MendsLink (b : Superblock) (n : ℕ) (t o : Told) (old new : Outside)
 -- the trailer is shown whole, its references are what the grid has as live blocks, and its sessions are these
 pub record HasText (b : Superblock) (image : Units) (grid : GridState) (sessions : List Session) : Type 0 where
   pub says : ShowsTrailer (shape b.file) image (content_of b)
+  pub inside : (a sum : ℕ) → says.parts.references a ≡ Some sum → IsInside b a
   pub live : (a : ℕ) → sum_at a grid.blocks.live ≡ says.parts.references a
   pub sessions_are : says.parts.sessions ≡ sessions_of sessions
 

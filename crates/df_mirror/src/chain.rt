@@ -180,6 +180,19 @@ fn mend_link<A: Disk, B: Disk, W: Sink>(
     }
 }
 
+// How many blocks the trailer has.
+fn block_count(base: &Superblock) -> u64
+    ensures count { IsCount (base.now.file.layout.block_size - 256) base.now.content.trailer_size result }
+    ensures few { result ≤ 70 }
+    ensures inside { 0 < result → IsInside base.now base.now.content.trailer_address }
+{
+    chains_have_room();
+    base.content
+        .fields()
+        .trailer_size
+        .div_ceil(u64::from(base.file.layout.block_size - HEADER as u32))
+}
+
 /// Mends the blocks of the trailer that the superblock names, from the last to the first. Where one of them isn't the link that the chain asks for, or the chain comes to a block of its own again, the
 /// file is refused as by an open. Answers how many were written.
 pub(crate) fn mend_chain<A: Disk, B: Disk, W: Sink>(
@@ -200,11 +213,7 @@ pub(crate) fn mend_chain<A: Disk, B: Disk, W: Sink>(
     ensures second { IsBlamed is_second (B.faults second.old) (B.faults second.new) result }
     ensures sink { IsBlamed is_sink (W.faults sink.old) (W.faults sink.new) result }
 {
-    chains_have_room();
     let fields = base.content.fields();
-    let count = fields
-        .trailer_size
-        .div_ceil(u64::from(base.file.layout.block_size - HEADER as u32));
     let checksum = fields.trailer_checksum;
     let mut mended = 0;
     let mut walk = Walk {
@@ -215,6 +224,7 @@ pub(crate) fn mend_chain<A: Disk, B: Disk, W: Sink>(
         read: ArrayVec::new(),
         room,
     };
+    let count = block_count(base);
     for done in 0..count {
         match mend_link(first, second, sink, base, walk, count - 1 - done) {
             Ok((next, more)) => {

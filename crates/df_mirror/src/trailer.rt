@@ -1,6 +1,7 @@
 // The trailer of the first file, once all of its blocks are shown: what it references, and the sessions of the checkpoint.
 ghost use Rattle.std.specs.Prelude.{◌≡◌, ◌≢◌, Some, IfErr, IfOk};
 ghost use Rattle.df_base.specs.Causes.{IsBlamed};
+ghost use Rattle.df_base.specs.Image.{IsImage};
 ghost use Rattle.df_disk.specs.Told.{Told};
 ghost use Rattle.df_format.specs.declared.kind.Kind.TheVariants.{Trailer as AsTrailer};
 ghost use Rattle.df_opening.specs.Below.{shape};
@@ -69,7 +70,7 @@ fn read_named<A: Disk>(
     requires named { base.now.content.trailer_address ≢ 0 }
     requires grid { grid.old ≡ empty_grid base.now }
     requires rooms { rooms.layout ≡ base.now.file.layout }
-    ensures reads { (t : Told) → A.told first.old ≡ Some t → ReadsNamed base.now t.shown grid.new result }
+    ensures reads { (t : Told) → A.told first.old ≡ Some t → IsImage t.shown → ReadsNamed base.now t.shown grid.new result }
     ensures each { IfOk result (λ sessions. AreRead base.now.file.layout.clients base.now.content.op sessions.items) }
     ensures layout { grid.new.layout ≡ grid.old.layout }
     ensures same { A.told first.new ≡ A.told first.old }
@@ -99,7 +100,7 @@ pub(crate) fn read_trailer<A: Disk>(
 ) -> Result<Text, Ending>
     requires grid { grid.layout ≡ base.now.file.layout }
     requires rooms { rooms.layout ≡ base.now.file.layout }
-    ensures reads { (t : Told) → A.told first.old ≡ Some t → AreShown (shape base.now.file) (units_of base.now t.shown) (content_of base.now) AsTrailer → ReadsText base.now t.shown result }
+    ensures reads { (t : Told) → A.told first.old ≡ Some t → IsImage t.shown → AreShown (shape base.now.file) (units_of base.now t.shown) (content_of base.now) AsTrailer → ReadsText base.now t.shown result }
     ensures fits { IfOk result (λ text. (text.grid.layout ≡ base.now.file.layout) × (text.sessions.max ≡ base.now.file.layout.clients)) }
     ensures same { A.told first.new ≡ A.told first.old }
     ensures cause { IsBlamed is_first (A.faults first.old) (A.faults first.new) result }
