@@ -14,3 +14,4 @@ pub mod Counts
 pub mod Trailers
 pub mod Ones
 pub mod Blocks
+pub mod Logs

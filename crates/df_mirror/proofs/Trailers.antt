@@ -9,6 +9,7 @@ use Rattle.df_layout.specs.declared.fields.Field.TheVariants.{Pending}
 use Rattle.df_layout.specs.declared.layout.Layout.{Layout}
 use Rattle.df_format.specs.declared.kind.Kind.TheVariants.{Trailer}
 use Rattle.df_format.specs.SuperRules.{IsSuper}
+use Rattle.df_format.specs.declared.superblock.SuperFields.{SuperFields}
 use Rattle.df_model.specs.Blocks.{Blocks, addresses, entries, sum_at}
 use Rattle.df_model.specs.declared.errors.OpenError.TheVariants.{BadField, BootSpent, Damaged, DiskFault, LayoutDiffers, NoQuorum, NotFormatted, Version}
 use Rattle.df_model.specs.Supply.{Shown}
@@ -149,7 +150,17 @@ text_refused b image g Second shown is = is
 text_refused b image g Sink shown is = is
 text_refused b image g (Neither place class) shown is = is
 
+-- what is answered of a disk that is told
+pub told_answer : (b : Superblock) (h g : GridState) (reader : Reader) (result : Result (Unit {0}) TrailerFault) (told : Option Told) → h ≡ empty_grid b
+    → OfTold h told (λ shown. ChainAnswer (shape b.file) shown (content_of b) g reader result) → (t : Told) → told ≡ Some t → ChainAnswer (shape b.file) (shown_of b.file.layout b.file.cluster t.shown) (content_of b) g reader result
+told_answer b h g reader result told same answer t is =
+    subst (λ (x : GridState). ChainAnswer (shape b.file) (shown_of x.layout x.cluster t.shown) (content_of b) g reader result) same (subst (λ (o : Option Told). OfTold h o (λ shown. ChainAnswer (shape b.file) shown (content_of b) g reader result)) is answer)
+
 -- ---- the ops that wait
+
+-- of copies of the sessions and of the superblock
+pub pending_of : (lent ss : List Session) (fields f : SuperFields) (o : Option ℕ) → lent ≡ ss → fields ≡ f → IsPending lent fields.replies fields.op o → IsPending ss f.replies f.op o
+pending_of lent ss fields f o same one pending = subst (λ (l : List Session). IsPending l f.replies f.op o) same (subst (λ (x : SuperFields). IsPending lent x.replies x.op o) one pending)
 
 pub text_untracked : (b : Superblock) (image : Image) (g : GridState) (ss : List Session) (n : ℕ) → b.content.trailer_address ≢ 0 → HasText b (units_of b image) g ss → IsPending ss b.content.replies b.content.op (Some n) → RefusesTrailer b.file image (content_of b) (BadField Pending n)
 text_untracked b image g ss n named text lacking = inl (inr (inr (inr (refl, record {
