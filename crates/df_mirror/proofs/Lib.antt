@@ -13,5 +13,5 @@ pub mod Turns
 pub mod Counts
 pub mod Trailers
 pub mod Ones
-pub mod Blocks
+pub mod Referenced
 pub mod Logs

@@ -7,7 +7,10 @@ use Rattle.df_disk.specs.Told.{Told}
 use Rattle.df_format.specs.declared.kind.Kind.{Kind}
 use Rattle.df_format.specs.declared.kind.Kind.TheVariants.{Block as AsBlock, Prepare, Reply, Trailer}
 use Rattle.df_journal.specs.Scan.{Scan}
+use Rattle.df_journal.specs.Scanned.{IsScanned}
 use Rattle.df_journal.specs.Shows.{TellsRings}
+use Rattle.df_journal.proofs.Laws.{rings_shown}
+use Rattle.df_units.specs.Bytes.{unit_at}
 use Rattle.df_grid.specs.Grid.{GridState}
 use Rattle.df_sessions.specs.declared.session.Session.{Session}
 use Rattle.df_sessions.specs.Requests.{sessions_of}
@@ -21,12 +24,14 @@ use Rattle.df_mirror.specs.declared.ending.Ending.{Ending}
 use Rattle.df_mirror.specs.declared.ending.Ending.TheVariants.{First, Neither, Second, Sink, Unopened}
 use Rattle.df_mirror.specs.declared.superblock.Superblock.{Superblock}
 use Rattle.df_mirror.specs.Known.{AllShown, AreShown, IsKnown, IsNamed, IsShownAs, ShowsTrailer}
-use Rattle.df_mirror.specs.Mends.{Answers, AreFrom, AreOfKind, Mend, rank_of}
+use Rattle.df_mirror.specs.Mends.{Answers, AreFrom, AreInOrder, AreLate, AreOfKind, Mend, rank_of}
+use Rattle.df_mirror.specs.Outside.{Outside, Tell}
 use Rattle.df_mirror.specs.Refusals.{RefusesTrailer}
 use Rattle.df_mirror.specs.Walks.{HasHead, ReadsText, ShowsBlocks, ShowsLog, ShowsNamed, content_of, units_of}
-use Rattle.df_mirror.proofs.Blocks.{shown_there}
+use Rattle.df_mirror.proofs.Referenced.{shown_there}
 use Rattle.df_mirror.proofs.Chains.{all_of_it, shown_block}
-use Rattle.df_mirror.proofs.Joined.{none_came, none_failed}
+use Rattle.df_mirror.proofs.Frames.{other_kind}
+use Rattle.df_mirror.proofs.Joined.{answers_then, answers_with, more, none_came, none_failed}
 use Rattle.df_mirror.proofs.Ones.{one_trailer, trailer_there}
 
 -- ---- the order
@@ -58,7 +63,7 @@ failed_here b rank m o new text later same silent = none_failed b.file (content_
 
 -- ---- the prepares that are named
 
-same_known : (n : ℕ) (image : Units) (op sum : ℕ) (ps qs : List Message) → AreKnown n image op sum ps → AreKnown n image op sum qs → length ps ≡ length qs → ps ≡ qs
+pub same_known : (n : ℕ) (image : Units) (op sum : ℕ) (ps qs : List Message) → AreKnown n image op sum ps → AreKnown n image op sum qs → length ps ≡ length qs → ps ≡ qs
 same_known n image op sum [] [] one two size = refl
 same_known n image op sum [] (q ∷ qs) one two size = absurd (omega (arith, size))
 same_known n image op sum (p ∷ ps) [] one two size = absurd (omega (arith, size))
@@ -99,15 +104,44 @@ named_there b image other same is = record { named = is.named; known = known_the
 
 -- ---- the sessions at the head
 
-pub head_is : (b : Superblock) (image : Units) (slots : Scan) (table : Table) (ss : List model.Session) (says : ShowsTrailer (shape b.file) image (content_of b)) → says.parts.sessions ≡ ss → ShowsNamed b image → TellsRings b.file.layout image slots → table.max ≡ b.file.layout.clients
-    → ((named : List Message) → AreKnown b.file.layout.slots image (b.content.op + 1) (content_of b).pin_checksum named → b.content.op + length named ≡ (content_of b).pin → sessions_of table.sessions ≡ take b.file.layout.clients (sessions_after ss named)) → HasHead b image slots table
-head_is b image slots table ss says same named tells places given = record {
+pub head_is : (b : Superblock) (image now : Units) (slots : Scan) (table : Table) (ss : List model.Session) (says : ShowsTrailer (shape b.file) image (content_of b)) → says.parts.sessions ≡ ss → ((a : ℕ) → now (BlockPlace a) ≡ image (BlockPlace a)) → ShowsNamed b now
+    → TellsRings b.file.layout now slots → table.max ≡ b.file.layout.clients
+    → ((named : List Message) → AreKnown b.file.layout.slots now (b.content.op + 1) (content_of b).pin_checksum named → b.content.op + length named ≡ (content_of b).pin → sessions_of table.sessions ≡ take b.file.layout.clients (sessions_after ss named)) → HasHead b now slots table
+head_is b image now slots table ss says same blocks named tells places given = record {
   tells = tells;
   sessions = sessions_after says.parts.sessions named.named;
-  has = record { says = says; named = named.named; known = named.known; count = named.count; sessions_are = refl };
+  has = record { says = record { chain = says.chain; parts = says.parts; trailer = says.trailer; shown = λ a x at. blocks a ∙ says.shown a x at }; named = named.named; known = named.known; count = named.count; sessions_are = refl };
   places = places;
   table_is = given named.named named.known named.count ∙ ap (λ (l : List model.Session). take b.file.layout.clients (sessions_after l named.named)) (sym same);
 }
+
+-- the prepares were mended, so many of them, and then the rings were read
+module _ (b : Superblock) (t o : Told) (old mid : Outside) (a : ℕ) (tell : Tell t o old) (came : Answers b.file (content_of b) (AreOfKind Prepare) t o mid.first old.written mid.written (Ok a)) where
+  pub blocks_then : (x : ℕ) → units_of b came.after.shown (BlockPlace x) ≡ units_of b t.shown (BlockPlace x)
+  blocks_then x = other_kind b.file (content_of b) t o came.after mid.first old.written mid.written tell.whole came.after_is (BlockPlace x) Prepare a came (λ no. no)
+
+  pub rings_then : (slots : Scan) (told : Option Told) → told ≡ mid.first → slots.start.cluster ≡ b.file.cluster → IsScanned b.file.layout told slots → TellsRings b.file.layout (units_of b came.after.shown) slots
+  rings_then slots told same cluster scanned =
+      subst (λ (n : ℕ). TellsRings b.file.layout (unit_at b.file.layout n came.after.shown) slots) cluster
+      (rings_shown b.file.layout came.after slots (subst (λ (x : Option Told). IsScanned b.file.layout x slots) (same ∙ came.after_is) scanned))
+
+  -- and then the replies are
+  pub log_then : (new : Option Told) (text : Option (List ℕ)) (result : Result ℕ Ending) → Answers b.file (content_of b) (AreOfKind Reply) came.after o new mid.written text result → Answers b.file (content_of b) AreLate t o new old.written text (more a result)
+  log_then new text result rest =
+      answers_then b.file (content_of b) (AreOfKind Prepare) (AreOfKind Reply) AreLate (λ ms ls of then. then_from 3 Prepare ms ls (omega arith) of (from_kind 3 Reply ls (omega arith) then)) t o came.after mid.first new old.written mid.written text a result came came.after_is rest
+
+  pub scan_failed : (new : Option Told) (text : Option (List ℕ)) → new ≡ mid.first → text ≡ mid.written → Answers b.file (content_of b) AreLate t o new old.written text (Err First)
+  scan_failed new text same silent =
+      answers_then b.file (content_of b) (AreOfKind Prepare) AreLate AreLate (λ ms ls of then. then_from 3 Prepare ms ls (omega arith) of then) t o came.after mid.first new old.written mid.written text a (Err First) came came.after_is
+      (failed_here b 3 came.after o new mid.written text (same ∙ came.after_is) silent)
+
+  pub log_shown : (u : Told) (new : Option Told) (text : Option (List ℕ)) (c : ℕ) → IsImage came.after.shown → new ≡ Some u → Answers b.file (content_of b) (AreOfKind Reply) came.after o new mid.written text (Ok c) → ShowsNamed b (units_of b came.after.shown)
+      → AreShown (shape b.file) (units_of b u.shown) (content_of b) Reply → ShowsLog b (units_of b t.shown) (units_of b u.shown)
+  log_shown u new text c whole is rest named replies = record {
+    blocks = λ x. other_kind b.file (content_of b) came.after o u new mid.written text whole is (BlockPlace x) Reply c rest (λ no. no) ∙ blocks_then x;
+    prepares = prepares_shown b (units_of b u.shown) (named_there b (units_of b came.after.shown) (units_of b u.shown) (λ s. other_kind b.file (content_of b) came.after o u new mid.written text whole is (PreparePlace s) Reply c rest (λ no. no)) named);
+    replies = replies;
+  }
 
 -- ---- all of it
 
@@ -126,3 +160,19 @@ all_shown b grid ss image now blocks log = by
     by Prepare (PreparePlace s) sum known = log.prepares (PreparePlace s) sum known
     by Reply (ReplyPlace k) sum known = log.replies (ReplyPlace k) sum known
     by kind place sum known = absurd known
+
+-- ---- the walks one behind the other
+
+-- so many of the trailer's blocks were mended, and of those it references
+module _ (b : Superblock) (t o : Told) (old mid : Outside) (a : ℕ) (came : Answers b.file (content_of b) (AreOfKind Trailer) t o mid.first old.written mid.written (Ok a)) where
+  pub chain_then : (new : Option Told) (text : Option (List ℕ)) (result : Result ℕ Ending) → Answers b.file (content_of b) (AreFrom 1) came.after o new mid.written text result → Answers b.file (content_of b) AreInOrder t o new old.written text (more a result)
+  chain_then new text result rest =
+      answers_then b.file (content_of b) (AreOfKind Trailer) (AreFrom 1) AreInOrder (λ ms ls of then. then_from 0 Trailer ms ls (omega arith) of then) t o came.after mid.first new old.written mid.written text a result came came.after_is rest
+
+pub blocks_first : (b : Superblock) (m o : Told) (mid new : Option Told) (old text later : Option (List ℕ)) (a : ℕ) (result : Result ℕ Ending) (came : Answers b.file (content_of b) (AreOfKind AsBlock) m o mid old text (Ok a)) → Answers b.file (content_of b) AreLate came.after o new text later result
+    → Answers b.file (content_of b) (AreFrom 1) m o new old later (more a result)
+blocks_first b m o mid new old text later a result came rest =
+    answers_then b.file (content_of b) (AreOfKind AsBlock) AreLate (AreFrom 1) (λ ms ls of then. then_from 1 AsBlock ms ls (omega arith) of (from_lower 2 3 ls (omega arith) then)) m o came.after mid new old text later a result came came.after_is rest
+
+pub kind_from : (b : Superblock) (rank : ℕ) (kind : Kind) (t o : Told) (new : Option Told) (old text : Option (List ℕ)) (result : Result ℕ Ending) → rank ≤ rank_of kind → Answers b.file (content_of b) (AreOfKind kind) t o new old text result → Answers b.file (content_of b) (AreFrom rank) t o new old text result
+kind_from b rank kind t o new old text result less is = answers_with b.file (content_of b) (AreOfKind kind) (AreFrom rank) t o new old text result (λ ms are. from_kind rank kind ms less are) is

@@ -25,3 +25,7 @@ pub turn : (file : DataFile) (c : Content) (kind : Kind) (t o : Told) (old mid n
     → Answers file c (AreOfKind kind) came.after o new.first mid.written new.written result → Answers file c (AreOfKind kind) t o new.first old.written new.written (more a result)
 turn file c kind t o old mid new a result came rest =
     answers_then file c (AreOfKind kind) (AreOfKind kind) (AreOfKind kind) (kinds_append kind) t o came.after mid.first new.first old.written mid.written new.written a result came came.after_is rest
+
+-- and behind a read they tell the same
+pub tells_also : (t o : Told) (old new : Outside) → new.first ≡ old.first → Tell t o old → new.second ≡ old.second → Tell t o new
+tells_also t o old new same tell also = record { first = same ∙ tell.first; second = also ∙ tell.second; whole = tell.whole; other = tell.other }

@@ -1,5 +1,5 @@
 // The trailer of the first file, once all of its blocks are shown: what it references, and the sessions of the checkpoint.
-ghost use Rattle.std.specs.Prelude.{◌≡◌, ◌≢◌, Some, IfErr, IfOk};
+ghost use Rattle.std.specs.Prelude.{◌≡◌, ◌≢◌, ◌≤◌, length, Some, IfErr, IfOk};
 ghost use Rattle.df_base.specs.Causes.{IsBlamed};
 ghost use Rattle.df_base.specs.Image.{IsImage};
 ghost use Rattle.df_disk.specs.Told.{Told};
@@ -101,7 +101,7 @@ pub(crate) fn read_trailer<A: Disk>(
     requires grid { grid.layout ≡ base.now.file.layout }
     requires rooms { rooms.layout ≡ base.now.file.layout }
     ensures reads { (t : Told) → A.told first.old ≡ Some t → IsImage t.shown → AreShown (shape base.now.file) (units_of base.now t.shown) (content_of base.now) AsTrailer → ReadsText base.now t.shown result }
-    ensures fits { IfOk result (λ text. (text.grid.layout ≡ base.now.file.layout) × (text.sessions.max ≡ base.now.file.layout.clients)) }
+    ensures fits { IfOk result (λ text. (text.grid.layout ≡ base.now.file.layout) × (text.sessions.max ≡ base.now.file.layout.clients) × (length text.sessions.sessions ≤ base.now.file.layout.clients)) }
     ensures same { A.told first.new ≡ A.told first.old }
     ensures cause { IsBlamed is_first (A.faults first.old) (A.faults first.new) result }
     ensures own { IfErr result IsOfFirst }

@@ -2,7 +2,7 @@
 use crate::files::{KNOWN, hurt, recovered};
 use crate::shown::{expect, run_failing};
 use df_memdisk::MemoryDisk;
-use df_mirror::Status;
+use df_mirror::{Status, USAGE};
 use df_runs::{blank, disk_behind, expect_words, small_file, words};
 use std::alloc::Global;
 use std::test::Fail;
@@ -99,7 +99,7 @@ fn any_word_is_one_too_many(rt: HostRuntime) -> Result<(), Fail> {
         if ran.status != Status::Words || first.calls() != calls {
             return Err("another end of words without a meaning".into());
         }
-        if ran.text.as_slice() != b"usage: filemirror FIRST SECOND\n" {
+        if ran.text.as_slice() != USAGE.as_bytes() {
             return Err("another usage line".into());
         }
     }

@@ -5,7 +5,7 @@ use Rattle.df_theory.specs.Units.{BlockPlace}
 use Rattle.df_mirror.specs.Outside.{around}
 use Rattle.df_mirror.specs.Taking.{IsFor}
 use Rattle.df_mirror.specs.Walks.{content_of}
-use Rattle.df_mirror.proofs.Blocks.{block_due, block_failed, block_mended, block_none}
+use Rattle.df_mirror.proofs.Referenced.{block_due, block_failed, block_mended, block_none}
 use Rattle.df_mirror.proofs.blocks.mend_at.Goals as goal
 
 pub returns-in-Ok-clause-mends : goal.returns-in-Ok-clause-mends

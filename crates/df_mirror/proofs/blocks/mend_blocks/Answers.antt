@@ -6,7 +6,7 @@ use Rattle.df_format.specs.declared.kind.Kind.TheVariants.{Block as AsBlock}
 use Rattle.df_mirror.specs.Mends.{AreOfKind}
 use Rattle.df_mirror.specs.Outside.{around}
 use Rattle.df_mirror.specs.Walks.{ShowsBlocks, content_of, units_of}
-use Rattle.df_mirror.proofs.Blocks.{none_yet}
+use Rattle.df_mirror.proofs.Referenced.{none_yet}
 use Rattle.df_mirror.proofs.Joined.{none_came}
 use Rattle.df_mirror.proofs.Turns.{tells_on, turn}
 use Rattle.df_mirror.proofs.blocks.mend_blocks.Goals as goal

@@ -21,12 +21,12 @@ pub returns-in-Ok-clause-reads : goal.returns-in-Ok-clause-reads
 returns-in-Ok-clause-reads g c = λ t told whole.
     let b = c.args.base.now in
     let layout = ap (λ (x : GridState). x.layout) c.requires.grid in
-    named_text b c.fields-fields.ensures.usable.rules t whole c.read_chain.new.grid c.read_chain.new.reader c.into_parts-parts.result c.requires.named
+    named_text b c.fields-fields.ensures.usable.rules t whole c.read_chain.new.grid c.read_chain.new.reader c.into_parts.result c.requires.named
     (told_answer b c.args.grid.now c.read_chain.new.grid c.read_chain.new.reader (Ok tt) (g.A.Disk.told c.args.first.now) c.requires.grid (c.in-Ok.ensures.answer (shape b.file) (ap layout_of (sym layout)) refl) t told)
-    (c.in-Ok.ensures.grid.layout ∙ layout) c.into_parts-parts.ensures.parts
+    (c.in-Ok.ensures.grid.layout ∙ layout) c.into_parts.ensures.parts
 
-pub returns-in-Err-clause-reads : goal.returns-in-Err-clause-reads
-returns-in-Err-clause-reads g c = λ t told whole.
+pub returns-clause-reads : goal.returns-clause-reads
+returns-clause-reads g c = λ t told whole.
     let b = c.args.base.now in
     let layout = ap (λ (x : GridState). x.layout) c.requires.grid in
     subst (λ (e : Ending). ReadsNamed b t.shown c.read_chain.new.grid (Err e)) (sym c.ending_of.ensures)
@@ -36,4 +36,4 @@ returns-in-Err-clause-reads g c = λ t told whole.
 pub returns-in-Ok-clause-each : goal.returns-in-Ok-clause-each
 returns-in-Ok-clause-each g c =
     let b = c.args.base.now in
-    of_complete (λ (l : Layout) (op : ℕ). AreRead l.clients op c.into_parts-parts.result.sessions.items) c.args.grid.now b.content.op c.read_chain.new.reader b.file.layout c.in-Ok.ensures.complete (ap (λ (x : GridState). x.layout) c.requires.grid) c.into_parts-parts.ensures.sessions
+    of_complete (λ (l : Layout) (op : ℕ). AreRead l.clients op c.into_parts.result.sessions.items) c.args.grid.now b.content.op c.read_chain.new.reader b.file.layout c.in-Ok.ensures.complete (ap (λ (x : GridState). x.layout) c.requires.grid) c.into_parts.ensures.sessions

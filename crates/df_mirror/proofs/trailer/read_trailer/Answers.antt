@@ -11,10 +11,10 @@ use Rattle.df_mirror.specs.Walks.{HasText, ReadsText, content_of, units_of}
 use Rattle.df_mirror.proofs.Trailers.{no_text, pending_of, text_refused, text_untracked}
 use Rattle.df_mirror.proofs.trailer.read_trailer.Goals as goal
 
-pub returns-then-clause-reads : goal.returns-then-clause-reads
-returns-then-clause-reads g c = λ t told whole shown.
+pub returns-then-fields-eq0-clause-reads : goal.returns-then-fields-eq0-clause-reads
+returns-then-fields-eq0-clause-reads g c = λ t told whole shown.
     let b = c.args.base.now in
-    let none : b.content.trailer_address ≡ 0 = subst (λ (x : SuperFields). x.trailer_address ≡ 0) c.fields-fields.ensures.value c.if-eq0.true in
+    let none : b.content.trailer_address ≡ 0 = subst (λ (x : SuperFields). x.trailer_address ≡ 0) c.fields-fields.ensures.value c.if-fields-eq0.true in
     subst (λ (x : GridState). HasText b (units_of b t.shown) x c.new-sessions.result.sessions) (sym c.into_grid-grid.ensures) (no_text b (units_of b t.shown) c.fields-fields.ensures.usable.rules none)
 
 pub over-requires-clause-named : goal.over-requires-clause-named
