@@ -117,14 +117,14 @@ module _ (file : DataFile) (view : View) (t : Told) (older : List Log) (shown : 
       let same : from.view ≡ view = one_found_law (shape file) (units_in file (logs.now t.log)) from.view view (holds_found (shape file) (units_in file (logs.now t.log)) from.view (subst (λ (was : Units). Holds (shape file) was from.view) now_is from.holds)) found in
       (from.content ∙ ap (λ (v : View). v.checkpoint.content) same, subst (λ (v : View). Holds (shape file) (now log) v) same from.holds)
 
-  own_by : (rest : List Log) → IsLived (shape file) (log ∷ units_logs file rest) → HasWoken file (logs.add Sync t.log) rest → Holds (shape file) (now log) view → (k : ℕ) (r : Message) → r.header.boot ≡ boot_of view
+  own_by : (rest : List Log) → IsLived (shape file) (log ∷ units_logs file rest) → HasWoken file t.log rest → Holds (shape file) (now log) view → (k : ℕ) (r : Message) → r.header.boot ≡ boot_of view
       → InHistoryPool (log ∷ units_logs file rest) (ReplyPlace k) (ReplyUnit r) → InPool log (ReplyPlace k) (ReplyUnit r)
   own_by [] lived woken holds k r boot (inl pool) = pool
   own_by [] lived woken holds k r boot (inr none) = absurd none
   own_by (before ∷ rest) lived woken holds k r boot pool =
-      raised_own (shape file) log (histories.units_in file before) (units_logs file rest) view woken lived.1 (synced_settled (histories.units_in file t.log)) holds k r boot pool
+      raised_own (shape file) (histories.units_in file t.log) (histories.units_in file before) (units_logs file rest) view woken lived holds k r boot pool
 
-  module _ (hurt : IsHurtKnown file view.checkpoint.content t) (own : HasWoken file (logs.add Sync t.log) older ⊎ AreOwnReplies file view.checkpoint.content (logs.add Sync t.log) shown) (mended : (place : Place) → IsMendedOr file view.checkpoint.content t.shown shown place)
+  module _ (hurt : IsHurtKnown file view.checkpoint.content t) (own : HasWoken file t.log older ⊎ AreOwnReplies file view.checkpoint.content t.log shown) (mended : (place : Place) → IsMendedOr file view.checkpoint.content t.shown shown place)
       (chosen : IsChosen (units_in file shown) view.checkpoint.content) (all : AllShown (shape file) (units_in file shown) view.checkpoint.content) where
     own_replies : (k : ℕ) (r : Message) → units_in file shown (ReplyPlace k) ≡ Some (ReplyUnit r) → r.header.boot ≡ boot_of view → InPool log (ReplyPlace k) (ReplyUnit r)
     own_replies k r at boot = elim own [

@@ -9,14 +9,14 @@ use Rattle.df_theory.specs.View.{View, boot_of, head, sequence, sessions}
 use Rattle.df_theory.specs.Shows.{AgreesReply}
 use Rattle.df_theory.specs.Holds.{Holds, Sound}
 use Rattle.df_theory.specs.Next.{Append, AreInTurn, Boot, Finish, Next, Reply, Same}
-use Rattle.df_theory.specs.UnitLog.{Stopped, Synced, UnitEvent, UnitLog, Wrote, now, settled, settled_of}
+use Rattle.df_theory.specs.UnitLog.{Stopped, Synced, UnitEvent, UnitLog, Wrote, add, now, settled, settled_of}
 use Rattle.df_theory.specs.Chance.{InImages, InPool}
 use Rattle.df_theory.specs.First.{AreMade}
 use Rattle.df_theory.specs.Grown.{Begins, Grows, HasMade}
 use Rattle.df_theory.proofs.Laws.{made_reply, next_grew, no_choice, noted_get, one_view, sessions-append, sessions-drop}
 use Rattle.df_history.specs.Awakened.{IsAwakened}
 use Rattle.df_history.specs.Histories.{Among, GrowsOn, InHistoryPool, IsBegunAnew, IsFirstLog, IsLived, IsSettled, all_settled}
-use Rattle.df_history.proofs.Laws.{choice_stays_law}
+use Rattle.df_history.proofs.Laws.{choice_stays_law, synced_settled}
 
 -- ---- the images of one log
 
@@ -215,11 +215,18 @@ old_replies sh log (before ∷ logs) v lived sync holds k x (inr older) =
     let low = begun_low sh log before logs v lived.0 sync holds in
     (old.0, old.1, record { checkpoint = omega (arith, old.2.checkpoint, low.1); boot = omega (arith, old.2.boot, low.0); alone = old.2.alone })
 
--- where its boot was raised since it began, each reply of that boot is of its own pool
-pub raised_own : (sh : Shape) (log before : UnitLog) (logs : List UnitLog) (v : View) → IsAwakened sh log before logs → IsLived sh (before ∷ logs) → IsSettled log → Holds sh (now log) v
-    → (k : ℕ) (r : Message) → r.header.boot ≡ boot_of v → InHistoryPool (log ∷ before ∷ logs) (ReplyPlace k) (ReplyUnit r) → InPool log (ReplyPlace k) (ReplyUnit r)
-raised_own sh log before logs v raised lived sync holds k r own (inl pool) = pool
-raised_own sh log before logs v raised lived sync holds k r own (inr older) =
-    let old = old_start sh log before logs raised.begun lived (ReplyUnit r) (λ w had. old_replies sh before logs w lived raised.begun.start.settled_is had k (ReplyUnit r) older) in
+newest_among : (sh : Shape) (rest images : List Units) (v : View) → GrowsOn sh rest images v → (i : Units) × Among images i × Holds sh i v
+newest_among sh rest [] v grows = absurd grows
+newest_among sh rest (image ∷ []) v holds = (image, inl refl, holds)
+newest_among sh rest (image ∷ before ∷ images) v grows = (image, inl refl, grows.0)
+
+-- where its boot was raised since it began, each reply of that boot is of its own pool, behind a sync
+pub raised_own : (sh : Shape) (log before : UnitLog) (logs : List UnitLog) (v : View) → IsAwakened sh log before logs → IsLived sh (add Synced log ∷ before ∷ logs) → Holds sh (now log) v
+    → (k : ℕ) (r : Message) → r.header.boot ≡ boot_of v → InHistoryPool (add Synced log ∷ before ∷ logs) (ReplyPlace k) (ReplyUnit r) → InPool (add Synced log) (ReplyPlace k) (ReplyUnit r)
+raised_own sh log before logs v raised lived holds k r own (inl pool) = pool
+raised_own sh log before logs v raised lived holds k r own (inr older) =
+    let old = old_start sh log before logs raised.begun lived.1 (ReplyUnit r) (λ w had. old_replies sh before logs w lived.1 raised.begun.start.settled_is had k (ReplyUnit r) older) in
     let same : r ≡ old.0 = (let both : ReplyUnit r ≡ ReplyUnit old.0 = old.1 in cc) in
-    absurd (omega (arith, own, old.2.boot, raised.raised, ap (λ (q : Message). q.header.boot) same, ap boot_of (newest_is sh log before logs v raised.begun sync holds)))
+    let was = newest_among sh (all_settled (before ∷ logs)) (settled log) raised.begun.newest raised.begun.grows in
+    let low = among_low sh (all_settled (before ∷ logs)) (settled (add Synced log)) lived.0.newest lived.0.grows was.0 (inr was.1) raised.begun.newest was.2 in
+    absurd (omega (arith, own, old.2.boot, raised.raised, low.0, ap (λ (q : Message). q.header.boot) same, ap boot_of (newest_is sh (add Synced log) before logs v lived.0 (synced_settled log) holds)))

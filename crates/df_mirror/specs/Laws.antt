@@ -65,7 +65,7 @@ HasWoken file log (before ∷ logs) = HasRaised file log before logs
 
 -- no reply of the superblock's boot is shown that comes from before the newest log began
 abbrev pub AreOwnReplies : DataFile → Content → Log → Image → Type 0
-AreOwnReplies file c log image = (k : ℕ) (r : Message) → units_in file image (ReplyPlace k) ≡ Some (ReplyUnit r) → r.header.boot ≡ c.boot → InPool (units_log (format_of file.layout file.cluster) log) (ReplyPlace k) (ReplyUnit r)
+AreOwnReplies file c log image = (k : ℕ) (r : Message) → units_in file image (ReplyPlace k) ≡ Some (ReplyUnit r) → r.header.boot ≡ c.boot → InPool (units_log (format_of file.layout file.cluster) (add Sync log)) (ReplyPlace k) (ReplyUnit r)
 
 -- Over a lived history nothing was hurt but the sectors of known units and what of the superblock an open may miss, and no unit of what is shown at the end came about by chance. Then the next open, with rooms of the file's layout, finds the view that the log
 -- left, and isn't refused. The last open had come to its end. Where it was stopped before it raised the boot, no reply of that boot may come back from before it: in a hurt slot such a reply, which that open hadn't found, hides the recorded one, and it
@@ -74,6 +74,6 @@ abbrev pub MirroredIsOpened : Type 0
 MirroredIsOpened =
     (file : DataFile) (view : View) (c : Content) (second : Image) (t n : Told) (logs : List Log) (ms : List Mend)
     → IsFound (shape file) (units_in file (now t.log)) view → IsUnspent 2 view → IsHurtKnown file view.checkpoint.content t → MayReopen file t.log logs n.shown
-    → HasWoken file (add Sync t.log) logs ⊎ AreOwnReplies file view.checkpoint.content (add Sync t.log) n.shown
+    → HasWoken file t.log logs ⊎ AreOwnReplies file view.checkpoint.content t.log n.shown
     → IsImage t.shown → IsChosen (units_in file t.shown) c → AreMends file c second (did Sync t) ms → n ≡ told_after (events_of file ms) (did Sync t) → AllShown (shape file) (units_in file n.shown) c
     → IsFound (shape file) (units_in file n.shown) view × IsNotRefused file n.shown
