@@ -15,3 +15,4 @@ pub mod Trailers
 pub mod Ones
 pub mod Referenced
 pub mod Logs
+pub mod Ended

@@ -1,5 +1,6 @@
 -- How a run ends: the numbers of the statuses, and what each ending blames.
 use Rattle.std.specs.Prelude.{◌≡◌, ℕ, Bool, true, false}
+use Rattle.df_model.specs.declared.errors.OpenError.TheVariants.{DiskFault}
 use Rattle.df_mirror.specs.declared.ending.Ending.{Ending}
 use Rattle.df_mirror.specs.declared.ending.Ending.TheVariants.{First, Neither, Second, Sink, Unopened}
 use Rattle.df_mirror.specs.declared.status.Status.{Status}
@@ -18,6 +19,7 @@ number_of ends.Memory = 8
 -- the first file's disk failed
 abbrev pub is_first : Ending → Bool
 is_first First = true
+is_first (Unopened DiskFault) = true
 is_first e = false
 
 -- the second file's did

@@ -22,7 +22,6 @@ use std::alloc::Global;
 
 // The file of a superblock of version 2.
 fn superblock_of(content: Super) -> Superblock
-    requires { content.version ≡ 2 }
     ensures { result.content ≡ content }
 {
     let layout = content.layout();
@@ -31,7 +30,7 @@ fn superblock_of(content: Super) -> Superblock
         file: DataFile {
             layout,
             cluster: fields.cluster,
-            version: fields.version,
+            version: 2,
         },
         content,
     }

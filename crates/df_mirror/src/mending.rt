@@ -58,7 +58,7 @@ fn mend_log<A: Disk, B: Disk, W: Sink>(
 ) -> Result<u64, Ending>
     requires rooms { rooms.layout ≡ base.now.file.layout }
     requires places { sessions.max ≡ base.now.file.layout.clients }
-    requires few { length sessions.sessions ≤ base.now.file.layout.clients }
+    requires few { length sessions.sessions ≤ sessions.max }
     ensures mends { (t o : Told) → Tell t o (around (A.told first.old) (B.told second.old) (W.written sink.old)) → (says : ShowsTrailer (shape base.now.file) (units_of base.now t.shown) (content_of base.now)) → says.parts.sessions ≡ sessions_of sessions.sessions
         → Answers base.now.file (content_of base.now) AreLate t o (A.told first.new) (W.written sink.old) (W.written sink.new) result }
     ensures shown { (t o u : Told) → Tell t o (around (A.told first.old) (B.told second.old) (W.written sink.old)) → (says : ShowsTrailer (shape base.now.file) (units_of base.now t.shown) (content_of base.now)) → says.parts.sessions ≡ sessions_of sessions.sessions → A.told first.new ≡ Some u

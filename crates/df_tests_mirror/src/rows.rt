@@ -99,7 +99,7 @@ fn any_word_is_one_too_many(rt: HostRuntime) -> Result<(), Fail> {
         if ran.status != Status::Words || first.calls() != calls {
             return Err("another end of words without a meaning".into());
         }
-        if ran.text.as_slice() != USAGE.as_bytes() {
+        if ran.text.as_slice() != USAGE {
             return Err("another usage line".into());
         }
     }
