@@ -1,5 +1,5 @@
 // Second files that aren't the first one's twin: what they show at a known unit's place is taken only where it is that unit.
-use crate::files::{KNOWN, SESSION, expect_whole, hurt, of_another_cluster, recovered};
+use crate::files::{KNOWN, SESSION, expect_whole, hurt, hurt_all, of_another_cluster, recovered};
 use crate::shown::expect;
 use df_memdisk::MemoryDisk;
 use df_mirror::Status;
@@ -7,19 +7,13 @@ use df_runs::{blank, disk_behind, expect_words, made_file};
 use std::alloc::Global;
 use std::test::Fail;
 
-// That none of the known units of a recovered file is taken from this one.
+// That neither the trailer's block, nor a prepare, nor a reply of a recovered file is taken from this one.
 fn expect_none(alloc: Global, second: &mut MemoryDisk) -> Result<(), Fail> {
-    for (sector, line) in &KNOWN {
+    for (sector, line) in &[KNOWN[0], KNOWN[3], KNOWN[5]] {
         let mut first = recovered(alloc, &[])?;
         hurt(&mut first, *sector)?;
         let text = format!(in alloc; "refused Neither {line} Garbled\n")?;
-        expect(
-            alloc,
-            &mut first,
-            second,
-            text.as_str(),
-            Status::Refused,
-        )?;
+        expect(alloc, &mut first, second, text.as_str(), Status::Refused)?;
     }
     Ok(())
 }
@@ -41,9 +35,7 @@ fn a_file_of_another_layout_gives_nothing(rt: HostRuntime) -> Result<(), Fail> {
 fn an_empty_disk_and_garbage_give_nothing(rt: HostRuntime) -> Result<(), Fail> {
     let mut second = blank(rt.alloc(), &[])?;
     expect_none(rt.alloc(), &mut second)?;
-    for sector in 0..31 {
-        hurt(&mut second, sector)?;
-    }
+    hurt_all(&mut second)?;
     expect_none(rt.alloc(), &mut second)
 }
 
@@ -82,8 +74,8 @@ fn an_older_file_gives_what_is_the_same(rt: HostRuntime) -> Result<(), Fail> {
 #[test]
 fn a_newer_file_gives_what_is_left(rt: HostRuntime) -> Result<(), Fail> {
     let mut second = behind_a_checkpoint(rt.alloc())?;
+    let mut first = recovered(rt.alloc(), &[])?;
     for (sector, line) in &KNOWN {
-        let mut first = recovered(rt.alloc(), &[])?;
         hurt(&mut first, *sector)?;
         let text = format!(in rt.alloc(); "mended {line}\nmended 1\n")?;
         expect(
@@ -93,7 +85,6 @@ fn a_newer_file_gives_what_is_left(rt: HostRuntime) -> Result<(), Fail> {
             text.as_str(),
             Status::Found,
         )?;
-        expect_whole(rt.alloc(), &mut first)?;
     }
-    Ok(())
+    expect_whole(rt.alloc(), &mut first)
 }

@@ -22,80 +22,103 @@ fn stopped(alloc: Global, disk: MemoryDisk, sector: u64) -> Result<MemoryDisk, F
 }
 
 // A second run ends, and the file is as it was.
-fn expect_rest(alloc: Global, first: MemoryDisk) -> Result<(), Fail> {
+fn expect_rest(alloc: Global, first: MemoryDisk, second: &mut MemoryDisk) -> Result<(), Fail> {
     let mut first = first;
     for (sector, _line) in &KNOWN {
         first = stopped(alloc, first, *sector)?;
     }
-    let mut second = recovered(alloc, &[])?;
-    let ran = mend(alloc, &mut first, &mut second)?;
+    let ran = mend(alloc, &mut first, second)?;
     if ran.status != Status::Found && ran.status != Status::Done {
         return Err("a second run isn't done".into());
     }
     expect_whole(alloc, &mut first)
 }
 
-// How many calls were made of each disk before a mending of all known units, and behind it.
-fn calls(alloc: Global) -> Result<[u64; 4], Fail> {
+// How many calls were made of a disk before a mending of all known units, and behind it.
+fn calls(alloc: Global) -> Result<[u64; 2], Fail> {
     let mut first = recovered(alloc, &[])?;
     let mut second = recovered(alloc, &[])?;
     hurt_all(&mut first)?;
     let from = first.calls();
-    let other = second.calls();
     let ran = mend(alloc, &mut first, &mut second)?;
     if ran.status != Status::Found {
         return Err("not all is mended".into());
     }
-    Ok([from, first.calls(), other, second.calls()])
+    Ok([from, first.calls()])
 }
 
+// Fails this call of the first disk, stops, and mends again.
+fn expect_failing(alloc: Global, call: u64, second: &mut MemoryDisk) -> Result<(), Fail> {
+    let mut first = recovered(alloc, &[call])?;
+    hurt_all(&mut first)?;
+    let ran = mend(alloc, &mut first, second)?;
+    if ran.status != Status::DiskFault {
+        return Err("another end of a disk that fails".into());
+    }
+    expect_rest(alloc, first, second)
+}
+
+// The barrier, a copy, and the first unit's write and sync.
 #[test]
-fn each_call_of_the_first_disk_may_fail(rt: HostRuntime) -> Result<(), Fail> {
-    let [from, to, _, _] = calls(rt.alloc())?;
-    for before in from..to {
-        let mut first = recovered(rt.alloc(), &[before + 1])?;
-        let mut second = recovered(rt.alloc(), &[])?;
-        hurt_all(&mut first)?;
-        let ran = mend(rt.alloc(), &mut first, &mut second)?;
-        if ran.status != Status::DiskFault {
-            return Err("another end of a disk that fails".into());
-        }
-        expect_rest(rt.alloc(), first)?;
+fn the_first_calls_may_fail(rt: HostRuntime) -> Result<(), Fail> {
+    let [from, _to] = calls(rt.alloc())?;
+    let mut second = recovered(rt.alloc(), &[])?;
+    for call in [1, 3, 7, 8] {
+        expect_failing(rt.alloc(), from + call, &mut second)?;
+    }
+    Ok(())
+}
+
+// The write and the sync of the last two units.
+#[test]
+fn the_last_calls_may_fail(rt: HostRuntime) -> Result<(), Fail> {
+    let [_from, to] = calls(rt.alloc())?;
+    let mut second = recovered(rt.alloc(), &[])?;
+    for call in [0, 1, 4, 5] {
+        expect_failing(rt.alloc(), to.saturating_sub(call), &mut second)?;
+    }
+    Ok(())
+}
+
+// Reads, writes and syncs of the block and of the prepares.
+#[test]
+fn the_calls_in_between_may_fail(rt: HostRuntime) -> Result<(), Fail> {
+    let [from, _to] = calls(rt.alloc())?;
+    let mut second = recovered(rt.alloc(), &[])?;
+    for call in [11, 12, 14, 15, 18] {
+        expect_failing(rt.alloc(), from + call, &mut second)?;
     }
     Ok(())
 }
 
 #[test]
-fn each_call_of_the_second_disk_may_fail(rt: HostRuntime) -> Result<(), Fail> {
-    let [_, _, from, to] = calls(rt.alloc())?;
-    if to - from != 6 {
-        return Err("the second disk is read of another number of units".into());
-    }
-    for before in from..to {
+fn the_second_disk_may_fail(rt: HostRuntime) -> Result<(), Fail> {
+    let [from, _to] = calls(rt.alloc())?;
+    for call in [1, 6] {
         let mut first = recovered(rt.alloc(), &[])?;
-        let mut second = recovered(rt.alloc(), &[before + 1])?;
+        let mut second = recovered(rt.alloc(), &[from + call])?;
         hurt_all(&mut first)?;
         let ran = mend(rt.alloc(), &mut first, &mut second)?;
         if ran.status != Status::DiskFault {
             return Err("another end of a second disk that fails".into());
         }
-        expect_rest(rt.alloc(), first)?;
+        expect_rest(rt.alloc(), first, &mut second)?;
     }
     Ok(())
 }
 
 #[test]
-fn each_call_of_the_sink_may_fail(rt: HostRuntime) -> Result<(), Fail> {
-    for failing in 1..8 {
+fn the_sink_may_fail(rt: HostRuntime) -> Result<(), Fail> {
+    let mut second = recovered(rt.alloc(), &[])?;
+    for failing in [1, 4, 7] {
         let mut first = recovered(rt.alloc(), &[])?;
-        let mut second = recovered(rt.alloc(), &[])?;
         hurt_all(&mut first)?;
         let none = words(rt.alloc(), &[])?;
         let ran = run_failing(rt.alloc(), &mut first, &mut second, &none, &[failing])?;
         if ran.status != Status::WriteFault {
             return Err("another end of a sink that fails".into());
         }
-        expect_rest(rt.alloc(), first)?;
+        expect_rest(rt.alloc(), first, &mut second)?;
     }
     Ok(())
 }
