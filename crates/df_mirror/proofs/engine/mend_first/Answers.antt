@@ -31,8 +31,8 @@ returns-in-Ok-survey_superblock-clause-memory g c = λ is. record { written = (c
 
 -- ---- it isn't
 
-pub returns-in-Err-survey_superblock-clause-runs : goal.returns-in-Err-survey_superblock-clause-runs
-returns-in-Err-survey_superblock-clause-runs g c = λ t o tell.
+pub returns-clause-runs : goal.returns-clause-runs
+returns-clause-runs g c = λ t o tell.
     let old = around (g.A.Disk.told c.args.first.now) (g.B.Disk.told c.args.second.now) (g.W.Sink.written c.args.sink.now) in
     let new = around (g.A.Disk.told c.survey_superblock.new.disk) (g.B.Disk.told c.args.second.now) (g.W.Sink.written c.refuse.new.sink) in
     elim (not_found _ c.in-Err-survey_superblock.error old new c.refuse.result c.in-Err-survey_superblock.ensures.barrier c.refuse.ensures.prints t tell.first c.in-Err-survey_superblock.ensures.answer) [
@@ -40,20 +40,20 @@ returns-in-Err-survey_superblock-clause-runs g c = λ t o tell.
       | inr refused ↦ inr (inl refused)
     ]
 
-pub returns-in-Err-survey_superblock-clause-causes : goal.returns-in-Err-survey_superblock-clause-causes
-returns-in-Err-survey_superblock-clause-causes g c =
+pub returns-clause-causes : goal.returns-clause-causes
+returns-clause-causes g c =
     open_causes (counts (g.A.Disk.faults c.args.first.now) (g.B.Disk.faults c.args.second.now) (g.W.Sink.faults c.args.sink.now))
     (counts (g.A.Disk.faults c.survey_superblock.new.disk) (g.B.Disk.faults c.args.second.now) (g.W.Sink.faults c.refuse.new.sink)) (g.W.Sink.written c.args.sink.now) (g.W.Sink.written c.refuse.new.sink) c.refuse.result
     _ c.in-Err-survey_superblock.error c.in-Err-survey_superblock.ensures.cause refl c.refuse.ensures.sink c.refuse.ensures.prints
 
-pub returns-in-Err-survey_superblock-clause-memory : goal.returns-in-Err-survey_superblock-clause-memory
-returns-in-Err-survey_superblock-clause-memory g c = λ is.
+pub returns-clause-memory : goal.returns-clause-memory
+returns-clause-memory g c = λ is.
     let old = around (g.A.Disk.told c.args.first.now) (g.B.Disk.told c.args.second.now) (g.W.Sink.written c.args.sink.now) in
     let new = around (g.A.Disk.told c.survey_superblock.new.disk) (g.B.Disk.told c.args.second.now) (g.W.Sink.written c.refuse.new.sink) in
     absurd ((not_found_otherwise _ c.in-Err-survey_superblock.error old new c.refuse.result c.in-Err-survey_superblock.ensures.barrier c.refuse.ensures.prints).0 is)
 
-pub returns-in-Err-survey_superblock-clause-words : goal.returns-in-Err-survey_superblock-clause-words
-returns-in-Err-survey_superblock-clause-words g c =
+pub returns-clause-words : goal.returns-clause-words
+returns-clause-words g c =
     let old = around (g.A.Disk.told c.args.first.now) (g.B.Disk.told c.args.second.now) (g.W.Sink.written c.args.sink.now) in
     let new = around (g.A.Disk.told c.survey_superblock.new.disk) (g.B.Disk.told c.args.second.now) (g.W.Sink.written c.refuse.new.sink) in
     (not_found_otherwise _ c.in-Err-survey_superblock.error old new c.refuse.result c.in-Err-survey_superblock.ensures.barrier c.refuse.ensures.prints).1
