@@ -1,5 +1,5 @@
 -- What the end of a mending says, and whom it blames.
-use Rattle.std.proofs.Common.{◌≡◌, ◌⊎◌, ◌==◌, inl, inr, ℕ, ◌≤◌, Bool, true, false, List, Option, Some, refl, sym, ◌∙◌, ap, subst, arith}
+use Rattle.std.proofs.Common.{◌≡◌, ◌⊎◌, ◌==◌, inl, inr, ℕ, ◌≤◌, Bool, true, false, List, Option, None, Some, refl, sym, ◌∙◌, ap, subst, arith, eqb-true}
 use Rattle.std.specs.Prelude.{Result, Ok, Err, if◌then◌else◌}
 use Rattle.df_base.specs.Causes.{Blamed, IsBlamed, Rose}
 use Rattle.df_base.specs.Image.{Image}
@@ -10,7 +10,9 @@ use Rattle.df_model.specs.declared.errors.OpenError.{OpenError}
 use Rattle.df_model.specs.declared.errors.OpenError.TheVariants as opens
 use Rattle.df_model.specs.Faults.{is_open_fault}
 use Rattle.df_damage.specs.Surveys.{HasFile}
+use Rattle.df_format.specs.SuperRules.{fault_of}
 use Rattle.df_format.specs.declared.superblock.SuperFields.{SuperFields}
+use Rattle.df_format.specs.declared.superblock.SuperFault.TheVariants.{Version as OtherVersion}
 use Rattle.df_opening.specs.Below.{Refuses}
 use Rattle.df_damage.specs.Found.{Syncs, TellsFoundAs}
 use Rattle.df_damage.specs.Opening.{HasSuperAs}
@@ -52,6 +54,12 @@ memory_or ends.WriteFault = inr (λ no. cc)
 abbrev pub EndsOtherwise : Status → Type 0
 EndsOtherwise status = (status ≡ ends.Memory → ⊥) × (status ≡ ends.Words → ⊥)
 
+pub refusal_otherwise : (e : OpenError) (old new : Option (List ℕ)) (status : Status) → PrintsError ends.Refused ends.DiskFault ends.WriteFault e old new status → EndsOtherwise status
+refusal_otherwise e old new status prints = (
+  refusal_ends ends.Refused ends.DiskFault ends.WriteFault ends.Memory e old new status prints (λ no. cc) (λ no. cc) (λ no. cc),
+  refusal_ends ends.Refused ends.DiskFault ends.WriteFault ends.Words e old new status prints (λ no. cc) (λ no. cc) (λ no. cc),
+)
+
 pub tells_otherwise : (result : Result ℕ Ending) (old new : Option (List ℕ)) (status : Status) → Tells result old new status → EndsOtherwise status
 tells_otherwise (Ok count) old new status tells = (
   text_ends ends.WriteFault (count_text count) (ended count) ends.Memory old new status tells (ended_not count ends.Memory (λ no. cc) (λ no. cc)) (λ no. cc),
@@ -61,10 +69,7 @@ tells_otherwise (Err (Neither place class)) old new status tells = (
   text_ends ends.WriteFault (neither_text place class) ends.Refused ends.Memory old new status tells (λ no. cc) (λ no. cc),
   text_ends ends.WriteFault (neither_text place class) ends.Refused ends.Words old new status tells (λ no. cc) (λ no. cc),
 )
-tells_otherwise (Err (Unopened e)) old new status tells = (
-  refusal_ends ends.Refused ends.DiskFault ends.WriteFault ends.Memory e old new status tells (λ no. cc) (λ no. cc) (λ no. cc),
-  refusal_ends ends.Refused ends.DiskFault ends.WriteFault ends.Words e old new status tells (λ no. cc) (λ no. cc) (λ no. cc),
-)
+tells_otherwise (Err (Unopened e)) old new status tells = refusal_otherwise e old new status tells
 tells_otherwise (Err First) old new status tells = let is = tells.0 in (λ memory. cc (is, memory), λ words. cc (is, words))
 tells_otherwise (Err Second) old new status tells = let is = tells.0 in (λ memory. cc (is, memory), λ words. cc (is, words))
 tells_otherwise (Err Sink) old new status tells = let is = tells.0 in (λ memory. cc (is, memory), λ words. cc (is, words))
@@ -173,13 +178,15 @@ module _ (T : Type 0) (e : OpenError) (old new : Outside) (status : Status) (bar
       })
   ]
 
-  pub not_found_otherwise : EndsOtherwise status
-  not_found_otherwise = (
-    refusal_ends ends.Refused ends.DiskFault ends.WriteFault ends.Memory e old.written new.written status prints (λ no. cc) (λ no. cc) (λ no. cc),
-    refusal_ends ends.Refused ends.DiskFault ends.WriteFault ends.Words e old.written new.written status prints (λ no. cc) (λ no. cc) (λ no. cc),
-  )
-
 -- ---- it can
+
+-- a survey for version 2 finds no other one
+of_version : (t : Bool) (f : SuperFields) → (f.version == 2) ≡ t → (if t then fault_of f else Some (OtherVersion f.version)) ≡ None → f.version ≡ 2
+of_version true f test usable = eqb-true f.version 2 test
+of_version false f test usable = absurd (let no : Some (OtherVersion f.version) ≡ None = usable in cc)
+
+pub version_found : (image : Image) (f : SuperFields) → HasSuperAs 2 image f → f.version ≡ 2
+version_found image f super = of_version (f.version == 2) f refl super.usable
 
 pub has_file : (b : Superblock) (image : Image) (f : SuperFields) → HasSuperAs 2 image f → b.content ≡ f → HasFile image b.file b.content
 has_file b image f super same = record {

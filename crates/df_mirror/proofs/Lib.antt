@@ -16,3 +16,8 @@ pub mod Ones
 pub mod Referenced
 pub mod Logs
 pub mod Ended
+pub mod Named
+pub mod AtHead
+pub mod HeadSessions
+pub mod RingSeen
+pub mod Recorded

@@ -148,13 +148,13 @@ module _ (b : Superblock) (t o : Told) (old mid : Outside) (a : ℕ) (tell : Tel
 pub all_shown : (b : Superblock) (grid : GridState) (ss : List Session) (image now : Units) → ShowsBlocks b image grid ss b.file.layout.blocks → ShowsLog b image now → AllShown (shape b.file) now (content_of b)
 all_shown b grid ss image now blocks log = by
   where
-    says : ShowsTrailer (shape b.file) now (content_of b)
-    says = trailer_there (shape b.file) image now (content_of b) blocks.has.says (λ a x at. log.blocks a)
-
     by : (kind : Kind) (place : Place) (sum : ℕ) → IsKnown (shape b.file) now (content_of b) kind place sum → IsShownAs now kind place sum
-    by Trailer (BlockPlace a) sum known = shown_block now a sum (all_of_it (shape b.file) now (content_of b) says a sum known)
+    by Trailer (BlockPlace a) sum known =
+        let says = trailer_there (shape b.file) image now (content_of b) blocks.has.says (λ e x at. log.blocks e) in
+        shown_block now a sum (all_of_it (shape b.file) now (content_of b) says a sum known)
     by AsBlock (BlockPlace a) sum known =
-        let parts : known.says.parts ≡ says.parts = one_trailer (shape b.file) now (content_of b) known.says says in
+        let says = trailer_there (shape b.file) image now (content_of b) blocks.has.says (λ e x at. log.blocks e) in
+        let parts : known.says.parts ≡ blocks.has.says.parts = one_trailer (shape b.file) now (content_of b) known.says says in
         let reference : blocks.has.says.parts.references a ≡ Some sum = ap (λ (p : Parts). p.references a) (sym parts) ∙ known.reference in
         shown_there image now AsBlock (BlockPlace a) sum (log.blocks a) (blocks.shown a sum (blocks.has.inside a sum reference).1 (blocks.has.live a ∙ reference))
     by Prepare (PreparePlace s) sum known = log.prepares (PreparePlace s) sum known

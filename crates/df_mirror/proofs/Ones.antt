@@ -50,5 +50,5 @@ wanted_block sh image c says a k reads =
     wants image room c says.chain reads.read c.trailer c.trailer_checksum a k says.trailer.links says.shown reads.arrives (omega (arith, reads.more, most))
 
 -- a trailer is shown wherever its chain is
-pub trailer_there : (sh : Shape) (image other : Units) (c : Content) (says : ShowsTrailer sh image c) → ((a : ℕ) (b : Block) → InChain a b says.chain → other (BlockPlace a) ≡ image (BlockPlace a)) → ShowsTrailer sh other c
+abbrev pub trailer_there : (sh : Shape) (image other : Units) (c : Content) (says : ShowsTrailer sh image c) → ((a : ℕ) (b : Block) → InChain a b says.chain → other (BlockPlace a) ≡ image (BlockPlace a)) → ShowsTrailer sh other c
 trailer_there sh image other c says same = record { chain = says.chain; parts = says.parts; trailer = says.trailer; shown = λ a b at. same a b at ∙ says.shown a b at }

@@ -177,6 +177,9 @@ text_untracked b image g ss n named text lacking = inl (inr (inr (inr (refl, rec
 
 -- ---- no trailer
 
+pub grid_is : (b : Superblock) (g : GridState) (l : Layout) → g ≡ record { layout = l; cluster = b.file.cluster; boot = 0; blocks = no_blocks } → l ≡ b.file.layout → g ≡ empty_grid b
+grid_is b g l is same = subst (λ (x : Layout). g ≡ record { layout = x; cluster = b.file.cluster; boot = 0; blocks = no_blocks }) same is
+
 pub no_text : (b : Superblock) (image : Units) → IsSuper b.content → b.content.trailer_address ≡ 0 → HasText b image (empty_grid b) []
 no_text b image usable none =
     let is = reference b usable in

@@ -1,5 +1,5 @@
 // The program: it has no words, and takes its memory once the first file's layout is known.
-ghost use Rattle.std.specs.Prelude.{◌≡◌, ◌⊎◌, ◌≢◌, [], map, string_bytes, Err, IfOk};
+ghost use Rattle.std.specs.Prelude.{◌≡◌, ◌⊎◌, ◌≢◌, [], map, string_bytes, Err, IfNone, IfOk, IfSome};
 ghost use Rattle.df_base.specs.Log.{Sync};
 ghost use Rattle.df_disk.specs.Told.{Told, after};
 ghost use Rattle.df_mirror.specs.Outside.{Blames, HasCauses, PrintsError, Tell, Writes, around, counts};
@@ -20,20 +20,24 @@ use df_opening::{DataFile, OpenError, Rooms, survey_superblock};
 use df_telling::{end_with, refuse_file};
 use std::alloc::Global;
 
-// The file of a superblock of version 2.
-fn superblock_of(content: Super) -> Superblock
-    ensures { result.content ≡ content }
+// The file of a superblock, and no file where that isn't of version 2.
+fn superblock_of(content: Super) -> Option<Superblock>
+    ensures some { IfSome result (λ base. base.content ≡ content) }
+    ensures none { IfNone result (content.version ≢ 2) }
 {
     let layout = content.layout();
     let fields = content.fields();
-    Superblock {
+    if fields.version != 2 {
+        return None;
+    }
+    Some(Superblock {
         file: DataFile {
             layout,
             cluster: fields.cluster,
             version: 2,
         },
         content,
-    }
+    })
 }
 
 // Takes all the memory of a mending over a layout.
@@ -122,7 +126,11 @@ fn mend_first<A: Disk, B: Disk, W: Sink>(
         return Status::Memory;
     };
     match survey_superblock(first, &mut room, 2) {
-        Ok(found) => mend_file(alloc, first, second, sink, &superblock_of(found.content)),
+        Ok(found) => match superblock_of(found.content) {
+            Some(base) => mend_file(alloc, first, second, sink, &base),
+            // A survey for version 2 finds no other one.
+            None => refuse(sink, &OpenError::NotFormatted),
+        },
         Err(error) => refuse(sink, &error),
     }
 }

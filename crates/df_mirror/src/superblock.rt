@@ -1,6 +1,6 @@
 // The superblock that a mending goes by.
-ghost use Rattle.std.specs.Prelude.{◌≡◌};
-ghost use Rattle.df_format.specs.SuperRules.{IsUsable};
+ghost use Rattle.std.specs.Prelude.{◌≡◌, drop};
+ghost use Rattle.df_format.specs.Super.{AreNone};
 ghost use Rattle.df_units.specs.Superblocks.{AreFieldsOf};
 
 use df_format::Super;
@@ -13,5 +13,6 @@ pub(crate) struct Superblock {
     pub(crate) content: Super,
     pub(crate) ghost fields: { AreFieldsOf file.layout file.cluster content },
     pub(crate) ghost version: { file.version ≡ 2 },
-    pub(crate) ghost usable: { IsUsable content },
+    pub(crate) ghost second: { content.version ≡ 2 },
+    pub(crate) ghost spare: { AreNone (drop content.clients content.reply_checksums) },
 }

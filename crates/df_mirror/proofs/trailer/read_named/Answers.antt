@@ -21,7 +21,7 @@ pub returns-in-Ok-clause-reads : goal.returns-in-Ok-clause-reads
 returns-in-Ok-clause-reads g c = λ t told whole.
     let b = c.args.base.now in
     let layout = ap (λ (x : GridState). x.layout) c.requires.grid in
-    named_text b c.fields-fields.ensures.usable.rules t whole c.read_chain.new.grid c.read_chain.new.reader c.into_parts.result c.requires.named
+    named_text b c.fields.ensures.usable.rules t whole c.read_chain.new.grid c.read_chain.new.reader c.into_parts.result c.requires.named
     (told_answer b c.args.grid.now c.read_chain.new.grid c.read_chain.new.reader (Ok tt) (g.A.Disk.told c.args.first.now) c.requires.grid (c.in-Ok.ensures.answer (shape b.file) (ap layout_of (sym layout)) refl) t told)
     (c.in-Ok.ensures.grid.layout ∙ layout) c.into_parts.ensures.parts
 
