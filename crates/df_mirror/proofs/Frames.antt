@@ -39,7 +39,7 @@ abbrev pub Misses : List Mend → Place → Type 0
 Misses [] place = Unit {0}
 Misses (m ∷ ms) place = (m.place ≡ place → ⊥) × Misses ms place
 
-put_elsewhere : (at place : Place) (x : AnyUnit) → (at ≡ place → ⊥) → put_one at x place ≡ None
+pub put_elsewhere : (at place : Place) (x : AnyUnit) → (at ≡ place → ⊥) → put_one at x place ≡ None
 put_elsewhere at place x other = by (put_one at x place) refl
   where
     by : (o : Option AnyUnit) → put_one at x place ≡ o → put_one at x place ≡ None

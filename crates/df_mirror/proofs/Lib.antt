@@ -21,3 +21,4 @@ pub mod AtHead
 pub mod HeadSessions
 pub mod RingSeen
 pub mod Recorded
+pub mod Stays

@@ -2,7 +2,6 @@
 use crate::files::{KNOWN, SESSION, expect_whole, hurt, hurt_all, of_another_cluster, recovered};
 use crate::shown::expect;
 use df_memdisk::MemoryDisk;
-use df_mirror::Status;
 use df_runs::{blank, disk_behind, expect_words, made_file};
 use std::alloc::Global;
 use std::test::Fail;
@@ -13,7 +12,7 @@ fn expect_none(alloc: Global, second: &mut MemoryDisk) -> Result<(), Fail> {
         let mut first = recovered(alloc, &[])?;
         hurt(&mut first, *sector)?;
         let text = format!(in alloc; "refused Neither {line} Garbled\n")?;
-        expect(alloc, &mut first, second, text.as_str(), Status::Refused)?;
+        expect(alloc, &mut first, second, text.as_str())?;
     }
     Ok(())
 }
@@ -51,24 +50,12 @@ fn an_older_file_gives_what_is_the_same(rt: HostRuntime) -> Result<(), Fail> {
     let mut first = behind_a_checkpoint(rt.alloc())?;
     hurt(&mut first, 23)?;
     let text = "mended Grid 1\nmended 1\n";
-    expect(
-        rt.alloc(),
-        &mut first,
-        &mut second,
-        text,
-        Status::Found,
-    )?;
+    expect(rt.alloc(), &mut first, &mut second, text)?;
     expect_words(rt.alloc(), &mut first, &["scrub"], "tour 2 0\n")?;
     let mut first = behind_a_checkpoint(rt.alloc())?;
     hurt(&mut first, 25)?;
     let text = "refused Neither Grid 3 Garbled\n";
-    expect(
-        rt.alloc(),
-        &mut first,
-        &mut second,
-        text,
-        Status::Refused,
-    )
+    expect(rt.alloc(), &mut first, &mut second, text)
 }
 
 #[test]
@@ -78,13 +65,7 @@ fn a_newer_file_gives_what_is_left(rt: HostRuntime) -> Result<(), Fail> {
     for (sector, line) in &KNOWN {
         hurt(&mut first, *sector)?;
         let text = format!(in rt.alloc(); "mended {line}\nmended 1\n")?;
-        expect(
-            rt.alloc(),
-            &mut first,
-            &mut second,
-            text.as_str(),
-            Status::Found,
-        )?;
+        expect(rt.alloc(), &mut first, &mut second, text.as_str())?;
     }
     expect_whole(rt.alloc(), &mut first)
 }

@@ -29,20 +29,8 @@ fn blocks_come_back_from_a_second_file(rt: HostRuntime) -> Result<(), Fail> {
     let mut first = struck_file(rt.alloc())?;
     let mut second = file_of_five(rt.alloc())?;
     let text = "mended Grid 2\nmended Grid 4\nmended 2\n";
-    expect(
-        rt.alloc(),
-        &mut first,
-        &mut second,
-        text,
-        Status::Found,
-    )?;
-    expect(
-        rt.alloc(),
-        &mut first,
-        &mut second,
-        "mended 0\n",
-        Status::Done,
-    )?;
+    expect(rt.alloc(), &mut first, &mut second, text)?;
+    expect(rt.alloc(), &mut first, &mut second, "mended 0\n")?;
     expect_words(rt.alloc(), &mut first, &["scrub"], "tour 6 0\n")
 }
 
@@ -52,13 +40,7 @@ fn a_block_that_both_lost_is_named(rt: HostRuntime) -> Result<(), Fail> {
     let mut second = file_of_five(rt.alloc())?;
     hurt(&mut second, 84)?;
     let text = "refused Neither Grid 2 Garbled\n";
-    expect(
-        rt.alloc(),
-        &mut first,
-        &mut second,
-        text,
-        Status::Refused,
-    )
+    expect(rt.alloc(), &mut first, &mut second, text)
 }
 
 #[test]
@@ -66,25 +48,13 @@ fn a_first_file_may_be_refused(rt: HostRuntime) -> Result<(), Fail> {
     let mut second = file_of_five(rt.alloc())?;
     let mut first = blank(rt.alloc(), &[])?;
     let text = "refused NotFormatted\n";
-    expect(
-        rt.alloc(),
-        &mut first,
-        &mut second,
-        text,
-        Status::Refused,
-    )?;
+    expect(rt.alloc(), &mut first, &mut second, text)?;
     let mut first = file_of_five(rt.alloc())?;
     for sector in 0..3 {
         hurt(&mut first, sector)?;
     }
     let text = "refused NoQuorum Garbled Garbled Garbled Stale\n";
-    expect(
-        rt.alloc(),
-        &mut first,
-        &mut second,
-        text,
-        Status::Refused,
-    )
+    expect(rt.alloc(), &mut first, &mut second, text)
 }
 
 #[test]

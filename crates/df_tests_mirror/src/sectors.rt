@@ -2,20 +2,18 @@
 use crate::files::{KNOWN, appended, expect_whole, hurt, hurt_all, recovered};
 use crate::shown::expect;
 use df_memdisk::MemoryDisk;
-use df_mirror::Status;
 use df_runs::{disk_behind, expect_words};
 use std::alloc::Global;
 use std::test::Fail;
 
-// What a mending prints where this sector was lost, and how it ends.
-fn lines_of(alloc: Global, sector: u64) -> Result<(String, Status), Fail> {
+// What a mending prints where this sector was lost.
+fn lines_of(alloc: Global, sector: u64) -> Result<String, Fail> {
     for (known, line) in &KNOWN {
         if *known == sector {
-            let text = format!(in alloc; "mended {line}\nmended 1\n")?;
-            return Ok((text, Status::Found));
+            return Ok(format!(in alloc; "mended {line}\nmended 1\n")?);
         }
     }
-    Ok((String::from_str(alloc, "mended 0\n")?, Status::Done))
+    Ok(String::from_str(alloc, "mended 0\n")?)
 }
 
 // The sectors in turn, over one file.
@@ -24,8 +22,8 @@ fn expect_each(alloc: Global, from: u64, to: u64) -> Result<(), Fail> {
     let mut first = recovered(alloc, &[])?;
     for sector in from..to {
         hurt(&mut first, sector)?;
-        let (text, status) = lines_of(alloc, sector)?;
-        expect(alloc, &mut first, &mut second, text.as_str(), status)?;
+        let text = lines_of(alloc, sector)?;
+        expect(alloc, &mut first, &mut second, text.as_str())?;
     }
     expect_whole(alloc, &mut first)
 }
@@ -51,13 +49,7 @@ fn all_of_them_come_back_in_order(rt: HostRuntime) -> Result<(), Fail> {
         text.push_str(line.as_str())?;
     }
     text.push_str("mended 6\n")?;
-    expect(
-        rt.alloc(),
-        &mut first,
-        &mut second,
-        text.as_str(),
-        Status::Found,
-    )?;
+    expect(rt.alloc(), &mut first, &mut second, text.as_str())?;
     expect_whole(rt.alloc(), &mut first)
 }
 
@@ -69,13 +61,7 @@ fn a_unit_that_both_lost_is_named(rt: HostRuntime) -> Result<(), Fail> {
         hurt(&mut first, *sector)?;
         hurt(&mut second, *sector)?;
         let text = format!(in rt.alloc(); "refused Neither {line} Garbled\n")?;
-        expect(
-            rt.alloc(),
-            &mut first,
-            &mut second,
-            text.as_str(),
-            Status::Refused,
-        )?;
+        expect(rt.alloc(), &mut first, &mut second, text.as_str())?;
     }
     Ok(())
 }
@@ -90,13 +76,7 @@ fn a_prepare_above_the_head_is_not_known(rt: HostRuntime) -> Result<(), Fail> {
     let mut first = later(rt.alloc())?;
     let mut second = later(rt.alloc())?;
     hurt(&mut first, 9)?;
-    expect(
-        rt.alloc(),
-        &mut first,
-        &mut second,
-        "mended 0\n",
-        Status::Done,
-    )?;
+    expect(rt.alloc(), &mut first, &mut second, "mended 0\n")?;
     let text = "refused Damaged WalPrepares 4 Garbled\n";
     expect_words(rt.alloc(), &mut first, &["recover"], text)
 }
@@ -109,13 +89,7 @@ fn a_reply_to_an_earlier_request_is_not_known(rt: HostRuntime) -> Result<(), Fai
         hurt(&mut first, sector)?;
     }
     let text = "mended ClientReplies 1\nmended 1\n";
-    expect(
-        rt.alloc(),
-        &mut first,
-        &mut second,
-        text,
-        Status::Found,
-    )
+    expect(rt.alloc(), &mut first, &mut second, text)
 }
 
 #[test]
@@ -124,13 +98,7 @@ fn a_reply_that_is_newer_stays(rt: HostRuntime) -> Result<(), Fail> {
     let mut first = disk_behind(rt.alloc(), recovered(rt.alloc(), &[])?, script)?;
     let mut second = recovered(rt.alloc(), &[])?;
     hurt(&mut first, 9)?;
-    expect(
-        rt.alloc(),
-        &mut first,
-        &mut second,
-        "mended 0\n",
-        Status::Done,
-    )
+    expect(rt.alloc(), &mut first, &mut second, "mended 0\n")
 }
 
 #[test]
@@ -139,13 +107,7 @@ fn what_a_session_appended_is_not_known(rt: HostRuntime) -> Result<(), Fail> {
     for sector in [7, 8] {
         let mut first = appended(rt.alloc(), &[])?;
         hurt(&mut first, sector)?;
-        expect(
-            rt.alloc(),
-            &mut first,
-            &mut second,
-            "mended 0\n",
-            Status::Done,
-        )?;
+        expect(rt.alloc(), &mut first, &mut second, "mended 0\n")?;
     }
     Ok(())
 }
