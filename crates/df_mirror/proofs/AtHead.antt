@@ -9,7 +9,9 @@ use Rattle.std.proofs.lemmas.Option.{same_Some, slice_get-get_or, slice_get-map,
 use Rattle.df_base.specs.Image.{IsImage}
 use Rattle.df_disk.specs.Told.{Told}
 use Rattle.df_format.specs.declared.kind.Kind.TheVariants.{Reply}
+use Rattle.df_format.specs.declared.superblock.SuperFields.{SuperFields}
 use Rattle.df_format.specs.Spelling.{IsCheck, no_checksum}
+use Rattle.df_format.specs.SuperRules.{IsUsable}
 use Rattle.df_journal.specs.Scan.{Scan}
 use Rattle.df_journal.specs.Shows.{ShowsHeader, ShowsPrepare, TellsRings}
 use Rattle.df_sessions.specs.declared.session.Session.{Session}
@@ -118,7 +120,7 @@ module _ (b : Superblock) (image : Units) (slots : Scan) (table : Table) (k : �
       session = session_of s;
       at = session_there;
       sum_is = sym (recorded_sum b k check sum);
-      some = elim (cases_lt 0 (number_of check)) [ inl above ↦ above | inr zero ↦ absurd (some (one_number check no_checksum fits zeros_check (omega (arith, zero, no_number)))) ];
+      some = elim (cases_lt 0 (number_of check)) [ inl above ↦ above | inr none ↦ absurd (some (one_number check no_checksum fits zeros_check (omega (arith, none, no_number)))) ];
       no_reply = λ r shown boot. elim (cases_lt (content_of b).replies r.header.op) [ inl above ↦ absurd (no_newer (r, shown, boot, above)) | inr within ↦ within ];
       no_prepare = λ n p shown boot above client. no_later (n, p, shown, record { boot = boot; above = above; of_client = client });
     }
@@ -155,14 +157,14 @@ module _ (b : Superblock) (slots : Scan) (table : Table) (k : ℕ) (t o : Told) 
   }
 
   module _ (check : List ℕ) (sum_at : slice_get b.content.reply_checksums k ≡ Some check) (known : (HasNewer b (units_of b t.shown) k → ⊥) → IsRecorded (shape b.file) (units_of b t.shown) (content_of b) k (number_of check)) where
-    pub reply_failed : {T : Type 0} (e : Ending) → MendsRecorded b k check {T = T} t o old new (Err e) → MendsReply b slots table k {T = T} t o old new (Err e)
+    reply_failed : {T : Type 0} (e : Ending) → MendsRecorded b k check {T = T} t o old new (Err e) → MendsReply b slots table k {T = T} t o old new (Err e)
     reply_failed e mends = record { answers = answers_with b.file (content_of b) _ (AreOfKind Reply) t o new.first old.written new.written (Err e) (kind_at Reply (ReplyPlace k)) (mends.answers known); shown = λ u is. tt }
 
-    pub reply_mended : {T : Type 0} (room : T) (more : ℕ) → MendsRecorded b k check t o old new (Ok (room, more)) → MendsReply b slots table k t o old new (Ok (room, more))
-    reply_mended room more mends = record {
-      answers = answers_with b.file (content_of b) _ (AreOfKind Reply) t o new.first old.written new.written (Ok more) (kind_at Reply (ReplyPlace k)) (mends.answers known);
+    reply_mended : {T : Type 0} (done : T × ℕ) → MendsRecorded b k check t o old new (Ok done) → MendsReply b slots table k t o old new (Ok done)
+    reply_mended done mends = record {
+      answers = answers_with b.file (content_of b) _ (AreOfKind Reply) t o new.first old.written new.written (Ok done.1) (kind_at Reply (ReplyPlace k)) (mends.answers known);
       shown = λ u is.
-          let alike : AreAlike k (units_of b t.shown) (units_of b u.shown) = λ place apart. other_place b.file (content_of b) t o u new.first old.written new.written tell.whole is place Reply (ReplyPlace k) more (mends.answers known) (λ same. apart (sym same)) in
+          let alike : AreAlike k (units_of b t.shown) (units_of b u.shown) = λ place apart. other_place b.file (content_of b) t o u new.first old.written new.written tell.whole is place Reply (ReplyPlace k) done.1 (mends.answers known) (λ same. apart (sym same)) in
           let back : AreAlike k (units_of b u.shown) (units_of b t.shown) = λ place apart. sym (alike place apart) in
           record {
             has = head_there b k (units_of b t.shown) (units_of b u.shown) alike slots table shows.has;
@@ -179,27 +181,31 @@ module _ (b : Superblock) (slots : Scan) (table : Table) (k : ℕ) (t o : Told) 
           };
     }
 
+    pub reply_done : {T : Type 0} (result : Result (T × ℕ) Ending) → MendsRecorded b k check t o old new result → MendsReply b slots table k t o old new result
+    reply_done (Ok done) mends = reply_mended done mends
+    reply_done (Err e) mends = reply_failed e mends
+
 -- ---- all of them
 
 pub none_yet : (b : Superblock) (image : Units) (slots : Scan) (table : Table) → HasHead b image slots table → ShowsReplies b image slots table 0
 none_yet b image slots table head = record { has = head; shown = λ k sum below known. absurd (omega (arith, below)) }
 
 -- past the sessions that a file may have none is recorded
+abbrev checks_of : Superblock → List (List ℕ)
+checks_of b = b.content.reply_checksums
+
 none_past : (b : Superblock) (k : ℕ) → b.content.clients ≤ k → slice_index (content_of b).reply_checksums k ≡ 0
-none_past b k past = elim (cases_lt k (length checks)) [
+none_past b k past = elim (cases_lt k (length (checks_of b))) [
   | inl within ↦
-      let at : slice_get checks k ≡ Some (get_or checks k no_checksum) = slice_get-get_or checks k no_checksum within in
+      let at : slice_get (checks_of b) k ≡ Some (get_or (checks_of b) k no_checksum) = slice_get-get_or (checks_of b) k no_checksum within in
       let place : b.content.clients + (k - b.content.clients) ≡ k = omega (arith, past) in
-      let here : get_or (drop b.content.clients checks) (k - b.content.clients) no_checksum ≡ no_checksum =
-          All-get_or (λ (check : List ℕ). check ≡ no_checksum) (drop b.content.clients checks) (k - b.content.clients) no_checksum (omega (arith, within, past, length-drop b.content.clients checks)) b.spare in
-      let none : get_or checks k no_checksum ≡ no_checksum = ap (λ (n : ℕ). get_or checks n no_checksum) (sym place) ∙ sym (get_or-drop b.content.clients checks (k - b.content.clients) no_checksum) ∙ here in
-      recorded_sum b k (get_or checks k no_checksum) at ∙ ap number_of none ∙ no_number
+      let here : get_or (drop b.content.clients (checks_of b)) (k - b.content.clients) no_checksum ≡ no_checksum =
+      All-get_or (λ (check : List ℕ). check ≡ no_checksum) (drop b.content.clients (checks_of b)) (k - b.content.clients) no_checksum (omega (arith, within, past, length-drop b.content.clients (checks_of b))) b.spare in
+      let none : get_or (checks_of b) k no_checksum ≡ no_checksum = ap (λ (n : ℕ). get_or (checks_of b) n no_checksum) (sym place) ∙ sym (get_or-drop b.content.clients (checks_of b) (k - b.content.clients) no_checksum) ∙ here in
+      recorded_sum b k (get_or (checks_of b) k no_checksum) at ∙ ap number_of none ∙ no_number
   | inr beyond ↦
-      ap (λ (v : ℕ). slice_index (if v == 2 then map number_of checks else []) k) b.second ∙ get_or_past (map number_of checks) k 0 (omega (arith, beyond, length-map checks number_of))
+      ap (λ (v : ℕ). slice_index (if v == 2 then map number_of (checks_of b) else []) k) b.second ∙ get_or_past (map number_of (checks_of b)) k 0 (omega (arith, beyond, length-map (checks_of b) number_of))
 ]
-  where
-    abbrev checks : List (List ℕ)
-    checks = b.content.reply_checksums
 
 pub all_replies : (b : Superblock) (image : Units) (slots : Scan) (table : Table) → ShowsReplies b image slots table (length table.sessions) → AreShown (shape b.file) image (content_of b) Reply
 all_replies b image slots table shows place sum known = by place known
@@ -217,3 +223,21 @@ all_replies b image slots table shows place sum known = by place known
     by : (place : Place) → IsKnown (shape b.file) image (content_of b) Reply place sum → IsShownAs image Reply place sum
     by (ReplyPlace k) is = shows.shown k sum (among k is) is
     by place is = absurd is
+
+-- ---- what is recorded at a place
+
+module _ (f g : SuperFields) (k : ℕ) (d : List ℕ) (same : f ≡ g) (below : k < 64) (usable : IsUsable g) where
+  within : k < length g.reply_checksums
+  within = omega (arith, below, usable.fits.reply_checksums.size)
+
+  pub sum_there : slice_get g.reply_checksums k ≡ Some (get_or f.reply_checksums k d)
+  sum_there = subst (λ (x : SuperFields). slice_get g.reply_checksums k ≡ Some (get_or x.reply_checksums k d)) (sym same) (slice_get-get_or g.reply_checksums k d within)
+
+  pub check_there : IsCheck (get_or f.reply_checksums k d)
+  check_there = subst (λ (x : SuperFields). IsCheck (get_or x.reply_checksums k d)) (sym same) (All-get_or IsCheck g.reply_checksums k d within usable.fits.reply_checksums.each)
+
+-- there is a session at each place
+pub no_session : (xs : List Session) (k : ℕ) → k < length xs → slice_get xs k ≡ None → ⊥
+no_session [] k within none = omega (arith, within)
+no_session (x ∷ xs) zero within none = cc
+no_session (x ∷ xs) (suc k) within none = no_session xs k (omega (arith, within)) none

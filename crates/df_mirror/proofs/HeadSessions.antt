@@ -1,7 +1,8 @@
 -- The sessions at the superblock's head: a table that has as many of them as there are places, noted prepare by prepare.
 use Rattle.std.proofs.Common.{◌≡◌, ℕ, zero, suc, ◌+◌, ◌%◌, ◌<◌, ◌≤◌, ◌==◌, true, false, List, [], ◌∷◌, ◌++◌, length, get_or, map, take, Option, Some, None, IsSome, refl, sym, ◌∙◌, ap, subst, arith, inl, inr, length-take}
 use Rattle.std.specs.List.{position, slice_get}
-use Rattle.std.proofs.lemmas.Bool.{cases_Bool}
+use Rattle.std.specs.Prelude.{is_some}
+use Rattle.std.proofs.lemmas.Bool.{cases_Bool, cases_lt}
 use Rattle.std.proofs.lemmas.List.{length-map, take_all}
 use Rattle.std.proofs.lemmas.Option.{same_Some}
 use Rattle.df_base.proofs.Laws.{none_passes}
@@ -98,6 +99,11 @@ module _ (h : Header) (xs : List Session) (places : ℕ) (ss : List units.Sessio
       let d : Session = record { client = 0; request = 0; op = 0; reply = None } in
       is ∙ unknown_front places h ss xs d is full (none_passes (has_client h.client) xs d none)
 
+-- a search for a client that found none
+pub none_if : (place : Option ℕ) → is_some place ≡ false → place ≡ None
+none_if None none = refl
+none_if (Some k) none = cc
+
 -- ---- prepare by prepare
 
 known_get : (n : ℕ) (image : Units) (op sum : ℕ) (named : List Message) (i : ℕ) → AreKnown n image op sum named → i < length named → (p : Message) × (slice_get named i ≡ Some p) × (image (PreparePlace ((op + i) % n)) ≡ Some (PrepareUnit p))
@@ -170,3 +176,13 @@ module _ (b : Superblock) (slots : Scan) (slot client : ℕ) (image : Units) (te
   later_seen p shown later =
       let it = prepare_seen b.file.layout image slots slot tells p shown in
       (it.0, it.1, ap (λ (x : Header). x.boot) (sym it.2) ∙ later.boot, omega (arith, ap (λ (x : Header). x.op) it.2, later.above, pin_is b), ap (λ (x : Header). x.client) (sym it.2) ∙ later.of_client)
+
+-- a slot shows none
+abbrev pub NoneLater : Superblock → Scan → (client slot : ℕ) → Type 0
+NoneLater b slots client slot = (image : Units) (p : Message) → TellsRings b.file.layout image slots → image (PreparePlace slot) ≡ Some (PrepareUnit p) → IsLater b client p → ⊥
+
+pub none_later : (b : Superblock) (slots : Scan) (client : ℕ) → ((k : ℕ) → k < b.file.layout.slots → NoneLater b slots client k) → (image : Units) → TellsRings b.file.layout image slots → HasLater b image client → ⊥
+none_later b slots client none image tells later = elim (cases_lt later.0 b.file.layout.slots) [
+  | inl within ↦ none later.0 within image later.1 tells later.2 later.3
+  | inr past ↦ absurd (let both : None ≡ Some (PrepareUnit later.1) = sym (tells.shows.no_prepare later.0 (omega (arith, past, tells.table.size))) ∙ later.2 in cc)
+]

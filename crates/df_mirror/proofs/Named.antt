@@ -104,8 +104,8 @@ module _ (b : Superblock) where
       let there : image (PreparePlace (op % n)) ≡ Some (PrepareUnit (message_of u)) = shows.shown ∙ sym shows.unit_is in
       let sum : (message_of u).header.checksum ≡ named_by pin from.later = sym (ap checksum_of same) ∙ shows.sum_is ∙ from.sum_is in
       let later : AreKnown n image (op + 1) pin from.later = ring_there n (units_of b t.shown) image (op + 1) pin from.later from.known
-          (λ q low high. other_place b.file (content_of b) t o m new written text whole is (PreparePlace (q % n)) Prepare (PreparePlace (op % n)) more mends
-              (λ (one : PreparePlace (op % n) ≡ PreparePlace (q % n)). mod_apart n op q some (omega (arith, low)) (omega (arith, high, from.count, within usable, above)) (cc))) in
+      (λ q low high. other_place b.file (content_of b) t o m new written text whole is (PreparePlace (q % n)) Prepare (PreparePlace (op % n)) more mends
+      (λ (one : PreparePlace (op % n) ≡ PreparePlace (q % n)). mod_apart n op q some (omega (arith, low)) (omega (arith, high, from.count, within usable, above)) (cc))) in
       let one : op ≡ (op - 1) + 1 = omega (arith, above) in
       record {
         later = message_of u ∷ from.later;

@@ -1,5 +1,5 @@
 // The replies that the superblock records, of the sessions at its head, in order of place.
-ghost use Rattle.std.specs.Prelude.{◌≡◌, ◌<◌, ◌≤◌, length, Some, IfOk, IsFalse, IsTrue, OnOk};
+ghost use Rattle.std.specs.Prelude.{◌≡◌, ◌<◌, ◌≤◌, length, slice_get, Some, IfOk, IsFalse, IsTrue, OnOk};
 ghost use Rattle.df_base.specs.Causes.{IsBlamed};
 ghost use Rattle.df_disk.specs.Told.{Told};
 ghost use Rattle.df_buffers.specs.declared.identity.Wanted.TheVariants.{Checksum as WithChecksum};
@@ -55,6 +55,15 @@ fn is_newer(base: &Superblock, seen: &Result<Header, Class>) -> bool
     }
 }
 
+// The checksum that the superblock recorded of the reply at a place, zeros where it recorded none.
+fn recorded_at(base: &Superblock, place: u64) -> Check
+    requires { place < base.now.file.layout.clients }
+    ensures sum { slice_get base.now.content.reply_checksums place ≡ Some result }
+    ensures check { IsCheck result }
+{
+    base.content.fields().reply_checksums[place as usize]
+}
+
 // Mends the reply of a session that the superblock recorded, where its slot shows nothing newer. The room comes back.
 fn mend_recorded<A: Disk, B: Disk, W: Sink>(
     first: &mut A,
@@ -75,7 +84,13 @@ fn mend_recorded<A: Disk, B: Disk, W: Sink>(
     ensures sink { IsBlamed is_sink (W.faults sink.old) (W.faults sink.new) result }
 {
     let wanted = reply_at(base, place, checksum);
-    let (room, seen) = scan_place(first, &base.file.layout, base.file.cluster, wanted.place, room);
+    let (room, seen) = scan_place(
+        first,
+        &base.file.layout,
+        base.file.cluster,
+        wanted.place,
+        room,
+    );
     match seen {
         Ok(seen) => {
             if is_newer(base, &seen) {
@@ -101,7 +116,7 @@ fn mend_reply<A: Disk, B: Disk, W: Sink>(
     room: Raw<Reply>,
     place: u64,
 ) -> Result<(Raw<Reply>, u64), Ending>
-    requires place { place < length sessions.now.sessions }
+    requires place { (place < length sessions.now.sessions) × (place < base.now.file.layout.clients) }
     requires places { sessions.now.max ≡ base.now.file.layout.clients }
     requires table { length slots.now.slots ≡ base.now.file.layout.slots }
     requires room { room.layout ≡ base.now.file.layout }
@@ -113,7 +128,7 @@ fn mend_reply<A: Disk, B: Disk, W: Sink>(
     ensures second { IsBlamed is_second (B.faults second.old) (B.faults second.new) result }
     ensures sink { IsBlamed is_sink (W.faults sink.old) (W.faults sink.new) result }
 {
-    let checksum = base.content.fields().reply_checksums[place as usize];
+    let checksum = recorded_at(base, place);
     if checksum == [0; 16] {
         return Ok((room, 0));
     }

@@ -27,6 +27,10 @@ loop-place-init g c =
       shown = λ t o u tell head is. subst (λ (x : Told). ShowsReplies b (units_of b x.shown) slots table 0) (same_Some _ _ (sym tell.first ∙ is)) (none_yet b (units_of b t.shown) slots table head);
     }
 
+pub mend_reply-requires-clause-place : goal.mend_reply-requires-clause-place
+mend_reply-requires-clause-place g c =
+    (omega (arith, c.loop-place-test, c.len-place-end.ensures.value), omega (arith, c.loop-place-test, c.len-place-end.ensures.value, c.len-place-end.ensures.table.within, c.requires.places))
+
 pub returns-in-Err-clause-mends : goal.returns-in-Err-clause-mends
 returns-in-Err-clause-mends g c = λ t o tell head.
     let b = c.args.base.now in
@@ -72,7 +76,7 @@ returns-clause-shown g c = λ t o u tell head is.
     let table = c.args.sessions.now in
     let now = c.loop-place in
     all_replies b (units_of b u.shown) slots table
-    (subst (λ (n : ℕ). ShowsReplies b (units_of b u.shown) slots table n) (omega (arith, c.loop-place-test, c.loop-place.auto, c.len.ensures.value)) (now.invariant.shown t o u tell head is))
+    (subst (λ (n : ℕ). ShowsReplies b (units_of b u.shown) slots table n) (omega (arith, c.loop-place-test, c.loop-place.auto, c.len-place-end.ensures.value)) (now.invariant.shown t o u tell head is))
 
 pub returns-clause-few : goal.returns-clause-few
-returns-clause-few g c = omega (arith, c.loop-place.invariant.mended, c.loop-place.auto, c.len.ensures.value, c.len.ensures.table.within, c.len.ensures.table.most)
+returns-clause-few g c = omega (arith, c.loop-place.invariant.mended, c.loop-place.auto, c.len-place-end.ensures.value, c.len-place-end.ensures.table.within, c.len-place-end.ensures.table.most)
