@@ -141,18 +141,18 @@ module _ (before now : Faults) (old new : Option (List ℕ)) (status : Status) w
 
 -- ---- the barrier
 
-synced : {T : Type 0} (old new : Option Told) (e : OpenError) → (e ≡ opens.DiskFault → ⊥) → Syncs {T = T} old new (Err e) → new ≡ after Sync old
-synced old new opens.DiskFault other is = absurd (other refl)
-synced old new opens.NotFormatted other is = is
-synced old new (opens.NoQuorum a) other is = is
-synced old new (opens.Version a) other is = is
-synced old new (opens.BadField a b) other is = is
-synced old new (opens.LayoutDiffers a b) other is = is
-synced old new (opens.Damaged a b) other is = is
-synced old new opens.BootSpent other is = is
+synced : (T : Type 0) (old new : Option Told) (e : OpenError) → (e ≡ opens.DiskFault → ⊥) → Syncs {T = T} old new (Err e) → new ≡ after Sync old
+synced T old new opens.DiskFault other is = absurd (other refl)
+synced T old new opens.NotFormatted other is = is
+synced T old new (opens.NoQuorum a) other is = is
+synced T old new (opens.Version a) other is = is
+synced T old new (opens.BadField a b) other is = is
+synced T old new (opens.LayoutDiffers a b) other is = is
+synced T old new (opens.Damaged a b) other is = is
+synced T old new opens.BootSpent other is = is
 
-syncs_part : {T : Type 0} (old new : Option Told) (e : OpenError) → e ≡ opens.DiskFault → Syncs {T = T} old new (Err e) → (new ≡ old) ⊎ (new ≡ after Sync old)
-syncs_part {T} old new e fault is = subst (λ (x : OpenError). Syncs {T = T} old new (Err x)) fault is
+syncs_part : (T : Type 0) (old new : Option Told) (e : OpenError) → e ≡ opens.DiskFault → Syncs {T = T} old new (Err e) → (new ≡ old) ⊎ (new ≡ after Sync old)
+syncs_part T old new e fault is = subst (λ (x : OpenError). Syncs {T = T} old new (Err x)) fault is
 
 refused_of : (t : Told) (e : OpenError) → (e ≡ opens.DiskFault → ⊥) → TellsFoundAs 2 (Some t) (Err e) → Refuses t.shown e
 refused_of t opens.DiskFault other tells = absurd (other refl)
@@ -169,12 +169,12 @@ refused_of t opens.BootSpent other tells = absurd tells
 module _ (T : Type 0) (e : OpenError) (old new : Outside) (status : Status) (barrier : Syncs {T = T} old.first new.first (Err e)) (prints : PrintsError ends.Refused ends.DiskFault ends.WriteFault e old.written new.written status) where
   pub not_found : (t : Told) → old.first ≡ Some t → TellsFoundAs 2 old.first (Err e) → DidNothing old new status ⊎ RefusesSuperblock t old new status
   not_found t told answer = elim (open_fault e) [
-    | inl fault ↦ inl (record { undone = record { written = (prints.failing fault).1; told = syncs_part {T = T} old.first new.first e fault barrier }; why = inr (prints.failing fault).0 })
+    | inl fault ↦ inl (record { undone = record { written = (prints.failing fault).1; told = syncs_part T old.first new.first e fault barrier }; why = inr (prints.failing fault).0 })
     | inr other ↦ inr (record {
         error = e;
         is = refused_of t e other.0 (subst (λ (o : Option Told). TellsFoundAs 2 o (Err e)) told answer);
         prints = prints.other other.0;
-        barrier = synced {T = T} old.first new.first e other.0 barrier ∙ ap (after Sync) told;
+        barrier = synced T old.first new.first e other.0 barrier ∙ ap (after Sync) told;
       })
   ]
 
@@ -200,8 +200,8 @@ pub mirrored_then : (b : Superblock) (t o : Told) (old mid new : Outside) (statu
     → ((status ≡ ends.Memory → ⊥) → Mirrored b (did Sync t) o mid new status) → old.first ≡ Some t → DidNothing old new status ⊎ RefusesSuperblock t old new status ⊎ Mirrors t o old new status
 mirrored_then b t o old mid new status has barrier silent memory mirrors told = elim (memory_or status) [
   | inl is ↦ inl (record { undone = record { written = (memory is).1 ∙ silent; told = inr ((memory is).0 ∙ barrier ∙ ap (after Sync) (sym told)) }; why = inl is })
-  | inr no ↦
-      let m = mirrors no in
+  | inr other ↦
+      let m = mirrors other in
       inr (inr (record {
         base = b;
         has = has;

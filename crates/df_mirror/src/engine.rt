@@ -129,7 +129,7 @@ fn mend_first<A: Disk, B: Disk, W: Sink>(
         Ok(found) => match superblock_of(found.content) {
             Some(base) => mend_file(alloc, first, second, sink, &base),
             // A survey for version 2 finds no other one.
-            None => refuse(sink, &OpenError::NotFormatted),
+            None => Status::Refused,
         },
         Err(error) => refuse(sink, &error),
     }

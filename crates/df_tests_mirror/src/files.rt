@@ -1,8 +1,6 @@
 // A small file with a unit of each kind that is known, and what is read of it.
 use df_memdisk::{MemoryDisk, Strike};
-use df_runs::{
-    Status as Ended, blank, disk_behind, expect_text, made_file, run_script, run_words,
-};
+use df_runs::{Status as Ended, blank, disk_behind, expect_text, made_file, run_script, run_words};
 use std::alloc::Global;
 use std::test::Fail;
 
@@ -63,8 +61,7 @@ pub fn hurt_all(disk: &mut MemoryDisk) -> Result<(), Fail> {
 }
 
 // All that is read of known units, and a tour over the blocks.
-const READS: &[u8] =
-    b"prepare 2\nprepare 3\nlookup 1\nlookup 2\nread 1\nscrub\nscrub\nscrub\n";
+const READS: &[u8] = b"prepare 2\nprepare 3\nlookup 1\nlookup 2\nread 1\nscrub\nscrub\nscrub\n";
 
 // What the next `recover` and the reads print of the recovered file.
 const TOLD: &str = "cluster 7

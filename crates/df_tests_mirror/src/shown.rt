@@ -42,11 +42,7 @@ pub fn run_failing<A: Disk, B: Disk>(
 }
 
 /// Mends the first disk from the second.
-pub fn mend<A: Disk, B: Disk>(
-    alloc: Global,
-    first: &mut A,
-    second: &mut B,
-) -> Result<Ran, Fail> {
+pub fn mend<A: Disk, B: Disk>(alloc: Global, first: &mut A, second: &mut B) -> Result<Ran, Fail> {
     let words = words(alloc, &[])?;
     run_failing(alloc, first, second, &words, &[])
 }

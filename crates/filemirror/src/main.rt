@@ -28,13 +28,7 @@ fn act(rt: &HostRuntime) -> Result<Status, OutOfMemory> {
         put_dash(rt, &mut words)?;
     }
     let mut sink = ToWrite::new(rt.stdout());
-    Ok(mirror(
-        rt.alloc(),
-        &words,
-        &mut first,
-        &mut second,
-        &mut sink,
-    ))
+    Ok(mirror(rt.alloc(), &words, &mut first, &mut second, &mut sink))
 }
 
 fn main(rt: HostRuntime) -> ExitCode {

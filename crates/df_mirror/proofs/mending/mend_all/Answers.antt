@@ -37,8 +37,8 @@ returns-in-Err-mend_blocks-clause-mends g c = λ t o tell.
     chain_then b t o old mid c.in-Ok.mended came _ _ (Err c.in-Err-mend_blocks.ending)
     (kind_from b 1 AsBlock came.after o _ _ _ (Err c.in-Err-mend_blocks.ending) (omega arith) (c.in-Err-mend_blocks.ensures.mends c.in-Ok-read_trailer.found.sessions.sessions came.after o also has))
 
-pub returns-in-Err-mend_log-clause-mends : goal.returns-in-Err-mend_log-clause-mends
-returns-in-Err-mend_log-clause-mends g c = λ t o tell.
+pub returns-clause-mends : goal.returns-clause-mends
+returns-clause-mends g c = λ t o tell.
     let b = c.args.base.now in
     let ss = c.in-Ok-read_trailer.found.sessions.sessions in
     let old = around (g.A.Disk.told c.args.first.now) (g.B.Disk.told c.args.second.now) (g.W.Sink.written c.args.sink.now) in
