@@ -171,11 +171,11 @@ module _ (T : Type 0) (e : OpenError) (old new : Outside) (status : Status) (bar
   not_found t told answer = elim (open_fault e) [
     | inl fault ↦ inl (record { undone = record { written = (prints.failing fault).1; told = syncs_part T old.first new.first e fault barrier }; why = inr (prints.failing fault).0 })
     | inr other ↦ inr (record {
-        error = e;
-        is = refused_of t e other.0 (subst (λ (o : Option Told). TellsFoundAs 2 o (Err e)) told answer);
-        prints = prints.other other.0;
-        barrier = synced T old.first new.first e other.0 barrier ∙ ap (after Sync) told;
-      })
+      error = e;
+      is = refused_of t e other.0 (subst (λ (o : Option Told). TellsFoundAs 2 o (Err e)) told answer);
+      prints = prints.other other.0;
+      barrier = synced T old.first new.first e other.0 barrier ∙ ap (after Sync) told;
+    })
   ]
 
 -- ---- it can

@@ -106,15 +106,18 @@ module _ (b : Superblock) (n index : ℕ) (walk : Walk) (t o : Told) (counts : I
             }
 
         breaks : (IsLink (shape b.file) (content_of b) index (block_of u) → ⊥) → RefusesTrailer b.file m.shown (content_of b) (BadField TrailerChain walk.at.address)
-        breaks broken = inl (inl (refl, record {
-          sum = number_of walk.at.checksum;
-          reads = record { count = n; read = walked.chain; counts = counts; arrives = arrives; links = walked.links; more = some_more };
-          index = index;
-          at = counted;
-          block = block_of u;
-          is = asked_shown (shown_of b.file.layout b.file.cluster m.shown) walk.at.address (number_of walk.at.checksum) (block_of u) there.shown there.sum there.kind;
-          broken = broken;
-        }))
+        breaks broken = inl (inl (
+          refl,
+          record {
+            sum = number_of walk.at.checksum;
+            reads = record { count = n; read = walked.chain; counts = counts; arrives = arrives; links = walked.links; more = some_more };
+            index = index;
+            at = counted;
+            block = block_of u;
+            is = asked_shown (shown_of b.file.layout b.file.cluster m.shown) walk.at.address (number_of walk.at.checksum) (block_of u) there.shown there.sum there.kind;
+            broken = broken;
+          },
+        ))
 
       pub link_on : (next : Walk) → 0 < walk.at.address → GoesOn b walk.at walk.read.items index u (Ok next) → MendsLink b n t o old new (Ok (next, more))
       link_on next above goes = record {

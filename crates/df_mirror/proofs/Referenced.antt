@@ -84,7 +84,7 @@ module _ (b : Superblock) (grid : GridState) (ss : List Session) (before : ℕ) 
       answers = answers_with b.file (content_of b) _ (AreOfKind AsBlock) t o new.first old.written new.written (Ok more) (kind_at AsBlock (BlockPlace (before + 1))) mends;
       shown = λ m is.
           let same : (e : ℕ) → (e ≡ before + 1 → ⊥) → units_of b m.shown (BlockPlace e) ≡ units_of b t.shown (BlockPlace e) =
-              λ e other. other_place b.file (content_of b) t o m new.first old.written new.written tell.whole is (BlockPlace e) AsBlock (BlockPlace (before + 1)) more mends (λ (one : BlockPlace (before + 1) ≡ BlockPlace e). other (cc)) in
+          λ e other. other_place b.file (content_of b) t o m new.first old.written new.written tell.whole is (BlockPlace e) AsBlock (BlockPlace (before + 1)) more mends (λ (one : BlockPlace (before + 1) ≡ BlockPlace e). other (cc)) in
           record {
             has = record {
               says = trailer_there (shape b.file) (units_of b t.shown) (units_of b m.shown) (content_of b) shows.has.says (λ e x at. same e (apart e x at));

@@ -155,7 +155,7 @@ module _ (file : DataFile) (c : Content) (second : Image) (v : Told) (m : Mend) 
       let touches = is.puts.touches p ∙ ap (λ (o : Option AnyUnit). is_some o) none in
       let shows = (honest_did (Write (first_at file.layout m.place) m.bytes) v honest).shows in
       (is_format file.layout file.cluster).local left W.shown p (λ sector inside.
-          is_left.kept sector (ap (λ (b : Bool). b || loose v.log sector) ((is_format file.layout file.cluster).apart (first_at file.layout m.place) m.bytes p sector touches inside) ∙ still sector) ∙ sym (shows sector))
+      is_left.kept sector (ap (λ (b : Bool). b || loose v.log sector) ((is_format file.layout file.cluster).apart (first_at file.layout m.place) m.bytes p sector touches inside) ∙ still sector) ∙ sym (shows sector))
       ∙ is.puts.shows v.shown p whole ∙ ap (λ (o : Option AnyUnit). or_else o (units_in file v.shown p)) none
 
 -- nothing is loose: a stop leaves what is shown
@@ -180,7 +180,7 @@ module _ (file : DataFile) (c : Content) (second : Image) (kind : Kind) (place :
           let known = known_reply (shape file) (units_in file v.shown) c m.kind k (checksum_of m.unit) (subst (λ (p : Place). IsKnown (shape file) (units_in file v.shown) c m.kind p (checksum_of m.unit)) (sym same) is.known) in
           let sums : sum ≡ checksum_of m.unit = keeps ∙ sym known.1.sum_is in
           is.lacks (subst (λ (j : Kind). IsShownAs (units_in file v.shown) j m.place (checksum_of m.unit)) (sym known.0)
-            (subst (λ (p : Place). IsShownAs (units_in file v.shown) Reply p (checksum_of m.unit)) same (subst (λ (n : ℕ). IsShownAs (units_in file v.shown) Reply (ReplyPlace k) n) sums shown)))
+          (subst (λ (p : Place). IsShownAs (units_in file v.shown) Reply p (checksum_of m.unit)) same (subst (λ (n : ℕ). IsShownAs (units_in file v.shown) Reply (ReplyPlace k) n) sums shown)))
       by Reply (CopyPlace n) shown keeps same = absurd keeps
       by Reply (HeaderPlace s) shown keeps same = absurd keeps
       by Reply (PreparePlace s) shown keeps same = absurd keeps
@@ -198,8 +198,8 @@ module _ (file : DataFile) (c : Content) (second : Image) (kind : Kind) (place :
       let n : Told = did Sync w in
       let other : place ≡ m.place → ⊥ = apart v m are.0 shown keeps in
       let rest = through ms n (honest_did Sync w (honest_did write v honest)) (λ sector. refl) (written_is_image (first_at file.layout m.place) m.bytes v.shown are.0.puts.piece whole) are.1
-          (shown_there (units_in file v.shown) (units_in file n.shown) kind place sum (same_after file c second v m honest whole are.0 place other) shown)
-          (keeps_on (shape file) (units_in file v.shown) (units_in file n.shown) c m.place are.0.spare (same_after file c second v m honest whole are.0) kind place sum keeps) in
+      (shown_there (units_in file v.shown) (units_in file n.shown) kind place sum (same_after file c second v m honest whole are.0 place other) shown)
+      (keeps_on (shape file) (units_in file v.shown) (units_in file n.shown) c m.place are.0.spare (same_after file c second v m honest whole are.0) kind place sum keeps) in
       let exit : Log = (told_after (events_of file ms) n).log in
       from_before write v.log exit Shows (λ left is_left. shown_there (units_in file v.shown) (units_in file left) kind place sum (left_still file v honest still left is_left place) shown) (told_extends (Sync ∷ events_of file ms) w)
       (from_before Sync w.log exit Shows (λ left is_left. shown_there (units_in file v.shown) (units_in file left) kind place sum (left_within file c second v m honest whole are.0 still left is_left place other) shown) (told_extends (events_of file ms) n) rest)
@@ -222,5 +222,5 @@ known_stays file c second t u ms later honest still whole are is =
     let n : Told = told_after (events_of file ms) t in
     let at = reaches file c second t ms later honest still whole are in
     let each : EachMoment n.log (told_after (events_of file later) n).log (LeavesShown file c n.shown) = λ log moment left is_left kind place sum known shown.
-        through file c second kind place sum later n at.0 at.1 at.2 (behind file c second t ms later are) shown (keeps_known (shape file) (units_in file n.shown) c kind place sum known) log moment left is_left in
+    through file c second kind place sum later n at.0 at.1 at.2 (behind file c second t ms later are) shown (keeps_known (shape file) (units_in file n.shown) c kind place sum known) log moment left is_left in
     subst (λ (x : Told). EachMoment x.log (told_after (events_of file later) x).log (LeavesShown file c x.shown)) (sym is) each

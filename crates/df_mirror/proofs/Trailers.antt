@@ -163,17 +163,20 @@ pub pending_of : (lent ss : List Session) (fields f : SuperFields) (o : Option �
 pending_of lent ss fields f o same one pending = subst (λ (l : List Session). IsPending l f.replies f.op o) same (subst (λ (x : SuperFields). IsPending lent x.replies x.op o) one pending)
 
 pub text_untracked : (b : Superblock) (image : Image) (g : GridState) (ss : List Session) (n : ℕ) → b.content.trailer_address ≢ 0 → HasText b (units_of b image) g ss → IsPending ss b.content.replies b.content.op (Some n) → RefusesTrailer b.file image (content_of b) (BadField Pending n)
-text_untracked b image g ss n named text lacking = inl (inr (inr (inr (refl, record {
-  chain = text.says.chain;
-  whole = record { links = text.says.trailer.links; count = text.says.trailer.count; inside = text.says.trailer.inside; size = text.says.trailer.size; shows = text.says.shown };
-  parts = text.says.parts;
-  says = its_text (shape b.file) b.content.op text.says.chain text.says.parts (some_chain (b.file.layout.block_size - 256) (content_of b) text.says.chain (not_zero b.content.trailer_address named) text.says.trailer.links) text.says.trailer.says;
-  spare = text.says.trailer.spare;
-  above = lacking.above;
-  reached = lacking.reached;
-  lacks = λ has. op_missing n ss lacking.lacks (subst (λ (l : List model.Session). Has l n) text.sessions_are has);
-  least = λ m above less. subst (λ (l : List model.Session). Has l m) (sym text.sessions_are) (op_there m ss (lacking.least m above less));
-}))))
+text_untracked b image g ss n named text lacking = inl (inr (inr (inr (
+  refl,
+  record {
+    chain = text.says.chain;
+    whole = record { links = text.says.trailer.links; count = text.says.trailer.count; inside = text.says.trailer.inside; size = text.says.trailer.size; shows = text.says.shown };
+    parts = text.says.parts;
+    says = its_text (shape b.file) b.content.op text.says.chain text.says.parts (some_chain (b.file.layout.block_size - 256) (content_of b) text.says.chain (not_zero b.content.trailer_address named) text.says.trailer.links) text.says.trailer.says;
+    spare = text.says.trailer.spare;
+    above = lacking.above;
+    reached = lacking.reached;
+    lacks = λ has. op_missing n ss lacking.lacks (subst (λ (l : List model.Session). Has l n) text.sessions_are has);
+    least = λ m above less. subst (λ (l : List model.Session). Has l m) (sym text.sessions_are) (op_there m ss (lacking.least m above less));
+  },
+))))
 
 -- ---- no trailer
 

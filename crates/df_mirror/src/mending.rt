@@ -85,14 +85,7 @@ fn mend_log<A: Disk, B: Disk, W: Sink>(
         Err(ending) => return Err(ending),
     };
     let start = start_of(base);
-    let (_, done) = scan(
-        first,
-        &layout,
-        &start,
-        &mut slots,
-        &mut sector,
-        room,
-    );
+    let (_, done) = scan(first, &layout, &start, &mut slots, &mut sector, room);
     match done {
         Ok(()) => {
             let sessions = sessions_at_head(base, &slots, sessions);

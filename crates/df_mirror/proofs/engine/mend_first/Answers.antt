@@ -24,7 +24,7 @@ returns-in-Some-clause-runs g c = λ t o tell.
 pub returns-in-Some-clause-causes : goal.returns-in-Some-clause-causes
 returns-in-Some-clause-causes g c =
     subst (λ (n : ℕ). HasCauses ends.DiskFault ends.WriteFault (counts n (g.B.Disk.faults c.args.second.now) (g.W.Sink.faults c.args.sink.now))
-      (counts (g.A.Disk.faults c.mend_file.new.first) (g.B.Disk.faults c.mend_file.new.second) (g.W.Sink.faults c.mend_file.new.sink)) c.mend_file.result) c.in-Ok-survey_superblock.ensures.cause c.mend_file.ensures.causes
+    (counts (g.A.Disk.faults c.mend_file.new.first) (g.B.Disk.faults c.mend_file.new.second) (g.W.Sink.faults c.mend_file.new.sink)) c.mend_file.result) c.in-Ok-survey_superblock.ensures.cause c.mend_file.ensures.causes
 
 pub returns-in-Some-clause-memory : goal.returns-in-Some-clause-memory
 returns-in-Some-clause-memory g c = λ is. record { written = (c.mend_file.ensures.memory is).1; told = inr ((c.mend_file.ensures.memory is).0 ∙ c.in-Ok-survey_superblock.ensures.barrier) }

@@ -28,7 +28,7 @@ returns-in-Ok-mend_replies-clause-mends g c = λ t o tell says same.
     let on = tells_also came.after o mid _ c.scan-done.ensures.same (tells_on b.file (content_of b) (AreOfKind Prepare) t o old mid c.in-Ok.done.1 tell came c.in-Ok.ensures.same) refl in
     let rings = rings_then b t o old mid c.in-Ok.done.1 tell came c.scan-done.new.found (g.A.Disk.told c.mend_prepares.new.first) refl (ap (λ (x : Start). x.cluster) c.scan-done.ensures.start ∙ c.start_of-start.ensures.cluster) (rw c.in-Ok-done.is at c.scan-done.ensures.scanned) in
     let head = head_is b (units_of b t.shown) (units_of b came.after.shown) c.scan-done.new.found c.sessions_at_head-sessions.result _ says same (blocks_then b t o old mid c.in-Ok.done.1 tell came) (c.in-Ok.ensures.named t o came.after tell came.after_is) rings
-        (c.sessions_at_head-sessions.ensures.places ∙ c.requires.places) (λ named known count. c.sessions_at_head-sessions.ensures.sessions (units_of b came.after.shown) named rings known count) in
+    (c.sessions_at_head-sessions.ensures.places ∙ c.requires.places) (λ named known count. c.sessions_at_head-sessions.ensures.sessions (units_of b came.after.shown) named rings known count) in
     log_then b t o old mid c.in-Ok.done.1 tell came _ _ (Ok c.in-Ok-mend_replies.replies) (c.in-Ok-mend_replies.ensures.mends came.after o on head)
 
 pub returns-in-Ok-done-clause-mends : goal.returns-in-Ok-done-clause-mends
@@ -40,7 +40,7 @@ returns-in-Ok-done-clause-mends g c = λ t o tell says same.
     let on = tells_also came.after o mid _ c.scan-done.ensures.same (tells_on b.file (content_of b) (AreOfKind Prepare) t o old mid c.in-Ok.done.1 tell came c.in-Ok.ensures.same) refl in
     let rings = rings_then b t o old mid c.in-Ok.done.1 tell came c.scan-done.new.found (g.A.Disk.told c.mend_prepares.new.first) refl (ap (λ (x : Start). x.cluster) c.scan-done.ensures.start ∙ c.start_of-start.ensures.cluster) (rw c.in-Ok-done.is at c.scan-done.ensures.scanned) in
     let head = head_is b (units_of b t.shown) (units_of b came.after.shown) c.scan-done.new.found c.sessions_at_head-sessions.result _ says same (blocks_then b t o old mid c.in-Ok.done.1 tell came) (c.in-Ok.ensures.named t o came.after tell came.after_is) rings
-        (c.sessions_at_head-sessions.ensures.places ∙ c.requires.places) (λ named known count. c.sessions_at_head-sessions.ensures.sessions (units_of b came.after.shown) named rings known count) in
+    (c.sessions_at_head-sessions.ensures.places ∙ c.requires.places) (λ named known count. c.sessions_at_head-sessions.ensures.sessions (units_of b came.after.shown) named rings known count) in
     log_then b t o old mid c.in-Ok.done.1 tell came _ _ (Err c.in-Err-mend_replies.ending) (c.in-Err-mend_replies.ensures.mends came.after o on head)
 
 pub returns-in-Ok-mend_replies-clause-shown : goal.returns-in-Ok-mend_replies-clause-shown
@@ -53,5 +53,5 @@ returns-in-Ok-mend_replies-clause-shown g c = λ t o u tell says same is.
     let rings = rings_then b t o old mid c.in-Ok.done.1 tell came c.scan-done.new.found (g.A.Disk.told c.mend_prepares.new.first) refl (ap (λ (x : Start). x.cluster) c.scan-done.ensures.start ∙ c.start_of-start.ensures.cluster) (rw c.in-Ok-done.is at c.scan-done.ensures.scanned) in
     let named = c.in-Ok.ensures.named t o came.after tell came.after_is in
     let head = head_is b (units_of b t.shown) (units_of b came.after.shown) c.scan-done.new.found c.sessions_at_head-sessions.result _ says same (blocks_then b t o old mid c.in-Ok.done.1 tell came) named rings
-        (c.sessions_at_head-sessions.ensures.places ∙ c.requires.places) (λ named known count. c.sessions_at_head-sessions.ensures.sessions (units_of b came.after.shown) named rings known count) in
+    (c.sessions_at_head-sessions.ensures.places ∙ c.requires.places) (λ named known count. c.sessions_at_head-sessions.ensures.sessions (units_of b came.after.shown) named rings known count) in
     log_shown b t o old mid c.in-Ok.done.1 tell came u _ _ c.in-Ok-mend_replies.replies on.whole is (c.in-Ok-mend_replies.ensures.mends came.after o on head) named (c.in-Ok-mend_replies.ensures.shown came.after o u on head is)
