@@ -1,5 +1,5 @@
 -- A block that is referenced is mended.
-use Rattle.std.proofs.Common.{◌+◌, ◌∙◌, refl, sym, Err}
+use Rattle.std.proofs.Common.{◌+◌, refl, sym}
 use Rattle.df_format.specs.declared.kind.Kind.TheVariants.{Block as AsBlock}
 use Rattle.df_theory.specs.Units.{BlockPlace}
 use Rattle.df_mirror.specs.Outside.{around}

@@ -1,8 +1,7 @@
 -- A trailer has few blocks, and the last one stands in the grid where there is one.
-use Rattle.std.proofs.Common.{◌≡◌, ◌∙◌, ◌-◌, ap, arith}
+use Rattle.std.proofs.Common.{◌∙◌, ◌-◌, ap, arith}
 use Rattle.std.specs.Int.{div_ceil}
 use Rattle.df_format.specs.declared.superblock.SuperFields.{SuperFields}
-use Rattle.df_theory.specs.Trailer.{IsCount}
 use Rattle.df_trailer.proofs.Laws.{count_is}
 use Rattle.df_mirror.proofs.Counts.{count_few, count_inside}
 use Rattle.df_mirror.proofs.chain.block_count.Goals as goal

@@ -1,5 +1,5 @@
 -- Each turn mends one link more.
-use Rattle.std.proofs.Common.{◌≡◌, ◌∙◌, ◌-◌, ℕ, [], ap, arith, length, refl, subst, sym, Ok, Err}
+use Rattle.std.proofs.Common.{◌≡◌, ◌∙◌, [], ap, arith, length, refl, subst, sym, Ok, Err}
 use Rattle.std.proofs.lemmas.List.{length-map}
 use Rattle.df_format.specs.declared.kind.Kind.TheVariants.{Trailer}
 use Rattle.df_format.specs.declared.superblock.SuperFields.{SuperFields}

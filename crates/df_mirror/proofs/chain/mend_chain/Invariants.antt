@@ -1,5 +1,5 @@
 -- The blocks that were read are the last ones of the chain, and shown.
-use Rattle.std.proofs.Common.{◌≡◌, ◌-◌, ◌<◌, ◌≤◌, ℕ, Ok}
+use Rattle.std.proofs.Common.{◌≡◌, ◌-◌, ◌<◌, ◌≤◌, Ok}
 use Rattle.std.specs.Prelude.{Some}
 use Rattle.arrayvec.specs.ArrayVec.{array_vec_len}
 use Rattle.df_disk.specs.Told.{Told}

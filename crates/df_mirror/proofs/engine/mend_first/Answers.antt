@@ -60,7 +60,7 @@ pub returns-clause-runs : goal.returns-clause-runs
 returns-clause-runs g c = λ t o tell.
     let old = around (g.A.Disk.told c.args.first.now) (g.B.Disk.told c.args.second.now) (g.W.Sink.written c.args.sink.now) in
     let new = around (g.A.Disk.told c.survey_superblock.new.disk) (g.B.Disk.told c.args.second.now) (g.W.Sink.written c.refuse.new.sink) in
-    elim (not_found _ c.in-Err.error old new c.refuse.result c.in-Err.ensures.barrier c.refuse.ensures.prints t tell.first c.in-Err.ensures.answer) [
+    elim (not_found (Unit {0}) c.in-Err.error old new c.refuse.result c.in-Err.ensures.barrier c.refuse.ensures.prints t tell.first c.in-Err.ensures.answer) [
       | inl nothing ↦ inl nothing
       | inr refused ↦ inr (inl refused)
     ]
@@ -69,7 +69,7 @@ pub returns-clause-causes : goal.returns-clause-causes
 returns-clause-causes g c =
     open_causes (counts (g.A.Disk.faults c.args.first.now) (g.B.Disk.faults c.args.second.now) (g.W.Sink.faults c.args.sink.now))
     (counts (g.A.Disk.faults c.survey_superblock.new.disk) (g.B.Disk.faults c.args.second.now) (g.W.Sink.faults c.refuse.new.sink)) (g.W.Sink.written c.args.sink.now) (g.W.Sink.written c.refuse.new.sink) c.refuse.result
-    _ c.in-Err.error c.in-Err.ensures.cause refl c.refuse.ensures.sink c.refuse.ensures.prints
+    (Unit {0}) c.in-Err.error c.in-Err.ensures.cause refl c.refuse.ensures.sink c.refuse.ensures.prints
 
 pub returns-clause-memory : goal.returns-clause-memory
 returns-clause-memory g c = λ is.

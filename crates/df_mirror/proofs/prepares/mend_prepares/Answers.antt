@@ -1,5 +1,5 @@
 -- Each turn mends the prepare that is named, and goes on to the one that it names.
-use Rattle.std.proofs.Common.{◌≡◌, ◌∙◌, ◌<◌, ◌≤◌, ◌%◌, ◌-◌, ℕ, ap, arith, length, refl, subst, sym, Ok, Err}
+use Rattle.std.proofs.Common.{◌≡◌, ◌∙◌, ◌<◌, ◌≤◌, ◌%◌, ◌-◌, ap, arith, length, refl, subst, sym, Ok, Err}
 use Rattle.df_format.specs.declared.header.Header.{Header}
 use Rattle.df_format.specs.declared.kind.Kind.TheVariants.{Prepare}
 use Rattle.df_format.specs.declared.superblock.SuperFields.{SuperFields}

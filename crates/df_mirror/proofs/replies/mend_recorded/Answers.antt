@@ -1,5 +1,5 @@
 -- A reply that is recorded is mended, where nothing newer is shown.
-use Rattle.std.proofs.Common.{◌≡◌, ◌∙◌, Option, Some, ap, refl, subst, sym, Ok, Err}
+use Rattle.std.proofs.Common.{◌≡◌, ◌∙◌, Option, Some, ap, refl, subst}
 use Rattle.df_disk.specs.Told.{Told}
 use Rattle.df_format.specs.declared.kind.Kind.TheVariants.{Reply}
 use Rattle.df_layout.specs.declared.places.Place.{Place}

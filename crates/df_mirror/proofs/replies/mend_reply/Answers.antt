@@ -2,7 +2,6 @@
 use Rattle.std.proofs.Common.{◌≡◌, ◌∙◌, sym, refl, true, false}
 use Rattle.std.proofs.lemmas.Slice.Eq.{bytes_eq-Decides}
 use Rattle.df_format.specs.Spelling.{no_checksum}
-use Rattle.df_mirror.specs.Outside.{around}
 use Rattle.df_mirror.specs.Walks.{units_of}
 use Rattle.df_mirror.proofs.AtHead.{is_recorded, no_session, not_behind, not_named, reply_done, reply_none}
 use Rattle.df_mirror.proofs.replies.mend_reply.Goals as goal

@@ -1,5 +1,5 @@
 -- Each turn notes the prepare of one op more.
-use Rattle.std.proofs.Common.{◌≡◌, ◌+◌, ◌-◌, ◌∙◌, ◌<◌, ◌≤◌, ◌%◌, ℕ, suc, List, ap, arith, length, refl, subst, sym, take, Some, None}
+use Rattle.std.proofs.Common.{◌≡◌, ◌+◌, ◌-◌, ◌∙◌, ◌≤◌, ◌%◌, ℕ, suc, List, ap, arith, refl, subst, sym, take, Some, None}
 use Rattle.df_format.specs.declared.superblock.SuperFields.{SuperFields}
 use Rattle.df_journal.specs.Scan.{entry}
 use Rattle.df_journal.specs.Seen.{header_of_seen}
@@ -7,7 +7,6 @@ use Rattle.df_sessions.specs.Requests.{sessions_of}
 use Rattle.df_theory.specs.Sessions.{noted}
 use Rattle.df_theory.specs.Units.{Session}
 use Rattle.df_units.specs.Meaning.{header_of}
-use Rattle.df_mirror.specs.Walks.{content_of}
 use Rattle.df_mirror.proofs.HeadSessions.{HasNoted, noted_all, noted_lost, noted_none, noted_one}
 use Rattle.df_mirror.proofs.Named.{pin_is}
 use Rattle.df_mirror.proofs.RingSeen.{seen_client}

@@ -1,19 +1,13 @@
 -- What the chain and its text say.
-use Rattle.std.proofs.Common.{◌≡◌, ℕ, refl, sym, ◌∙◌, ap, subst}
+use Rattle.std.proofs.Common.{ℕ, refl, sym, ◌∙◌, ap, subst}
 use Rattle.std.specs.Prelude.{Ok, Err}
-use Rattle.df_disk.specs.Told.{Told}
 use Rattle.df_layout.specs.declared.layout.Layout.{Layout}
-use Rattle.df_model.specs.Supply.{Shown}
 use Rattle.df_units.specs.Meaning.{layout_of}
 use Rattle.df_trailer.specs.Sessions.{AreRead}
 use Rattle.df_grid.specs.Grid.{GridState}
-use Rattle.df_grid.specs.Reads.{shown_of}
-use Rattle.df_checkpoint.specs.Chain.{OfTold}
-use Rattle.df_checkpoint.specs.Reads.{ChainAnswer}
 use Rattle.df_opening.specs.Below.{shape}
 use Rattle.df_mirror.specs.declared.ending.Ending.{Ending}
-use Rattle.df_mirror.specs.Trailers.{ReadsNamed, ending_of}
-use Rattle.df_mirror.specs.Walks.{content_of}
+use Rattle.df_mirror.specs.Trailers.{ReadsNamed}
 use Rattle.df_mirror.proofs.Trailers.{named_refused, named_text, of_complete, told_answer}
 use Rattle.df_mirror.proofs.trailer.read_named.Goals as goal
 

@@ -1,14 +1,13 @@
 -- The trailer is read, or there is none.
-use Rattle.std.proofs.Common.{◌≡◌, ◌≢◌, List, None, Some, sym, ◌∙◌, ap, subst, arith}
-use Rattle.std.specs.Prelude.{Err, Ok}
+use Rattle.std.proofs.Common.{◌≡◌, ◌≢◌, List, Some, sym, subst, arith}
+use Rattle.std.specs.Prelude.{Err}
 use Rattle.df_format.specs.declared.superblock.SuperFields.{SuperFields}
 use Rattle.df_grid.specs.Grid.{GridState}
 use Rattle.df_sessions.specs.Table.{Table}
 use Rattle.df_mirror.specs.declared.ending.Ending.{Ending}
-use Rattle.df_mirror.specs.Refusals.{RefusesTrailer}
 use Rattle.df_mirror.specs.Trailers.{empty_grid}
 use Rattle.df_sessions.specs.declared.session.Session.{Session}
-use Rattle.df_mirror.specs.Walks.{HasText, ReadsText, content_of, units_of}
+use Rattle.df_mirror.specs.Walks.{HasText, ReadsText, units_of}
 use Rattle.df_mirror.proofs.Trailers.{grid_is, no_text, pending_of, text_refused, text_untracked}
 use Rattle.df_mirror.proofs.trailer.read_trailer.Goals as goal
 

@@ -1,5 +1,5 @@
 -- A unit that is shown is left alone, and one that isn't is taken.
-use Rattle.std.proofs.Common.{◌≡◌, ◌∙◌, Option, Some, refl, subst, sym, length, ℕ, Result, Ok, Err}
+use Rattle.std.proofs.Common.{◌≡◌, ◌∙◌, Option, refl, subst, sym, length, Result, Ok, Err}
 use Rattle.df_disk.specs.Told.{Told}
 use Rattle.df_layout.specs.declared.damage.Class.{Class}
 use Rattle.df_buffers.specs.Rooms.{Room}
