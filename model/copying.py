@@ -10,18 +10,13 @@ import sys
 
 sys.dont_write_bytecode = True
 
-import argparse
-import os
-import tempfile
-import time
-from collections import Counter
-from random import Random, SystemRandom
 from typing import Optional
 
-from tries import arguments, filecopies, form, generate, recovery, script, stops
-from tries.binary import Binary, Disagreement, Result, expect, has_strace, require
+from tries import filecopies, form, generate, recovery, script, stops
+from tries.binary import expect, has_strace, require
 from tries.common import Try, same_bytes
 from tries.form import SECTOR, Home, Layout
+from tries.pairs import Pair, try_pairs
 
 TINY = Layout(16, 4096, 1, 4096, 8)
 DISK = 5
@@ -29,39 +24,6 @@ DISK = 5
 LOADER = 10
 # The greatest file of a target that is compared byte by byte.
 MOST = 2**26
-
-
-class Pair:
-    """The program over two files in the folder of a binary."""
-
-    def __init__(self, binary: Binary):
-        self.binary = binary
-        self.target = os.path.join(binary.folder, "target")
-
-    def put(self, source: Optional[bytes], target: Optional[bytes]) -> None:
-        """Makes the two files hold these bytes, or be absent."""
-        self.binary.put(source)
-        if os.path.lexists(self.target):
-            os.unlink(self.target)
-        if target is not None:
-            with open(self.target, "wb") as file:
-                file.write(target)
-
-    def run(self, words: list) -> Result:
-        return self.binary.call([self.binary.program, self.binary.path, self.target, *words], b"")
-
-    def failing(self, words: list, rule: str) -> Result:
-        """One run with this injection."""
-        command = ["strace", "-f", "-s", "0", "-o", self.binary.log, "-e", f"inject={rule}"]
-        return self.binary.call([*command, self.binary.program, self.binary.path, self.target, *words], b"")
-
-    def get(self) -> tuple:
-        """The bytes of both; None where one is absent."""
-        target = None
-        if os.path.exists(self.target):
-            with open(self.target, "rb") as file:
-                target = file.read()
-        return self.binary.get(), target
 
 
 def at_rest(t: Try, data: bytes) -> bytes:
@@ -206,29 +168,7 @@ def attempt(t: Try) -> None:
 
 
 def main() -> int:
-    parser = argparse.ArgumentParser(description="Tries the built copy to another layout against an independent model.")
-    parser.add_argument("program", type=arguments.program, help="the built program filecopy, or filecopy.py")
-    parser.add_argument("--seconds", type=arguments.seconds, default=60, help="how long to try (default 60)")
-    parser.add_argument("--seed", type=int, help="the seed (default: a new one)")
-    given = parser.parse_args()
-    seed = SystemRandom().randrange(2**32) if given.seed is None else given.seed
-    counts: Counter = Counter()
-    start, number = time.monotonic(), 0
-    print(f"seed {seed}", flush=True)
-    with tempfile.TemporaryDirectory() as folder:
-        binary = Binary(given.program, folder)
-        try:
-            while time.monotonic() - start < given.seconds:
-                attempt(Try(Random(f"{seed} {number}"), binary, counts))
-                number += 1
-        except Disagreement as error:
-            print(f"DISAGREEMENT, try {number}: {error}")
-            print(f"again: python3 model/copying.py {given.program} --seed {seed}")
-            return 1
-    for name, count in sorted(counts.items()):
-        print(f"{count:8} {name}")
-    print(f"{number} tries, {binary.runs} runs of the program, no disagreement, seed {seed}")
-    return 0
+    return try_pairs("filecopy", "copying.py", "Tries the built copy to another layout against an independent model.", attempt)
 
 
 if __name__ == "__main__":

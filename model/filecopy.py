@@ -26,9 +26,14 @@ def done(file: File, events: list) -> None:
             file.sync()
 
 
+def paths_and_words(words: list) -> tuple:
+    """The two paths, and the words behind them; without both paths a word that has no meaning."""
+    return (words[:2], [word.decode() for word in words[2:]]) if len(words) >= 2 else ([b"", b""], ["-"])
+
+
 def act(words: list) -> int:
     """Does what the words say, and gives the status."""
-    paths, rest = (words[:2], [word.decode() for word in words[2:]]) if len(words) >= 2 else ([b"", b""], ["-"])
+    paths, rest = paths_and_words(words)
     if filecopies.command(None, None, rest).status == filecopies.WORDS:
         tell(filecopies.USAGE)
         return filecopies.WORDS
