@@ -102,9 +102,9 @@ fn a_new_file_is_copied_without_a_trailer(rt: HostRuntime) -> Result<(), Fail> {
 }
 
 // The version and the boot that the header of the block at this sector has.
-fn version_and_boot(disk: &mut MemoryDisk, sector: u64) -> Result<(u8, u8), Fail> {
+fn version_and_boot(disk: &mut MemoryDisk, sector: u16) -> Result<(u8, u8), Fail> {
     let mut bytes = [0u8; SECTOR];
-    match disk.read(sector, &mut bytes) {
+    match disk.read(sector.into(), &mut bytes) {
         Ok(()) => Ok((bytes[122], bytes[124])),
         Err(_) => Err("the sector isn't read".into()),
     }
@@ -139,7 +139,7 @@ fn each_unit_is_read_once(rt: HostRuntime) -> Result<(), Fail> {
     let before = opened.calls();
     let _ran = df_runs::run_words(alloc, &mut opened, &["recover"])?;
     let only_opened = opened.calls().saturating_sub(before);
-    if copied != only_opened + 2 {
+    if copied != only_opened.saturating_add(2) {
         return Err("another number of reads".into());
     }
     // The target's: four reads, the header sector, a reply, a block, a trailer block, a sync, four copies with a sync each.

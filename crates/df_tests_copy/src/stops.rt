@@ -99,7 +99,7 @@ fn each_call_of_the_source_may_fail(rt: HostRuntime) -> Result<(), Fail> {
         expect(alloc, &mut from, &mut to, LEAST, FAULT)?;
         expect_words(alloc, &mut to, &["recover"], NOT_FORMATTED)?;
     }
-    let mut from = failing_source(alloc, calls + 1)?;
+    let mut from = failing_source(alloc, calls.saturating_add(1))?;
     let mut to = blank(alloc, &[])?;
     expect(alloc, &mut from, &mut to, LEAST, done("copied 30\n"))
 }
