@@ -64,7 +64,7 @@ fn the_first_calls_may_fail(rt: HostRuntime) -> Result<(), Fail> {
     let [from, _to] = calls(rt.alloc())?;
     let mut second = recovered(rt.alloc(), &[])?;
     for call in [1, 3, 7, 8] {
-        expect_failing(rt.alloc(), from + call, &mut second)?;
+        expect_failing(rt.alloc(), from.saturating_add(call), &mut second)?;
     }
     Ok(())
 }
@@ -86,7 +86,7 @@ fn the_calls_in_between_may_fail(rt: HostRuntime) -> Result<(), Fail> {
     let [from, _to] = calls(rt.alloc())?;
     let mut second = recovered(rt.alloc(), &[])?;
     for call in [11, 12, 14, 15, 18] {
-        expect_failing(rt.alloc(), from + call, &mut second)?;
+        expect_failing(rt.alloc(), from.saturating_add(call), &mut second)?;
     }
     Ok(())
 }
@@ -96,7 +96,7 @@ fn the_second_disk_may_fail(rt: HostRuntime) -> Result<(), Fail> {
     let [from, _to] = calls(rt.alloc())?;
     for call in [1, 6] {
         let mut first = recovered(rt.alloc(), &[])?;
-        let mut second = recovered(rt.alloc(), &[from + call])?;
+        let mut second = recovered(rt.alloc(), &[from.saturating_add(call)])?;
         hurt_all(&mut first)?;
         let ran = mend(rt.alloc(), &mut first, &mut second)?;
         if ran.status != Status::DiskFault {
