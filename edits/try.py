@@ -1,7 +1,8 @@
 """Tries the edits below this folder, which the prover must refuse: python3 edits/try.py [CRATE ..], from anywhere.
 
 They are bugs like those of crates/NAME/must-fail, which the gate tries. They stand here so that the gate keeps within its time: some
-read as if a neighbour there told the same, some are of definitions and laws, which have no body to be wrong, and the rest are of crates
+read as if a neighbour there told the same, some are of definitions and laws, which have no body to be wrong, some are of crates of which
+a check is dear (an open, a replica, the grid, the programs), and the rest are of crates
 whose bugs tests or a crate above would show (layouts, rooms, the free set, printed texts, the generator of a run, the device for tests).
 So they are to be tried by hand, when their crate is touched. The crates, or those
 that are named, are copied into a folder for temporary files together with all below them, with these edits in place of the gate's,

@@ -2,7 +2,7 @@ pub mod Decimals
 pub mod Cutting
 pub mod Meanings
 pub mod Naming
-pub mod Arguments
+pub mod WordsBehind
 pub mod OneMeaning
 pub mod Pieces
 pub mod Finding

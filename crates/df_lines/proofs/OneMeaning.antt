@@ -8,8 +8,9 @@ use Rattle.df_lines.specs.Script.{Begins, IsLine, IsRefused}
 use Rattle.df_lines.specs.Text.{line_of, after_line, taken}
 use Rattle.df_lines.proofs.Cutting.{decimal_no_space, one_split}
 use Rattle.df_lines.proofs.Decimals.{one_number}
-use Rattle.df_lines.proofs.Arguments.{appended, same_rest, staged}
-use Rattle.df_lines.proofs.Meanings.{name_of, first_of, second_of, body_of, line_named, is_named, nothing_said, same_name}
+use Rattle.df_lines.proofs.WordsBehind.{appended, same_rest, staged}
+use Rattle.df_lines.proofs.Meanings.{begun, name_of, first_of, second_of, body_of, line_named, is_named, nothing_said}
+use Rattle.df_lines.proofs.Naming.{one_name}
 
 dash_is_no_hex : (bytes : List ℕ) → decode_of (codes "-") ≡ Ok bytes → ⊥
 dash_is_no_hex bytes is = cc is
@@ -78,7 +79,7 @@ one_of_name line (Read n) m s y one other = ap Read (one_word (codes "read ") n 
 
 pub one_said : OneMeaning
 one_said line one other says says' =
-    let named = is_named other (name_of one) (same_name line one other says says') in
+    let named = is_named other (name_of one) (one_name line (name_of one) (name_of other) (begun line one says) (begun line other says')) in
     one_of_name line one (first_of other) (second_of other) (body_of other) says (subst (Says line) named says') ∙ sym named
 
 -- ---- texts

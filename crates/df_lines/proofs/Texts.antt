@@ -6,7 +6,7 @@ use Rattle.std.proofs.lemmas.List.{append-nil, drop_all, take-append-le, drop-ap
 use Rattle.df_base.specs.declared.Failed.{Failed}
 use Rattle.df_lines.specs.declared.next.Next.{Next}
 use Rattle.df_lines.specs.declared.next.Next.TheVariants as nexts
-use Rattle.df_lines.specs.Grammar.{Says, said_with}
+use Rattle.df_lines.specs.Kind.{Grammar}
 use Rattle.df_lines.specs.Reads.{GivesNext, Takes, text_after}
 use Rattle.df_lines.specs.Room.{Contents, Room, IsAtEnd, Tells}
 use Rattle.df_lines.specs.Text.{line_of, after_line, unread}
@@ -28,10 +28,10 @@ pub record Front (window : Contents) (size taken : ℕ) (left : Option (List ℕ
   pub some : all ≢ []
   pub read : line_of window.bytes ≡ line_of all
 
-pub not_none : (xs : List ℕ) → 0 < length xs → xs ≢ []
+not_none : (xs : List ℕ) → 0 < length xs → xs ≢ []
 not_none xs some none = omega (arith, ap length none)
 
-pub length_line : (bytes : List ℕ) → length (line_of bytes) ≡ line_end bytes
+length_line : (bytes : List ℕ) → length (line_of bytes) ≡ line_end bytes
 length_line bytes = length-take-le (line_end bytes) bytes (position_le is_feed bytes)
 
 -- a line that ends before a byte 10
@@ -69,7 +69,7 @@ last window size is all some =
       read = ap (λ (n : ℕ). take n b) (sym is) ∙ sym line;
     }
 
-pub front_line : (window : Contents) (size taken : ℕ) (left : Option (List ℕ)) (all : List ℕ) → IsWhole window size taken → unread window.bytes left ≡ Some all → (IsTrue window.ended → IsAtEnd left) → Front window size taken left all
+front_line : (window : Contents) (size taken : ℕ) (left : Option (List ℕ)) (all : List ℕ) → IsWhole window size taken → unread window.bytes left ≡ Some all → (IsTrue window.ended → IsAtEnd left) → Front window size taken left all
 front_line window size taken left all whole is at_end =
     let parts = parts_of window.bytes all left is in
     let FrontOf : ℕ → List ℕ → Type 0 = λ n l. Front window size n (Some l) (window.bytes ++ l) in
@@ -82,48 +82,58 @@ front_line window size taken left all whole is at_end =
     let here : Front window size taken left (window.bytes ++ parts.0) = subst (λ (o : Option (List ℕ)). Front window size taken o (window.bytes ++ parts.0)) (sym parts.1) front in
     subst (λ (l : List ℕ). Front window size taken left l) (sym parts.2) here
 
-pub gives_line : (old : Room) (window new : Contents) (size taken rest : ℕ) (left : Option (List ℕ)) (all body : List ℕ) (next : Next) → old.reading.bound ≡ window.size - 1 → size < window.size → unread window.bytes left ≡ Some all → Front window size taken left all → Takes window new old.reading.budget rest body size taken next → GivesNext old (record { reading = record { held = new.bytes; bound = new.size - 1; budget = rest }; ended = new.ended; body = body }) all left next
-gives_line old window new size taken rest left all body (nexts.Line l) bound fits is front takes = record {
-  line = record {
-    within = record { line = omega (arith, front.size_is); all = omega (arith, front.taken_is, takes.0) };
-    says = subst (λ (line : List ℕ). Says line (said_with body l)) (sym front.line) takes.4;
-  };
-  rest = ap (λ (b : List ℕ). unread b left) takes.2 ∙ front.rest;
-  budget = omega (arith, front.taken_is, takes.1);
-}
-gives_line old window new size taken rest left all body nexts.Refused bound fits is front takes = record {
-  refuses = record {
-    some = front.some;
-    none = λ said line. takes.2 said (omega (arith, front.taken_is, line.within.all)) (subst (λ (l : List ℕ). Says l said) front.line line.says);
-  };
-  rest = ap (λ (w : Contents). unread w.bytes left) takes.0 ∙ is;
-  read = inl (ap (λ (w : Contents). line_of w.bytes) takes.0 ∙ front.read);
-}
-gives_line old window new size taken rest left all body nexts.End bound fits is front takes = absurd takes
+module _ {L : Type 0} (grammar : Grammar L) where
+  gives_line : (old : Room) (window new : Contents) (size taken rest : ℕ) (left : Option (List ℕ)) (all body : List ℕ) (next : Next L) → old.reading.bound ≡ window.size - 1 → size < window.size → unread window.bytes left ≡ Some all → Front window size taken left all → Takes grammar window new old.reading.budget rest body size taken next → GivesNext grammar old (record { reading = record { held = new.bytes; bound = new.size - 1; budget = rest }; ended = new.ended; body = body }) all left next
+  gives_line old window new size taken rest left all body (nexts.Line l) bound fits is front takes = record {
+    line = record {
+      within = record { line = omega (arith, front.size_is); all = omega (arith, front.taken_is, takes.0) };
+      says = subst (λ (line : List ℕ). grammar.says line (grammar.said_with body l)) (sym front.line) takes.4;
+    };
+    rest = ap (λ (b : List ℕ). unread b left) takes.2 ∙ front.rest;
+    budget = omega (arith, front.taken_is, takes.1);
+  }
+  gives_line old window new size taken rest left all body nexts.Refused bound fits is front takes = record {
+    refuses = record {
+      some = front.some;
+      none = λ said line. takes.2 said (omega (arith, front.taken_is, line.within.all)) (subst (λ (l : List ℕ). grammar.says l said) front.line line.says);
+    };
+    rest = ap (λ (w : Contents). unread w.bytes left) takes.0 ∙ is;
+    read = inl (ap (λ (w : Contents). line_of w.bytes) takes.0 ∙ front.read);
+  }
+  gives_line old window new size taken rest left all body nexts.End bound fits is front takes = absurd takes
 
--- what is still unread after it
-pub tells_line : (bound : ℕ) (window new : Contents) (size taken budget rest : ℕ) (left : Option (List ℕ)) (all body : List ℕ) (next : Next) → unread window.bytes left ≡ Some all → (IsTrue window.ended → IsAtEnd left) → Front window size taken left all → Takes window new budget rest body size taken next → Tells (record { reading = record { held = new.bytes; bound = bound; budget = rest }; ended = new.ended; body = body }) left (text_after {E = Failed} (Ok next) all)
-tells_line bound window new size taken budget rest left all body (nexts.Line l) is at_end front takes = record {
-  is = ap (λ (b : List ℕ). unread b left) takes.2 ∙ front.rest;
-  ended = λ now. at_end (sym takes.3 ∙ now);
-}
-tells_line bound window new size taken budget rest left all body nexts.Refused is at_end front takes = record {
-  is = ap (λ (w : Contents). unread w.bytes left) takes.0 ∙ is;
-  ended = λ now. at_end (sym (ap (λ (w : Contents). w.ended) takes.0) ∙ now);
-}
-tells_line bound window new size taken budget rest left all body nexts.End is at_end front takes = absurd takes
+  -- what is still unread after it
+  tells_line : (bound : ℕ) (window new : Contents) (size taken budget rest : ℕ) (left : Option (List ℕ)) (all body : List ℕ) (next : Next L) → unread window.bytes left ≡ Some all → (IsTrue window.ended → IsAtEnd left) → Front window size taken left all → Takes grammar window new budget rest body size taken next → Tells (record { reading = record { held = new.bytes; bound = bound; budget = rest }; ended = new.ended; body = body }) left (text_after {E = Failed} (Ok next) all)
+  tells_line bound window new size taken budget rest left all body (nexts.Line l) is at_end front takes = record {
+    is = ap (λ (b : List ℕ). unread b left) takes.2 ∙ front.rest;
+    ended = λ now. at_end (sym takes.3 ∙ now);
+  }
+  tells_line bound window new size taken budget rest left all body nexts.Refused is at_end front takes = record {
+    is = ap (λ (w : Contents). unread w.bytes left) takes.0 ∙ is;
+    ended = λ now. at_end (sym (ap (λ (w : Contents). w.ended) takes.0) ∙ now);
+  }
+  tells_line bound window new size taken budget rest left all body nexts.End is at_end front takes = absurd takes
 
-pub gives_refusal : (old : Room) (window : Contents) (left : Option (List ℕ)) (all body : List ℕ) → old.reading.bound ≡ window.size - 1 → 0 < window.size → IsOverfull window → unread window.bytes left ≡ Some all → GivesNext old (record { reading = record { held = window.bytes; bound = window.size - 1; budget = old.reading.budget }; ended = window.ended; body = body }) all left nexts.Refused
-gives_refusal old window left all body bound some over is =
-    let b = window.bytes in
-    let parts = parts_of b all left is in
-    let at = position_past is_feed b parts.0 over.none in
-    let size = ap (λ (l : List ℕ). length (line_of l)) parts.2 ∙ length_line (b ++ parts.0) in
-    record {
-      refuses = record {
-        some = not_none all (omega (arith, ap length parts.2, length-append b parts.0, over.full));
-        none = λ said line. omega (arith, size, at, line.within.line, over.full);
-      };
-      rest = is;
-      read = inr (omega (arith, length_line b, over.none, over.full));
-    }
+  -- what a reader gives of a text whose next line is whole in the window, and what is still unread then
+  pub next_line : (old : Room) (window new : Contents) (size taken rest : ℕ) (before left : Option (List ℕ)) (all body : List ℕ) (next : Next L) → old.reading.bound ≡ window.size - 1 → IsWhole window size taken → unread window.bytes left ≡ unread old.reading.held before → ((IsTrue old.ended → IsAtEnd before) → IsTrue window.ended → IsAtEnd left) → Takes grammar window new old.reading.budget rest body size taken next → Tells old before all
+      → let room : Room = record { reading = record { held = new.bytes; bound = new.size - 1; budget = rest }; ended = new.ended; body = body } in GivesNext grammar old room all left next × Tells room left (text_after {E = Failed} (Ok next) all)
+  next_line old window new size taken rest before left all body next bound whole same ended takes tells =
+      let is = same ∙ tells.is in
+      let at_end = ended tells.ended in
+      let front = front_line window size taken left all whole is at_end in
+      (gives_line old window new size taken rest left all body next bound whole.fits is front takes, tells_line (new.size - 1) window new size taken old.reading.budget rest left all body next is at_end front takes)
+
+  pub gives_refusal : (old : Room) (window : Contents) (left : Option (List ℕ)) (all body : List ℕ) → old.reading.bound ≡ window.size - 1 → 0 < window.size → IsOverfull window → unread window.bytes left ≡ Some all → GivesNext grammar old (record { reading = record { held = window.bytes; bound = window.size - 1; budget = old.reading.budget }; ended = window.ended; body = body }) all left nexts.Refused
+  gives_refusal old window left all body bound some over is =
+      let b = window.bytes in
+      let parts = parts_of b all left is in
+      let at = position_past is_feed b parts.0 over.none in
+      let size = ap (λ (l : List ℕ). length (line_of l)) parts.2 ∙ length_line (b ++ parts.0) in
+      record {
+        refuses = record {
+          some = not_none all (omega (arith, ap length parts.2, length-append b parts.0, over.full));
+          none = λ said line. omega (arith, size, at, line.within.line, over.full);
+        };
+        rest = is;
+        read = inr (omega (arith, length_line b, over.none, over.full));
+      }

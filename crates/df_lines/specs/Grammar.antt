@@ -1,6 +1,7 @@
 -- What one line of a script says.
-use Rattle.std.specs.Prelude.{◌≡◌, ◌⊎◌, ◌<◌, ◌^◌, ℕ, List, [], ◌∷◌, ◌++◌, length, take, codes, decimal, Ok, ⊤}
+use Rattle.std.specs.Prelude.{◌≡◌, ◌⊎◌, ◌<◌, ◌≤◌, ◌^◌, ℕ, List, [], ◌∷◌, ◌++◌, length, take, codes, decimal, Ok, ⊤}
 use Rattle.hex.specs.Hex.{decode_of}
+use Rattle.df_lines.specs.Kind.{Grammar}
 use Rattle.df_lines.specs.declared.line.Line.{Line}
 use Rattle.df_lines.specs.declared.line.Line.TheVariants as lines
 
@@ -68,6 +69,12 @@ pub record AreRequest (words : List ℕ) (client request : ℕ) (body : List ℕ
   pub is : words ≡ spaced (decimal client ∷ decimal request ∷ word ∷ [])
   pub fits : (client < 2 ^ 128) × (request < 2 ^ 64) × IsBody word body
 
+-- The words behind the name of a line that has a number up to this one, and a body.
+pub record AreSized (words : List ℕ) (most n : ℕ) (body : List ℕ) : Type 0 where
+  pub word : List ℕ
+  pub is : words ≡ spaced (decimal n ∷ word ∷ [])
+  pub fits : (n ≤ most) × IsBody word body
+
 -- The line says this. Only numbers' widths bound what a line may say; what a call takes is the call's own matter.
 pub record Says (line : List ℕ) (said : Said) : Type 0 where
   pub word : List ℕ
@@ -98,3 +105,7 @@ body_length (lines.Reply op n) = n
 body_length (lines.Block kind n) = n
 body_length (lines.Checkpoint n) = n
 body_length line = 0
+
+-- all of this, for a reader
+abbrev pub script_lines : Grammar Line
+script_lines = record { Said = Said; says = Says; said_with = said_with; body_length = body_length }

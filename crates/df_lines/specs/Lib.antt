@@ -1,6 +1,8 @@
+pub mod Kind
 pub mod Grammar
 pub mod Words
 pub mod Text
+pub mod Lines
 pub mod Script
 pub mod Laws
 pub mod Room

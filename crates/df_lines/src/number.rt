@@ -1,21 +1,14 @@
 // Decimal numbers in their one spelling: digits with no zero before them, `0` itself aside.
-ghost use Rattle.std.specs.Prelude.{◌≡◌, ◌<◌, ◌^◌, ℕ, List, [], ◌∷◌, ◌++◌};
+ghost use Rattle.std.specs.Prelude.{◌≡◌, ◌<◌, ◌≤◌, ◌^◌, ℕ, List, [], ◌∷◌, ◌++◌};
 ghost use Rattle.std.specs.Prelude.{decimal, IfSome, IfNone};
-
-/// The number that the bytes spell, or None where they spell none below 2^8.
-pub(crate) fn u8_of(digits: &[u8]) -> Option<u8>
-    ensures found { IfSome result (λ n. digits.now ≡ decimal n) }
-    ensures none { IfNone result ((n : ℕ) → n < 2 ^ 8 → digits.now ≡ decimal n → ⊥) }
-{
-    u8::try_from(u64_of(digits)?).ok()
-}
 
 /// The number that the bytes spell, or None where they spell none below 2^32.
 pub fn u32_of(digits: &[u8]) -> Option<u32>
     ensures found { IfSome result (λ n. digits.now ≡ decimal n) }
     ensures none { IfNone result ((n : ℕ) → n < 2 ^ 32 → digits.now ≡ decimal n → ⊥) }
 {
-    u32::try_from(u64_of(digits)?).ok()
+    let number = number_of(digits, u32::MAX.into())?;
+    Some(number as u32)
 }
 
 /// The number that the bytes spell, or None where they spell none below 2^64.
@@ -23,7 +16,17 @@ pub fn u64_of(digits: &[u8]) -> Option<u64>
     ensures found { IfSome result (λ n. digits.now ≡ decimal n) }
     ensures none { IfNone result ((n : ℕ) → n < 2 ^ 64 → digits.now ≡ decimal n → ⊥) }
 {
-    u64::try_from(u128_of(digits)?).ok()
+    let number = number_of(digits, u64::MAX.into())?;
+    Some(number as u64)
+}
+
+/// The number that the bytes spell, or None where they spell none up to `most`.
+pub(crate) fn number_of(digits: &[u8], most: u128) -> Option<u128>
+    ensures found { IfSome result (λ n. (digits.now ≡ decimal n) × (n ≤ most)) }
+    ensures none { IfNone result ((n : ℕ) → n ≤ most → digits.now ≡ decimal n → ⊥) }
+{
+    let number = u128_of(digits)?;
+    if number <= most { Some(number) } else { None }
 }
 
 /// The number that the bytes spell, or None where they spell none below 2^128.

@@ -6,8 +6,8 @@ ghost use Rattle.df_lines.specs.Room.{IsAtEnd, IsFresh, Tells, line_bound};
 ghost use Rattle.df_lines.specs.Reads.{GivesNext, Spends, Takes, text_after};
 ghost use Rattle.df_lines.specs.Text.{unread};
 
+use crate::kind::LineKind;
 use crate::next::Next;
-use crate::parser::parse;
 use crate::window::{Found, Window};
 use df_base::{Failed, OutOfMemory, Source};
 use df_layout::Layout;
@@ -70,10 +70,10 @@ impl LineRoom {
 
     /// Takes the next line of the script. `Failed` is the source's: nothing of the script is lost,
     /// and the call may be made again. After `Next::Refused` the line is still there.
-    pub fn next<S: Source>(&mut self, source: &mut S) -> Result<Next, Failed>
+    pub fn next<L: LineKind, S: Source>(&mut self, source: &mut S) -> Result<Next<L>, Failed>
         ensures gives { (text : List ℕ) → Tells self.old (S.left source.old) text
-            → IfOk result (GivesNext self.old self.new text (S.left source.new)) }
-        ensures spends { IfOk result (Spends self.old self.new) }
+            → IfOk result (GivesNext L.grammar self.old self.new text (S.left source.new)) }
+        ensures spends { IfOk result (Spends L.grammar self.old self.new) }
         ensures tells { (text : List ℕ) → Tells self.old (S.left source.old) text
             → Tells self.new (S.left source.new) (text_after result text) }
         ensures at_end { (IsTrue self.old.ended → IsAtEnd (S.left source.old))
@@ -111,26 +111,25 @@ impl LineRoom {
 
 /// Takes the line of this size, and this many bytes in all with its end, if it is a script line and
 /// within the budget.
-fn take_line(
+fn take_line<L: LineKind>(
     window: &mut Window,
     body: &mut Vec<u8>,
     budget: &mut u64,
     size: usize,
     taken: usize,
-) -> Next
+) -> Next<L>
     requires some { 0 < taken }
     requires ordered { size ≤ taken }
     requires within { taken ≤ length window.old.bytes }
     requires room { size ≤ 2 * vec_len body.old }
     ensures size { window.new.size ≡ window.old.size }
     ensures body { vec_len body.new ≡ vec_len body.old }
-    ensures takes { Takes window.old window.new budget.old budget.new body.new.items size taken
-        result }
+    ensures takes { Takes L.grammar window.old window.new budget.old budget.new body.new.items size taken result }
 {
     if taken as u64 > *budget {
         return Next::Refused;
     }
-    let Some(line) = parse(&window.bytes()[..size], body) else {
+    let Some(line) = L::parse(&window.bytes()[..size], body) else {
         return Next::Refused;
     };
     window.skip(taken);

@@ -8,7 +8,6 @@ pub mod Counts
 pub mod Chunked
 pub mod Taken
 pub mod Words
-pub mod Reading
 pub mod Told
 pub mod Fitting
 pub mod Laws

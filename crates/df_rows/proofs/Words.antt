@@ -1,10 +1,10 @@
 -- What a line of a table's script says, from its words.
-use Rattle.std.proofs.Common.{◌≡◌, ◌⊎◌, inl, inr, ℕ, ◌^◌, if◌then◌else◌, List, [], ◌∷◌, ◌++◌, length, take, refl, sym, ap, subst, ◌∙◌, arith, length-append}
-use Rattle.std.specs.Prelude.{codes, Option, None, Some, IfNone}
+use Rattle.std.proofs.Common.{◌≡◌, inl, inr, ℕ, ◌+◌, ◌^◌, ◌≤◌, if◌then◌else◌, List, [], ◌∷◌, ◌++◌, refl, sym, ap, subst, ◌∙◌, arith}
+use Rattle.std.specs.Prelude.{codes}
 use Rattle.std.specs.Str.{bytes_eq}
-use Rattle.std.proofs.lemmas.List.{take_all}
-use Rattle.df_lines.specs.Words.{HasNoSpace, Cuts}
-use Rattle.df_lines.proofs.Laws.{NumberFirst, no_cut, one_cut, one_split, one_word, same_rest, two_words}
+use Rattle.df_lines.specs.Grammar.{AreSized}
+use Rattle.df_lines.specs.Words.{Cuts}
+use Rattle.df_lines.proofs.Laws.{Begun, cut_name, one_name, one_word, same_rest, two_words}
 use Rattle.df_rows.specs.Grammar.{Said, Put, Drop, Get, Count, Says}
 use Rattle.df_rows.specs.Laws.{OneMeaning}
 
@@ -34,86 +34,28 @@ line_named name key value =
     else if bytes_eq name (codes "get") then Get key
     else Count
 
-as_named : (said : Said) → line_named (name_of said) (key_of said) (value_of said) ≡ said
-as_named (Put key value) = refl
-as_named (Drop key) = refl
-as_named (Get key) = refl
-as_named Count = refl
+is_named : (said : Said) (name : List ℕ) → name ≡ name_of said → said ≡ line_named name (key_of said) (value_of said)
+is_named (Put key value) name is = rw is refl
+is_named (Drop key) name is = rw is refl
+is_named (Get key) name is = rw is refl
+is_named Count name is = rw is refl
 
-pub is_named : (said : Said) (name : List ℕ) → name ≡ name_of said → said ≡ line_named name (key_of said) (value_of said)
-is_named said name is = sym (as_named said) ∙ ap (λ (n : List ℕ). line_named n (key_of said) (value_of said)) (sym is)
-
--- the line is its name, or begins with it and a space
-pub record Begun (line : List ℕ) (said : Said) : Type 0 where
-  pub rest : List ℕ
-  pub is : (line ≡ name_of said) ⊎ (line ≡ name_of said ++ (32 ∷ rest))
-  pub name : HasNoSpace (name_of said)
-
-begun : (line : List ℕ) (said : Said) → Says line said → Begun line said
-begun line (Put key value) says = record { rest = _; is = inr says.is; name = refl }
-begun line (Drop key) says = record { rest = _; is = inr says.is; name = refl }
-begun line (Get key) says = record { rest = _; is = inr says.is; name = refl }
-begun line Count says = record { rest = []; is = inl says.is; name = refl }
-
--- a line of one word is its name
-alone_as : (line : List ℕ) → HasNoSpace line → (said : Said) → Says line said → line ≡ name_of said
-alone_as line none said says =
-    let b = begun line said says in
-    elim b.is [ inl bare ↦ bare | inr worded ↦ absurd (no_cut line (name_of said) b.rest none worded b.name) ]
-
--- a line that has a space isn't one without
-cut_has_space : (line name words : List ℕ) → Cuts line name words → HasNoSpace line → ⊥
-cut_has_space line name words cuts none =
-    let all : name ≡ line = cuts.front ∙ ap (λ (n : ℕ). take n line) none ∙ take_all (length line) line (omega arith) in
-    omega (arith, ap length cuts.whole, length-append name (32 ∷ words), ap length all)
-
-named_as : (line name words : List ℕ) → Cuts line name words → (said : Said) → Says line said → name ≡ name_of said
-named_as line name words cuts said says =
-    let b = begun line said says in
-    elim b.is [
-      | inl bare ↦ absurd (cut_has_space line name words cuts (subst HasNoSpace (sym bare) b.name))
-      | inr worded ↦ (one_cut line name words (name_of said) b.rest cuts worded b.name).0
-    ]
-
-same_name : (line : List ℕ) (a b : Said) → Says line a → Says line b → name_of a ≡ name_of b
-same_name line a b one other =
-    let x = begun line a one in
-    let y = begun line b other in
-    elim x.is [
-      | inl bare ↦ sym bare ∙ alone_as line (subst HasNoSpace (sym bare) x.name) b other
-      | inr worded ↦ elim y.is [
-        | inl bare ↦ absurd (no_cut line (name_of a) x.rest (subst HasNoSpace (sym bare) y.name) worded x.name)
-        | inr words ↦ (one_split (name_of a) x.rest (name_of b) y.rest x.name y.name (sym worded ∙ words)).0
-      ]
-    ]
+begun : (line : List ℕ) (said : Said) → Says line said → Begun line (name_of said)
+begun line (Put key value) says = record { rest = _; is = inr says.is; word = refl }
+begun line (Drop key) says = record { rest = _; is = inr says.is; word = refl }
+begun line (Get key) says = record { rest = _; is = inr says.is; word = refl }
+begun line Count says = record { rest = []; is = inl says.is; word = refl }
 
 -- a line of this name is the one that the name stands for
 pub only : (line name words known : List ℕ) → Cuts line name words → name ≡ known → ((key : ℕ) (value : List ℕ) → Says (known ++ (32 ∷ words)) (line_named known key value) → ⊥) → (said : Said) → Says line said → ⊥
 only line name words known cuts is none said says =
-    let same = is_named said known (sym is ∙ named_as line name words cuts said says) in
+    let same = is_named said known (sym is ∙ cut_name line name words (name_of said) cuts (begun line said says)) in
     let whole : line ≡ known ++ (32 ∷ words) = cuts.whole ∙ ap (λ (l : List ℕ). l ++ (32 ∷ words)) is in
     none (key_of said) (value_of said) (subst (λ (s : Said). Says (known ++ (32 ∷ words)) s) same (subst (λ (l : List ℕ). Says l said) whole says))
 
-pub other_name : (line name words : List ℕ) → Cuts line name words → (name ≡ codes "put" → ⊥) → (name ≡ codes "drop" → ⊥) → (name ≡ codes "get" → ⊥) → (said : Said) → Says line said → ⊥
-other_name line name words cuts p d g (Put key value) says = p (named_as line name words cuts _ says)
-other_name line name words cuts p d g (Drop key) says = d (named_as line name words cuts _ says)
-other_name line name words cuts p d g (Get key) says = g (named_as line name words cuts _ says)
-other_name line name words cuts p d g Count says = cut_has_space line name words cuts (subst HasNoSpace (sym says.is) refl)
-
--- the other lines have a space
-pub other_alone : (line : List ℕ) → HasNoSpace line → (line ≡ codes "count" → ⊥) → (said : Said) → Says line said → ⊥
-other_alone line none c Count says = c says.is
-other_alone line none c said says = no_cut line (name_of said) _ none says.is refl
-
--- what stands behind a call that found nothing
-pub if_none : {A : Type 0} (found : Option A) (P Q : Type 0) → IfNone found P → (P → Q) → IfNone found Q
-if_none None P Q none more = more none
-if_none (Some x) P Q none more = tt
-
--- ---- the key of a put
-
-pub key_first : (words : List ℕ) (key : ℕ) (value : List ℕ) → (says : Says (codes "put " ++ words) (Put key value)) → NumberFirst words (2 ^ 128) key says.word
-key_first words key value says = record { is = same_rest (codes "put ") words _ says.is; fits = says.fits.0; wide = says.fits.0 }
+-- what a put says of the words behind its name
+pub putting : (words : List ℕ) (most key : ℕ) (value : List ℕ) → 2 ^ 128 ≤ most + 1 → Says (codes "put " ++ words) (Put key value) → AreSized words most key value
+putting words most key value wide says = record { word = says.word; is = same_rest (codes "put ") words _ says.is; fits = (omega (arith, says.fits.0), says.fits.1) }
 
 -- ---- a line says one thing
 
@@ -130,5 +72,5 @@ one_of_name line Count l y one other = refl
 
 pub one_said : OneMeaning
 one_said line one other says says' =
-    let named = is_named other (name_of one) (same_name line one other says says') in
+    let named = is_named other (name_of one) (one_name line (name_of one) (name_of other) (begun line one says) (begun line other says')) in
     one_of_name line one (key_of other) (value_of other) says (subst (Says line) named says') ∙ sym named

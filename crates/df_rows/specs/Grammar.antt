@@ -1,6 +1,7 @@
 -- What one line of a table's script says.
 use Rattle.std.specs.Prelude.{◌≡◌, ℕ, ◌^◌, ◌<◌, List, [], ◌∷◌, take, codes, decimal, ⊤}
 use Rattle.df_lines.specs.Grammar.{IsBody, spaced}
+use Rattle.df_lines.specs.Kind.{Grammar}
 use Rattle.df_rows.specs.declared.line.Line.{Line}
 use Rattle.df_rows.specs.declared.line.Line.TheVariants as lines
 
@@ -42,3 +43,7 @@ said_with buffer lines.Count = Count
 abbrev pub value_length : Line → ℕ
 value_length (lines.Put key n) = n
 value_length line = 0
+
+-- all of this, for a reader
+abbrev pub table_lines : Grammar Line
+table_lines = record { Said = Said; says = Says; said_with = said_with; body_length = value_length }

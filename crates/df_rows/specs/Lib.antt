@@ -5,8 +5,6 @@ pub mod Sorted
 pub mod Limits
 pub mod Blocks
 pub mod Grammar
-pub mod Script
-pub mod Reads
 pub mod Answers
 pub mod Lines
 pub mod Laws

@@ -10,10 +10,8 @@ mod finding;
 mod limits;
 mod line;
 mod meaning;
-mod next;
 mod parser;
 mod printer;
-mod reader;
 mod refusal;
 mod row;
 mod table;
@@ -26,10 +24,7 @@ pub use line::Line;
 pub use meaning::{
     blocks_are_table, commands_in_turn, one_command, one_meaning, one_row, one_table, tables_fit,
 };
-pub use next::Next;
-pub use parser::parse;
 pub use printer::{print_answer, print_not_table};
-pub use reader::ScriptRoom;
 pub use refusal::Refusal;
 pub use row::{LONGEST_VALUE, Row};
 pub use table::ObjectTable;

@@ -63,15 +63,9 @@ pub fn print_not_table<W: Sink>(sink: &mut W, place: Place) -> Result<(), Failed
     ensures prints { Prints (not_table_text place) (W.written sink.old) (W.written sink.new) result }
     ensures cause { HasCause (W.faults sink.old) (W.faults sink.new) result }
 {
-    write_line(sink, &not_table_line(place))
-}
-
-fn not_table_line(place: Place) -> Text
-    ensures { result.items ≡ not_table_text place }
-{
     let mut line = ArrayVec::new();
     put(&mut line, "refused NotTable ");
     put_place(&mut line, place);
     put(&mut line, "\n");
-    line
+    write_line(sink, &line)
 }

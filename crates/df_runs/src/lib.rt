@@ -2,6 +2,7 @@
 #![tactic(auto)]
 
 mod copies;
+mod expected;
 mod long;
 mod runs;
 mod scripts;
@@ -10,6 +11,7 @@ mod summaries;
 
 pub use copies::{FRONT, copy};
 pub use df_top::{Status, words_have_one_meaning};
+pub use expected::{expect_script, expect_text, expect_words, stopped};
 pub use long::long_session;
 pub use runs::{
     BOOT_CALLS, BOOT_EVENTS, FIND_CALLS, FORMAT_CALLS, FORMAT_EVENTS, Ran, WordList, blank,

@@ -1,5 +1,6 @@
 mod Untouched
 mod Joins
+mod ReadCalls
 mod Exact
 mod InWords
 mod Kept
@@ -9,4 +10,5 @@ mod Acknowledged
 mod Spared
 mod Keepings
 mod Founds
+mod Files
 pub mod Laws

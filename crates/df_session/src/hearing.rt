@@ -44,11 +44,7 @@ fn is_fault(answer: &Answer) -> bool
         Answer::ReadPrepare(answer) => blames(answer),
         Answer::ReadReply(answer) => blames(answer),
         Answer::ReadBlock(answer) => blames(answer),
-        Answer::Stage(_)
-        | Answer::Release(_)
-        | Answer::Begin(_)
-        | Answer::Scrub(_)
-        | Answer::Recent => false,
+        _ => false,
     }
 }
 
@@ -60,21 +56,7 @@ fn unless_damaged(answer: Answer) -> Result<Answer, Fault>
         Answer::Advance(Err(StepError::Damaged { place, class })) => {
             Err(Fault::Damaged { place, class })
         }
-        Answer::Advance(Err(StepError::NotRunning))
-        | Answer::Advance(Err(StepError::DiskFault))
-        | Answer::Advance(Ok(_))
-        | Answer::Append(_)
-        | Answer::Stage(_)
-        | Answer::Flush(_)
-        | Answer::Reply(_)
-        | Answer::WriteBlock(_)
-        | Answer::Release(_)
-        | Answer::Begin(_)
-        | Answer::ReadPrepare(_)
-        | Answer::ReadReply(_)
-        | Answer::ReadBlock(_)
-        | Answer::Scrub(_)
-        | Answer::Recent => Ok(answer),
+        _ => Ok(answer),
     }
 }
 

@@ -1,10 +1,10 @@
 -- The commands of a line, and of an opening: what was asked for of them, and which puts and drops are among them.
-use Rattle.std.proofs.Common.{◌≡◌, ◌⊎◌, inl, inr, ℕ, zero, suc, Bool, true, false, if◌then◌else◌, List, [], ◌∷◌, ◌++◌, map, Option, Some, None, Ok, Err, refl, sym, subst}
+use Rattle.std.proofs.Common.{◌≡◌, ◌⊎◌, inl, inr, ℕ, zero, suc, Bool, true, false, if◌then◌else◌, List, [], ◌∷◌, ◌++◌, map, Option, Some, None, Ok, refl, sym, subst}
 use Rattle.std.specs.Prelude.{All, replicate}
 use Rattle.std.proofs.lemmas.List.Elements.{All-head, All-tail}
 use Rattle.df_disk.specs.Told.{Told}
 use Rattle.df_layout.specs.declared.layout.Layout.{Layout}
-use Rattle.df_model.specs.Commands.{Advance, Answer, Append, Begin, Command, Flush, ReadBlock, ReadPrepare, ReadReply, Recent, Release, Reply, Scrub, Stage, ToAdvance, ToAppend, ToBegin, ToFlush, ToReadBlock, ToReadPrepare, ToReadReply, ToRecent, ToRelease, ToReply, ToScrub, ToStage, ToWriteBlock, WriteBlock}
+use Rattle.df_model.specs.Commands.{Advance, Answer, Append, Begin, Command, Flush, ReadBlock, ReadPrepare, ReadReply, Recent, Release, Reply, Scrub, Stage, ToAppend, WriteBlock}
 use Rattle.df_model.specs.Memory.{Memory}
 use Rattle.df_rows.specs.declared.command.Command.{Command as Change}
 use Rattle.df_rows.specs.declared.command.Command.TheVariants as commands
@@ -87,14 +87,12 @@ asks_made cs s t old new acts answers calls is accepted = asks_all cs acts answe
 -- a table's program asks for it: an append is the client's, and its body is a command's
 abbrev pub HasChange : Command → Type 0
 HasChange (Append client request body) = (c : Change) × IsCommand c × (body ≡ body_of c) × (client ≡ the_client)
-HasChange (Reply op body) = Unit {0}
-HasChange (WriteBlock kind body) = Unit {0}
-HasChange (Release address) = Unit {0}
-HasChange (Begin root) = Unit {0}
-HasChange Advance = Unit {0}
-HasChange (ReadPrepare op) = Unit {0}
-HasChange (ReadBlock address) = Unit {0}
-HasChange command = ⊥
+HasChange (Stage client request body) = ⊥
+HasChange Flush = ⊥
+HasChange (ReadReply client) = ⊥
+HasChange Scrub = ⊥
+HasChange Recent = ⊥
+HasChange command = Unit {0}
 
 abbrev pub HaveChanges : List Command → Type 0
 HaveChanges [] = Unit {0}
@@ -129,34 +127,11 @@ acts_have (a ∷ acts) more have rest = (have.0, acts_have acts more have.1 rest
 
 appended_change : (client request : ℕ) (body : List ℕ) (x : Answer) → HasChange (Append client request body) → (some : List Change) × Changes (Append client request body) x some
 appended_change client request body (ToAppend (Ok done)) has = (has.0 ∷ [], (has.0, has.1, has.2, refl))
-appended_change client request body (ToAppend (Err e)) has = ([], refl)
-appended_change client request body (ToStage r) has = ([], refl)
-appended_change client request body (ToFlush r) has = ([], refl)
-appended_change client request body (ToReply r) has = ([], refl)
-appended_change client request body (ToWriteBlock r) has = ([], refl)
-appended_change client request body (ToRelease r) has = ([], refl)
-appended_change client request body (ToBegin r) has = ([], refl)
-appended_change client request body (ToAdvance r) has = ([], refl)
-appended_change client request body (ToReadPrepare r) has = ([], refl)
-appended_change client request body (ToReadReply r) has = ([], refl)
-appended_change client request body (ToReadBlock r) has = ([], refl)
-appended_change client request body (ToScrub r) has = ([], refl)
-appended_change client request body (ToRecent r) has = ([], refl)
+appended_change client request body x has = ([], refl)
 
 one_change : (c : Command) (x : Answer) → HasChange c → (some : List Change) × Changes c x some
 one_change (Append client request body) x has = appended_change client request body x has
-one_change (Stage client request body) x has = ([], refl)
-one_change Flush x has = ([], refl)
-one_change (Reply op body) x has = ([], refl)
-one_change (WriteBlock kind body) x has = ([], refl)
-one_change (Release address) x has = ([], refl)
-one_change (Begin root) x has = ([], refl)
-one_change Advance x has = ([], refl)
-one_change (ReadPrepare op) x has = ([], refl)
-one_change (ReadReply client) x has = ([], refl)
-one_change (ReadBlock address) x has = ([], refl)
-one_change Scrub x has = ([], refl)
-one_change Recent x has = ([], refl)
+one_change c x has = ([], refl)
 
 pub changes_there : (acts : List Act) (answers : List Answer) → ActsHave acts → (changes : List Change) × AreChanges acts answers changes
 changes_there [] [] have = ([], refl)

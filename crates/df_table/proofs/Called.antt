@@ -38,7 +38,7 @@ use Rattle.df_session.specs.declared.hearing.Fault.TheVariants as faults
 use Rattle.df_result.specs.Replying.{IsReply, next_reply, replied}
 use Rattle.df_session.specs.Stepping.{IsStep, OfRunning}
 use Rattle.df_session.proofs.Laws.{on_running}
-use Rattle.df_table.specs.Calls.{Comes, IsRunning, IsStepped, MayAppend, MayBegin, Stepped, accepted_or, done_of, op_of}
+use Rattle.df_table.specs.Calls.{Comes, IsRunning, MayAppend, MayBegin, Stepped, accepted_or, done_of, op_of}
 use Rattle.df_table.specs.declared.ending.Ending.TheVariants.{Disk, OpsSpent, SequenceSpent}
 use Rattle.df_table.specs.Policy.{the_client}
 use Rattle.df_table.specs.Statuses.{ended_by, is_disk}
@@ -238,19 +238,16 @@ module _ (s t : Replica) (old new : Option Told) where
   -- ---- a step
 
   pub record Steps (a : Answer) : Type 0 where
-    pub is : IsStepped a
     pub comes : MakeAll (Advance ∷ []) s t old new
     pub state : Stepped (done_of a) s t
 
   module _ (runs : IsRunning s) where
     step_answered : (r : Result Progress StepError) → IsStep s t old new r → (x : Answered) → Makes Advance s t old new (Some x) → machine_answer (answers.Advance r) ≡ Some x → Steps (answers.Advance r)
     step_answered (Ok (progress.Working left)) is x makes told = record {
-      is = tt;
       comes = one_made Advance s t old new x makes (accepted_by (ToAdvance (Ok (progress.Working left))) x told tt);
       state = on_running s.running (λ r i. (i.0, i.2)) is;
     }
     step_answered (Ok (progress.Done sequence)) is x makes told = record {
-      is = tt;
       comes = one_made Advance s t old new x makes (accepted_by (ToAdvance (Ok (progress.Done sequence))) x told tt);
       state = on_running s.running (λ r i. (i.0, i.2)) is;
     }

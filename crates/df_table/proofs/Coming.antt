@@ -16,7 +16,7 @@ use Rattle.df_theory.specs.View.{View}
 use Rattle.df_theory.proofs.Laws.{disk_barrier_law, holds_found, one_view, rests_safe, safe_disk_law}
 use Rattle.df_units.specs.Bytes.{unit_at}
 use Rattle.df_units.proofs.Laws.{is_format}
-use Rattle.df_model.specs.Work.{Work, kept}
+use Rattle.df_model.specs.Work.{Work}
 use Rattle.df_rows.specs.declared.command.Command.{Command as Change}
 use Rattle.df_rows.specs.Tables.{Table, with_commands}
 use Rattle.df_rows.proofs.Laws.{commands_more}

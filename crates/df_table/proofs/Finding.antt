@@ -89,7 +89,7 @@ table_is_found file t v table found own is =
     let m : Memory = memory_of (shape file) (spelling file) w in
     let shown : Shown = shown_of file t.shown in
     let read : AreRead shown m m.blocks.live is.bodies =
-    bodies_read shown m v.checkpoint.parts.references 1 file.layout.blocks (λ a c from to known. entry_at v.checkpoint.parts.references 1 file.layout.blocks a from to ∙ known) is.bodies is.shown in
+    bodies_read shown m v.checkpoint.parts.references 1 file.layout.blocks (λ a c from to known. entry_at v.checkpoint.parts.references 1 file.layout.blocks a from to ∙ known) is.bodies is.there in
     Found table
     (record {
       base = is.base;

@@ -143,7 +143,7 @@ found_is_table file t v table whole found finds =
     tail_seen shown m (m.content.op + 1) are.prepares v.tail _ _ _ _ are.read found.tail.chain (λ q at. (found.tail.takes q at).shown) (omega (arith, are.upto)) in
     record {
       bodies = are.blocks.bodies;
-      shown = bodies_seen shown m v.checkpoint.parts.references 1 file.layout.blocks (λ a c from to is. entry_at v.checkpoint.parts.references 1 file.layout.blocks a from to ∙ is) are.blocks.bodies read;
+      there = bodies_seen shown m v.checkpoint.parts.references 1 file.layout.blocks (λ a c from to is. entry_at v.checkpoint.parts.references 1 file.layout.blocks a from to ∙ is) are.blocks.bodies read;
       few = omega (arith, are.blocks.few, as_many shown m are.blocks.before are.blocks.bodies are.blocks.read);
       base = are.base;
       rows = are.blocks.taken;

@@ -248,20 +248,20 @@ module _ (file : DataFile) (failed : Option Act) (u to : Replica) (mid new : Opt
       let there : At file u w n t = subst (λ (r : Replica). At file r w n t) (sym calls.0) is in
       subst (λ (l : List Change). IsMidway file (with_commands l t) pending (last_told n).log) (sym are)
       (failed_moments w n t there kept_all (last_told n).log (record { since = grew (last_events failed u to mid new last) n; until = extends_self (last_told n).log }))
-  at_end [] (x ∷ answers) s old calls w n t changes is kept_all are = absurd calls
-  at_end (a ∷ acts) [] s old calls w n t changes is kept_all are = absurd calls
   at_end (a ∷ acts) (x ∷ answers) s old calls w n t changes is kept_all are =
-      let some = are.0 in
-      let more = are.1 in
-      let here = kept_all some are.2 in
       let c = calls.2 in
       let es = c.call.events in
+      let some = are.0 in
+      let more = are.1 in
       let behind = told_after es n in
+      let here = kept_all some are.2 in
       let there = at_behind file a s calls.0 old calls.1 x w n t (with_commands some t) is c here.0 in
       let later = at_end acts answers calls.0 calls.1 calls.3 (next file w a.given a.command).0 behind (with_commands some t) more there here.1 are.3 in
       let ends : all_told s old (a ∷ acts) (x ∷ answers) calls n ≡ all_told calls.0 calls.1 acts answers calls.3 behind = ap last_told (told_append es (events_of calls.0 calls.1 acts answers u mid calls.3) n) in
       subst (λ (o : Told). IsMidway file (with_commands changes t) pending o.log) (sym ends)
       (subst (λ (x : Table). IsMidway file x pending (all_told calls.0 calls.1 acts answers calls.3 behind).log) (sym (ap (λ (l : List Change). with_commands l t) are.4 ∙ commands_more some more t)) later)
+  at_end [] (x ∷ answers) s old calls w n t changes is kept_all are = absurd calls
+  at_end (a ∷ acts) [] s old calls w n t changes is kept_all are = absurd calls
 
   -- at each moment from the k-th answer on
   pub from_answer : (k : ℕ) (acts : List Act) (answers : List Answer) (s : Replica) (old : Option Told) (calls : AreCalls s old acts answers u mid) (w : Work) (n : Told) (t : Table) (some more : List Change) (log : Log) → At file s w n t

@@ -27,7 +27,7 @@ follow_more t (q ∷ ps) (d ∷ cs) p c all one = (all.0, follow_more (with_comm
 pub table_appended : (file : DataFile) (log : UnitLog) (v u : View) (t : Table) (p : Message) (c : Command) → u.checkpoint ≡ v.checkpoint → u.tail ≡ v.tail ++ p ∷ [] → Follows t p.body c → IsTableIn file log v t → IsTableIn file log u (with_command c t)
 table_appended file log v u t p c same longer follows is = record {
   bodies = is.bodies;
-  written = subst (λ (l : List (ℕ × ℕ)). WroteBodies log l is.bodies) (sym (ap (λ k. references_of file (record v { checkpoint = k })) same)) is.written;
+  there = subst (λ (l : List (ℕ × ℕ)). WroteBodies log l is.bodies) (sym (ap (λ k. references_of file (record v { checkpoint = k })) same)) is.there;
   few = is.few;
   base = is.base;
   rows = is.rows;
@@ -40,7 +40,7 @@ table_appended file log v u t p c same longer follows is = record {
 pub table_bare : (file : DataFile) (log : UnitLog) (v u : View) (t : Table) → u.checkpoint.parts ≡ v.checkpoint.parts → u.tail ≡ v.tail → IsTableIn file log v t → IsTableIn file log u t
 table_bare file log v u t parts tail is = record {
   bodies = is.bodies;
-  written = subst (λ (l : List (ℕ × ℕ)). WroteBodies log l is.bodies) (sym (ap (λ (p : Parts). entries p.references (addresses (shape file).layout)) parts)) is.written;
+  there = subst (λ (l : List (ℕ × ℕ)). WroteBodies log l is.bodies) (sym (ap (λ (p : Parts). entries p.references (addresses (shape file).layout)) parts)) is.there;
   few = is.few;
   base = is.base;
   rows = is.rows;
@@ -58,7 +58,7 @@ pub table_finished : (file : DataFile) (log : UnitLog) (u : View) (t : Table) �
     → WroteBodies log (references_of file u) (bodies_of (rows_in_block file.layout) (map.entries t.rows)) → u.tail ≡ [] → IsTableIn file log u t
 table_finished file log u t max few fit blocks wrote empty = record {
   bodies = bodies_of (rows_in_block file.layout) (map.entries t.rows);
-  written = wrote;
+  there = wrote;
   few = blocks;
   base = t;
   rows = subst (λ (n : ℕ). TakesAll (record { max = n; rows = map.empty }) (bodies_of (rows_in_block file.layout) (map.entries t.rows)) t) max (blocks_are_table (rows_in_block file.layout) t (omega (arith, some_rows file.layout)) fit few);

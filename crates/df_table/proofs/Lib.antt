@@ -20,7 +20,8 @@ pub mod Wrote
 pub mod Needed
 pub mod Finished
 pub mod Behind
-pub mod BlockTaken
+pub mod BodyTaken
+mod BlockTaken
 pub mod Others
 pub mod PrepareTaken
 pub mod Taking

@@ -1,18 +1,12 @@
 -- What an open finds of a disk that may be opened is the file, and what the opening finds is the one table.
-use Rattle.std.proofs.Common.{◌≡◌, ◌⊎◌, inl, inr, ◌∙◌, ℕ, Ok, Err, sym, ap, subst}
+use Rattle.std.proofs.Common.{◌≡◌, ◌⊎◌, inl, inr, ◌∙◌, Ok, Err, sym, subst}
 use Rattle.df_base.specs.Image.{Image}
 use Rattle.df_base.specs.Log.{now}
 use Rattle.df_disk.specs.Told.{Told}
 use Rattle.df_layout.specs.declared.layout.Layout.{Layout}
-use Rattle.df_layout.proofs.Laws.{same_layout}
-use Rattle.df_theory.specs.Copies.{IsChosen}
 use Rattle.df_theory.specs.Found.{IsFound}
-use Rattle.df_theory.specs.Units
-use Rattle.df_theory.specs.Units.{Content}
 use Rattle.df_theory.specs.View.{View}
-use Rattle.df_theory.proofs.Laws.{one_chosen_law}
 use Rattle.df_units.specs.Bytes.{unit_at}
-use Rattle.df_units.specs.Meaning.{layout_of}
 use Rattle.df_model.specs.Memory.{Memory, memory_of}
 use Rattle.df_rows.specs.Tables.{Table}
 use Rattle.df_session.specs.Begun.{begun_work}
@@ -20,7 +14,7 @@ use Rattle.df_session.specs.Below.{DataFile, IsOpened, State as Replica, memory,
 use Rattle.df_session.specs.Following.{MayOpen}
 use Rattle.df_session.specs.Found.{FoundFile}
 use Rattle.df_session.specs.Reading.{shown_of}
-use Rattle.df_session.proofs.Laws.{file_there, layout_there, same_file}
+use Rattle.df_session.proofs.Laws.{file_there, found_file, layout_there}
 use Rattle.df_table.specs.declared.ending.Ending.TheVariants.{Disk}
 use Rattle.df_table.specs.declared.status.Status.{Status}
 use Rattle.df_table.specs.Laws.{FindsIn}
@@ -31,23 +25,8 @@ use Rattle.df_table.proofs.OneFound.{finds_one}
 
 -- ---- the file
 
-chosen_for : (layout other : Layout) (cluster another : ℕ) (image : Image) (c : Content) → IsChosen (unit_at layout cluster image) c → IsChosen (unit_at other another image) c
-chosen_for layout other cluster another image c is = record {
-  agreed = record { first = is.agreed.first; second = is.agreed.second; apart = is.agreed.apart; inside = is.agreed.inside; at_first = is.agreed.at_first; at_second = is.agreed.at_second };
-  greatest = λ d agree. is.greatest d (record { first = agree.first; second = agree.second; apart = agree.apart; inside = agree.inside; at_first = agree.at_first; at_second = agree.at_second });
-  lowest = λ d agree rank n low at. is.lowest d (record { first = agree.first; second = agree.second; apart = agree.apart; inside = agree.inside; at_first = agree.at_first; at_second = agree.at_second }) rank n low at;
-}
-
 pub one_file : (file : DataFile) (layout : Layout) (image : Image) (view : View) (s : Replica) → IsFound (shape file) (unit_at file.layout file.cluster image) view → IsOpened layout image s → s.file ≡ file
-one_file file layout image view s found is =
-    let chosen = chosen_for file.layout layout file.cluster s.file.cluster image view.checkpoint.content found.chosen in
-    let one : is.view.checkpoint.content ≡ view.checkpoint.content = one_chosen_law (unit_at layout s.file.cluster image) is.view.checkpoint.content view.checkpoint.content is.found.chosen chosen in
-    let numbers : layout_of s.file.layout ≡ layout_of file.layout = sym is.found.checkpoint.tests.layout ∙ ap (λ (c : Content). c.layout) one ∙ found.checkpoint.tests.layout in
-    let own : s.file.layout ≡ file.layout =
-    same_layout s.file.layout file.layout (ap (λ (l : Units.Layout). l.slots) numbers) (ap (λ (l : Units.Layout). l.message_size) numbers) (ap (λ (l : Units.Layout). l.clients) numbers) (ap (λ (l : Units.Layout). l.block_size) numbers)
-    (ap (λ (l : Units.Layout). l.blocks) numbers) in
-    same_file s.file file own (sym is.found.checkpoint.tests.cluster ∙ ap (λ (c : Content). c.cluster) one ∙ found.checkpoint.tests.cluster)
-    (sym is.found.checkpoint.tests.version ∙ ap (λ (c : Content). c.version) one ∙ found.checkpoint.tests.version)
+one_file file layout image view s found is = found_file file s.file layout image view is.view found is.found
 
 module _ (file : DataFile) (view : View) (t : Told) (may : MayOpen file view t) where
   pub shown_now : now t.log ≡ t.shown

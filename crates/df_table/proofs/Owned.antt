@@ -8,7 +8,7 @@ use Rattle.df_theory.specs.Holds.{Held, Stands}
 use Rattle.df_theory.specs.Next.{IsSameBare}
 use Rattle.df_theory.specs.Sessions.{noted, session_of, sessions_after}
 use Rattle.df_theory.specs.Units.{Header, Message, Parts, Session}
-use Rattle.df_theory.specs.View.{View, sessions}
+use Rattle.df_theory.specs.View.{View}
 use Rattle.df_model.specs.After.{after_running, after_step_of, begun, outcome, with_live, with_prepare, with_reply, with_running}
 use Rattle.df_model.specs.Commands.{Advance, Append, Begin, Command, Flush, Given, ReadBlock, ReadPrepare, ReadReply, Recent, Release, Reply, Scrub, Stage, WriteBlock, supplied_sum}
 use Rattle.df_model.specs.Making.{needed_of, next_address, place_of_reply, prepare_of, reply_of}

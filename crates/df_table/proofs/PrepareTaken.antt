@@ -1,103 +1,60 @@
 -- A prepare behind the checkpoint that is read: the call that was made, and what the opening finds by it.
 use Rattle.std.proofs.Common.{◌≡◌, ◌+◌, ◌<◌, ◌≤◌, ◌%◌, ◌&&◌, inr, ℕ, Bool, true, not, nat_le, nat_lt, List, [], ◌∷◌, Option, Some, None, refl, sym, ◌∙◌, ap, subst, Result, Ok, Err, lt-ltb, le-leb}
 use Rattle.std.proofs.lemmas.Option.{none-some}
-use Rattle.df_base.specs.Causes.{Blamed, IsBlamed}
+use Rattle.df_base.specs.Causes.{Blamed}
 use Rattle.df_disk.specs.Told.{Told}
-use Rattle.df_layout.specs.declared.damage.Class.{Class}
-use Rattle.df_layout.specs.declared.damage.Class.TheVariants.{Blank}
 use Rattle.df_layout.specs.declared.layout.Layout.{Layout}
 use Rattle.df_layout.specs.declared.places.Place.{Place}
 use Rattle.df_layout.specs.declared.places.Zone.TheVariants.{WalPrepares}
 use Rattle.df_theory.specs.Units.{Message}
-use Rattle.df_model.specs.Commands.{Answer, Command, ForReadPrepare, Given, ReadPrepare, ToReadPrepare}
+use Rattle.df_model.specs.Commands.{ReadPrepare, ToReadPrepare}
 use Rattle.df_model.specs.Faults.{is_prepare_fault}
 use Rattle.df_model.specs.Refusals.{first_refusal}
 use Rattle.df_model.specs.Supply.{message_given}
 use Rattle.df_model.specs.declared.reading.PrepareError.{PrepareError}
 use Rattle.df_model.specs.declared.reading.PrepareError.TheVariants as prepare
 use Rattle.df_rows.specs.Tables.{Table}
-use Rattle.df_session.specs.Answering.{Gives, ServesRead, answer_of}
+use Rattle.df_session.specs.Answering.{ServesRead, answer_of}
 use Rattle.df_session.specs.Below.{State as Replica, memory}
-use Rattle.df_session.specs.Links.{Makes}
-use Rattle.df_session.specs.Reading.{IsFoundBy, IsReadPrepare, message_at, prepare_found, shown_of}
-use Rattle.df_session.specs.Serving.{IsCall}
+use Rattle.df_session.specs.Reading.{IsFoundBy, IsReadPrepare, prepare_found, shown_of}
 use Rattle.df_session.specs.declared.hearing.Fault.TheVariants as faults
-use Rattle.df_session.proofs.Laws.{adds_none}
+use Rattle.df_session.proofs.Laws.{reads_prepare}
 use Rattle.df_table.specs.declared.ending.Ending.{Ending}
-use Rattle.df_table.specs.declared.ending.Ending.TheVariants.{Damaged, Disk, NotTable, OpsSpent, SequenceSpent}
+use Rattle.df_table.specs.declared.ending.Ending.TheVariants.{Damaged}
 use Rattle.df_table.specs.Calls.{Comes}
-use Rattle.df_table.specs.Opening.{ReadsPrepare, TakesCommand, place_at, prepare_ending}
+use Rattle.df_table.specs.Opening.{GivesCommand, LacksCommand, ReadsPrepare, TakesCommand, place_at, prepare_ending}
 use Rattle.df_table.specs.Statuses.{is_disk}
-use Rattle.df_table.proofs.Joined.{one_failed, one_made, one_spent}
-
--- ---- what a read is rightly supplied with
-
-abbrev message_for : Replica → Command → Option Told → Option (Result Message Class) → Result Message Class
-message_for s command (Some t) found = message_at s command t.shown
-message_for s command None (Some found) = found
-message_for s command None None = Err Blank
-
-abbrev supply : Replica → (op : ℕ) → Option Told → Option (Result Message Class) → Given
-supply s op told found = ForReadPrepare (message_for s (ReadPrepare op) told found)
-
-found_by : (s : Replica) (command : Command) (told : Option Told) (found : Option (Result Message Class)) → IsFoundBy s command told (message_for s command told found)
-found_by s command (Some t) found = refl
-found_by s command None (Some found) = tt
-found_by s command None None = tt
-
-gives : (s : Replica) (op : ℕ) (told : Option Told) (found : Option (Result Message Class)) → Gives told found (supply s op told found)
-gives s op (Some t) (Some found) = tt
-gives s op (Some t) None = tt
-gives s op None (Some found) = refl
-gives s op None None = tt
+use Rattle.df_table.proofs.BodyTaken.{body_comes, by_body}
+use Rattle.df_table.proofs.Joined.{one_failed, one_spent}
 
 -- ---- the call
 
 module _ (op : ℕ) (s t : Replica) (old new : Option Told) (same : new ≡ old) where
-  makes : (found : Option (Result Message Class)) (answer : Option Answer) → ServesRead (ReadPrepare op) s t old found answer → Makes (ReadPrepare op) s t old new answer
-  makes found answer serves = record {
-    act = record { command = ReadPrepare op; given = supply s op old found };
-    is = refl;
-    calls = record {
-      call = subst (λ (o : Option Told). IsCall (supply s op old found) (ReadPrepare op) s t old o answer) (sym same) (serves (supply s op old found) (refl, found_by s (ReadPrepare op) old found) (gives s op old found));
-      own = adds_none (ReadPrepare op) s old new answer refl same;
-    };
-  }
-
   -- the prepare is lent
-  pub prepare_comes : {A : Type 0} (slot : Place) (table later : Table) (body : List ℕ) (p : Message) (r : Result A Ending) → ServesRead (ReadPrepare op) s t old (prepare_found (Ok p)) (answer_of is_prepare_fault ToReadPrepare (Ok p)) → TakesCommand slot table later body r
+  pub prepare_comes : (A : Type 0) (slot : Place) (table later : Table) (body : List ℕ) (p : Message) (r : Result A Ending) → ServesRead (ReadPrepare op) s t old (prepare_found (Ok p)) (answer_of is_prepare_fault ToReadPrepare (Ok p)) → TakesCommand slot table later body r
       → Comes (ReadPrepare op ∷ []) s t old new r
-  prepare_comes slot table later body p (Ok done) serves takes = one_made (ReadPrepare op) s t old new (ToReadPrepare (Ok p)) (makes (Some (Ok p)) (Some (ToReadPrepare (Ok p))) serves) tt
-  prepare_comes slot table later body p (Err (NotTable place)) serves takes = one_spent (ReadPrepare op) s t old new (ToReadPrepare (Ok p)) (NotTable place) (makes (Some (Ok p)) (Some (ToReadPrepare (Ok p))) serves) refl
-  prepare_comes slot table later body p (Err Disk) serves takes = absurd takes
-  prepare_comes slot table later body p (Err (Damaged place class)) serves takes = absurd takes
-  prepare_comes slot table later body p (Err OpsSpent) serves takes = absurd takes
-  prepare_comes slot table later body p (Err SequenceSpent) serves takes = absurd takes
+  prepare_comes A slot table later body p r serves takes =
+      body_comes A (GivesCommand table later body) (LacksCommand slot table body) (ReadPrepare op) s t old new (ToReadPrepare (Ok p)) r (reads_prepare s t old new same op (Some (Ok p)) (Some (ToReadPrepare (Ok p))) serves) tt takes
 
   -- or it isn't
   pub prepare_refused : (A : Type 0) (e : PrepareError) → ((first last : ℕ) → e ≡ prepare.NotKept first last → ⊥) → ServesRead (ReadPrepare op) s t old (prepare_found (Err e)) (answer_of is_prepare_fault ToReadPrepare (Err e)) → Comes {T = A} (ReadPrepare op ∷ []) s t old new (Err (prepare_ending e))
-  prepare_refused A prepare.DiskFault kept serves = one_failed (ReadPrepare op) s t old new faults.Disk (makes None None serves, tt)
+  prepare_refused A prepare.DiskFault kept serves = one_failed (ReadPrepare op) s t old new faults.Disk (reads_prepare s t old new same op None None serves, tt)
   prepare_refused A (prepare.NotKept first last) kept serves = absurd (kept first last refl)
   prepare_refused A (prepare.Damaged place class) kept serves =
-      one_spent (ReadPrepare op) s t old new (ToReadPrepare (Err (prepare.Damaged place class))) (Damaged place class) (makes (Some (Err class)) (Some (ToReadPrepare (Err (prepare.Damaged place class)))) serves)
+      one_spent (ReadPrepare op) s t old new (ToReadPrepare (Err (prepare.Damaged place class))) (Damaged place class) (reads_prepare s t old new same op (Some (Err class)) (Some (ToReadPrepare (Err (prepare.Damaged place class)))) serves)
       (inr (refl, (ToReadPrepare (Err (prepare.Damaged place class)), ([], refl), inr refl)))
 
 -- ---- what is found
 
 module _ (layout : Layout) (op : ℕ) (s : Replica) (told : Option Told) (t : Told) (is : told ≡ Some t) (of : s.file.layout ≡ layout) (table later : Table) where
-  pub prepare_found_here : {A : Type 0} (p : Message) (body : List ℕ) (r : Result A Ending) → p.body ≡ body → IsReadPrepare op s told (Ok p) → TakesCommand (place_at WalPrepares (op % layout.slots)) table later body r → ReadsPrepare layout (shown_of s.file t.shown) (memory s) op table later r
-  prepare_found_here {A} p body r same exact takes = found r (subst (λ (x : List ℕ). TakesCommand (place_at WalPrepares (op % layout.slots)) table later x r) (sym same) takes)
+  pub prepare_found_here : (A : Type 0) (p : Message) (body : List ℕ) (r : Result A Ending) → p.body ≡ body → IsReadPrepare op s told (Ok p) → TakesCommand (place_at WalPrepares (op % layout.slots)) table later body r → ReadsPrepare layout (shown_of s.file t.shown) (memory s) op table later r
+  prepare_found_here A p body r same exact takes =
+      let slot = place_at WalPrepares (op % layout.slots) in
+      by_body A (GivesCommand table later p.body) (LacksCommand slot table p.body) (ReadsPrepare layout (shown_of s.file t.shown) (memory s) op table later) r (λ done is. (p, shown, is)) (λ place is. (p, shown, is))
+      (subst (λ (x : List ℕ). TakesCommand slot table later x r) (sym same) takes)
     where
       shown : message_given (shown_of s.file t.shown) (memory s) (ReadPrepare op) ≡ Ok p
       shown = sym (subst (λ (o : Option Told). IsFoundBy s (ReadPrepare op) o (Ok p)) is exact.1)
-
-      found : (q : Result A Ending) → TakesCommand (place_at WalPrepares (op % layout.slots)) table later p.body q → ReadsPrepare layout (shown_of s.file t.shown) (memory s) op table later q
-      found (Ok done) takes = (p, shown, takes)
-      found (Err (NotTable place)) takes = (p, shown, takes)
-      found (Err Disk) takes = absurd takes
-      found (Err (Damaged place class)) takes = absurd takes
-      found (Err OpsSpent) takes = absurd takes
-      found (Err SequenceSpent) takes = absurd takes
 
   pub prepare_unfound : (A : Type 0) (e : PrepareError) → ((first last : ℕ) → e ≡ prepare.NotKept first last → ⊥) → IsReadPrepare op s told (Err e) → ReadsPrepare {A = A} layout (shown_of s.file t.shown) (memory s) op table later (Err (prepare_ending e))
   prepare_unfound A prepare.DiskFault kept exact = tt
@@ -111,14 +68,6 @@ pub kept_there : (op : ℕ) (s : Replica) (told : Option Told) (e : PrepareError
 kept_there op s told e behind within exact first last is =
     let kept : (nat_lt s.fields.op op && nat_le op s.head) ≡ true = ap (λ (b : Bool). b && nat_le op s.head) (lt-ltb _ _ behind) ∙ le-leb _ _ within in
     none-some (prepare.NotKept first last) (sym (ap (λ (b : Bool). first_refusal {E = PrepareError} ((not b, prepare.NotKept (s.fields.op + 1) s.head) ∷ [])) kept) ∙ subst (λ (x : PrepareError). IsReadPrepare op s told (Err x)) is exact)
-
-pub command_blamed : {A : Type 0} (slot : Place) (table later : Table) (body : List ℕ) (r : Result A Ending) (n now : ℕ) → TakesCommand slot table later body r → now ≡ n → IsBlamed is_disk n now r
-command_blamed slot table later body (Ok done) n now takes same = same
-command_blamed slot table later body (Err (NotTable place)) n now takes same = same
-command_blamed slot table later body (Err Disk) n now takes same = absurd takes
-command_blamed slot table later body (Err (Damaged place class)) n now takes same = same
-command_blamed slot table later body (Err OpsSpent) n now takes same = same
-command_blamed slot table later body (Err SequenceSpent) n now takes same = same
 
 pub unread_blamed : (e : PrepareError) (n now : ℕ) → ((first last : ℕ) → e ≡ prepare.NotKept first last → ⊥) → Blamed (is_prepare_fault e) n now → Blamed (is_disk (prepare_ending e)) n now
 unread_blamed prepare.DiskFault n now kept blamed = blamed

@@ -9,13 +9,14 @@ use Rattle.df_theory.specs.View.{View, boot_of}
 use Rattle.df_lines.specs.Room.{line_bound}
 use Rattle.df_lines.specs.Text.{after_line, line_of, taken}
 use Rattle.df_rows.specs.Grammar.{Count, Drop, Get, Put, Said, Says}
-use Rattle.df_rows.specs.Script.{Begins, IsRefused}
+use Rattle.df_lines.specs.Lines.{Begins, IsRefused}
 use Rattle.df_rows.specs.Tables.{Table}
 use Rattle.df_session.specs.Below.{DataFile, IsNotRefused, State as Replica, memory}
 use Rattle.df_session.specs.Following.{MayOpen}
 use Rattle.df_session.specs.Found.{FoundFile}
 use Rattle.df_session.specs.Links.{events_made}
 use Rattle.df_session.proofs.Laws.{added_is_told, safe_is_not_refused}
+use Rattle.df_telling.proofs.Laws.{nothing_failed}
 use Rattle.df_table.specs.declared.ending.Ending.{Ending}
 use Rattle.df_table.specs.declared.ending.Ending.TheVariants.{Damaged, Disk, NotTable, OpsSpent, SequenceSpent}
 use Rattle.df_table.specs.declared.status.Status.{Status}
@@ -38,10 +39,10 @@ says_some (Drop key) text none says = let no : Says [] (Drop key) = subst (λ (l
 says_some (Get key) text none says = let no : Says [] (Get key) = subst (λ (l : List ℕ). Says (line_of l) (Get key)) none says in cc (no.is)
 says_some Count text none says = let no : Says [] Count = subst (λ (l : List ℕ). Says (line_of l) Count) none says in cc (no.is)
 
-whole_uncut : (bound budget : ℕ) (text rest : List ℕ) (all asked : List Said) (spare left : ℕ) → Begins bound budget text all spare [] → Begins bound budget text asked left rest → IsRefused bound left rest → ⊥
+whole_uncut : (bound budget : ℕ) (text rest : List ℕ) (all asked : List Said) (spare left : ℕ) → Begins Says bound budget text all spare [] → Begins Says bound budget text asked left rest → IsRefused Says bound left rest → ⊥
 whole_uncut bound budget text rest [] [] spare left whole begins refused = refused.some (begins.1 ∙ sym whole.1)
 whole_uncut bound budget text rest (a ∷ all) [] spare left whole begins refused =
-    let no : IsRefused bound budget text = subst (λ (n : ℕ). IsRefused bound n text) begins.0 (subst (λ (l : List ℕ). IsRefused bound left l) begins.1 refused) in no.none a whole.0
+    let no : IsRefused Says bound budget text = subst (λ (n : ℕ). IsRefused Says bound n text) begins.0 (subst (λ (l : List ℕ). IsRefused Says bound left l) begins.1 refused) in no.none a whole.0
 whole_uncut bound budget text rest [] (b ∷ asked) spare left whole begins refused = says_some b text (sym whole.1) begins.0.says
 whole_uncut bound budget text rest (a ∷ all) (b ∷ asked) spare left whole begins refused = whole_uncut bound (budget - taken text) (after_line text) rest all asked spare left whole.1 begins.1 refused
 
@@ -49,14 +50,8 @@ whole_uncut bound budget text rest (a ∷ all) (b ∷ asked) spare left whole be
 
 module _ (file : DataFile) (view : View) (table : Table) (t : Told) (text : List ℕ) (old new : Outside) (before now : Faults) (status : Status) (may : MayOpen file view t) (unspent : boot_of view < 2 ^ 62) (finds : FindsIn file t view table) (left : old.left ≡ Some text)
     (whole : IsWhole file.layout text) (causes : HasCauses before now status) (none : NoneFailed before now) where
-  no_disk : status ≡ DiskFault → ⊥
-  no_disk is = none.disk (causes.disk.rose is)
-
-  no_source : status ≡ ReadFault → ⊥
-  no_source is = none.source (causes.source.rose is)
-
-  no_sink : status ≡ WriteFault → ⊥
-  no_sink is = none.sink (causes.sink.rose is)
+  unfailed : (status ≡ DiskFault → ⊥) × (status ≡ ReadFault → ⊥) × (status ≡ WriteFault → ⊥)
+  unfailed = nothing_failed DiskFault ReadFault WriteFault before now status causes none
 
   answers : IsImage t.shown × IsNotRefused file t.shown
   answers = safe_is_not_refused file view t may unspent
@@ -68,7 +63,7 @@ module _ (file : DataFile) (view : View) (table : Table) (t : Told) (text : List
 
   module _ (told : (n : Told) × (new.told ≡ Some n)) (s : Replica) (mid : Option Told) (lines : ServesLines file.layout table s mid old new status) where
     halted : (h : Halt) → lines.halt ≡ Some h → (ending : Ending) → h.ending ≡ ending → status ≡ status_of ending → IsOfCall new.told ending → Ends
-    halted h is Disk ends so of_call = absurd (no_disk so)
+    halted h is Disk ends so of_call = absurd (unfailed.0 so)
     halted h is (Damaged place class) ends so of_call = absurd (let untold : Some told.0 ≡ None = sym told.1 ∙ of_call in cc)
     halted h is (NotTable place) ends so of_call = absurd of_call
     halted h is OpsSpent ends so of_call = inr (inr (record { replica = s; mid = mid; lines = lines; halt = h; is = is; spent = subst IsSpent (sym ends) tt }))
@@ -77,7 +72,7 @@ module _ (file : DataFile) (view : View) (table : Table) (t : Told) (text : List
     by_halt : (halt : Option Halt) (cut : Bool) → lines.halt ≡ halt → lines.cut ≡ cut → EndsAs halt cut status → Ends
     by_halt None false is cut ends = elim ends [
       | inl done ↦ inl done
-      | inr read ↦ absurd (no_source read)
+      | inr read ↦ absurd (unfailed.1 read)
     ]
     by_halt None true is cut ends =
         let read = lines.text text left in
@@ -89,15 +84,15 @@ module _ (file : DataFile) (view : View) (table : Table) (t : Told) (text : List
     lines_end : Ends
     lines_end = elim lines.written [
       | inl ends ↦ by_halt lines.halt lines.cut refl refl ends.0
-      | inr part ↦ absurd (no_sink part.0)
+      | inr part ↦ absurd (unfailed.2 part.0)
     ]
 
   -- ---- the opening
 
   serves_end : (s : Replica) (told : Option Told) (opened : Result Table Ending) → Serves file.layout s told old new status opened → (opened ≡ Err Disk) ⊎ (opened ≡ Ok table) → (n : Told) × (new.told ≡ Some n) → Ends
   serves_end s told opened (NotOpened ending last ends unread writes) (inl disk) later = absurd (elim writes [
-    | inl wrote ↦ no_disk (wrote.0 ∙ (let same : ending ≡ Disk = cc in ap status_of same))
-    | inr part ↦ no_sink part.0
+    | inl wrote ↦ unfailed.0 (wrote.0 ∙ (let same : ending ≡ Disk = cc in ap status_of same))
+    | inr part ↦ unfailed.2 part.0
   ])
   serves_end s told opened (NotOpened ending last ends unread writes) (inr is) later = absurd (cc (is))
   serves_end s told opened (Served u r mid opens lines) (inl disk) later = absurd (cc (disk))
@@ -107,7 +102,7 @@ module _ (file : DataFile) (view : View) (table : Table) (t : Told) (text : List
 
   does_end : Does file.layout t old new status → Ends
   does_end (inl refuses) = absurd (refuses.other (answers.1.answered refuses.error refuses.is))
-  does_end (inr (inl fails)) = absurd (no_disk fails.fault)
+  does_end (inr (inl fails)) = absurd (unfailed.0 fails.fault)
   does_end (inr (inr serves)) =
       let found : FoundFile file.layout t = serves.0 in
       let c = serves.1.made in
@@ -119,7 +114,7 @@ module _ (file : DataFile) (view : View) (table : Table) (t : Told) (text : List
   pub outcome_ends : old.told ≡ Some t → Outcome t old new status → Ends
   outcome_ends from (inl nothing) = elim nothing.why [
     | inl memory ↦ inr (inl memory)
-    | inr disk ↦ absurd (no_disk disk)
+    | inr disk ↦ absurd (unfailed.0 disk)
   ]
   outcome_ends from (inr (inl refuses)) = absurd (answers.1.usable refuses.error refuses.is)
   outcome_ends from (inr (inr own)) = does_end (subst (λ (l : Layout). Does l t old new status) (answers.1.layout own.layout own.shown) own.does)

@@ -15,7 +15,8 @@ use Rattle.df_rows.specs.Blocks.{TakesAll}
 use Rattle.df_rows.specs.Limits.{most_rows}
 use Rattle.df_rows.specs.Lines.{map_text}
 use Rattle.df_rows.specs.Rows.{Entry}
-use Rattle.df_rows.specs.Script.{Begins}
+use Rattle.df_lines.specs.Lines.{Begins}
+use Rattle.df_rows.specs.Grammar.{Says}
 use Rattle.df_rows.specs.Tables.{AreNew, CanApply, Table, with_command, with_commands, with_row, with_rows}
 use Rattle.df_session.specs.Below.{State as Replica}
 use Rattle.df_table.specs.declared.ending.Ending.{Ending}
@@ -58,7 +59,7 @@ module _ (layout : Layout) (mid : Option Told) (before after : Outside) (s now :
     halts = e.halts;
     text = λ text is.
         let so = e.text text (text_is text is) in
-        (so.0, so.1, subst (λ (n : ℕ). Begins (line_bound layout) n text (all_said e.turns ++ said_in e.halt) so.0 so.1) budget_is so.2, so.3);
+        (so.0, so.1, subst (λ (n : ℕ). Begins Says (line_bound layout) n text (all_said e.turns ++ said_in e.halt) so.0 so.1) budget_is so.2, so.3);
     replica = e.replica;
     mid = e.mid;
     table = e.table;

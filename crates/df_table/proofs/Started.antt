@@ -12,7 +12,7 @@ use Rattle.df_theory.specs.Device.{units_log}
 use Rattle.df_theory.specs.Found.{IsFound}
 use Rattle.df_theory.specs.Holds.{Stands}
 use Rattle.df_theory.specs.UnitLog.{UnitLog}
-use Rattle.df_theory.specs.Units.{Block, BlockPlace, BlockUnit, Units}
+use Rattle.df_theory.specs.Units.{AnyUnit, Block, BlockPlace, BlockUnit, Place, Units}
 use Rattle.df_theory.specs.View.{View}
 use Rattle.df_units.specs.Bytes.{unit_at}
 use Rattle.df_model.specs.Blocks.{entries, entry}
@@ -27,24 +27,18 @@ use Rattle.df_session.specs.Serving.{Whole, format}
 use Rattle.df_session.proofs.Laws.{calls_keep}
 use Rattle.df_table.specs.Keeping.{IsMidway}
 use Rattle.df_table.specs.Table.{IsTable, ShowsBodies, references_of}
-use Rattle.df_table.specs.Written.{IsTableIn, WroteBodies}
+use Rattle.df_table.specs.Written.{IsTableIn, IsWritten}
 use Rattle.df_table.proofs.Lasting.{At, grew, mid_of, none_taken, table_later}
 use Rattle.df_table.proofs.Leads.{table_bare}
-use Rattle.df_table.proofs.Written.{in_pools}
+use Rattle.df_table.proofs.Written.{bodies_as, in_pools, table_as}
 
 -- ---- what is shown was written
 
 module _ (log : UnitLog) (image : Units) (chance : NoChance log image) where
-  bodies_written : (references : List (ℕ × ℕ)) (bodies : List (List ℕ)) → ShowsBodies image references bodies → WroteBodies log references bodies
-  bodies_written [] [] shown = tt
-  bodies_written [] (body ∷ bodies) shown = absurd shown
-  bodies_written (x ∷ references) [] shown = absurd shown
-  bodies_written (x ∷ references) (body ∷ bodies) shown =
-      let b = shown.0 in
-      (record { block = b.block; written = in_pools log.start log.events (BlockPlace x.0) (BlockUnit b.block) (chance.pooled (BlockPlace x.0) (BlockUnit b.block) b.there); sum = b.sum; own = b.own; body_is = b.body_is }, bodies_written references bodies shown.1)
-
   pub table_written : (file : DataFile) (v : View) (t : Table) → IsTable file image v t → IsTableIn file log v t
-  table_written file v t is = record { bodies = is.bodies; written = bodies_written (references_of file v) is.bodies is.shown; few = is.few; base = is.base; rows = is.rows; commands = is.commands; tail = is.tail; is = is.is }
+  table_written file v t is =
+      let written : (place : Place) (x : AnyUnit) → image place ≡ Some x → IsWritten log place x = λ place x there. in_pools log.start log.events place x (chance.pooled place x there) in
+      table_as (λ place unit. image place ≡ Some unit) (IsWritten log) file v t (bodies_as (λ place unit. image place ≡ Some unit) (IsWritten log) written (references_of file v)) is
 
 -- ---- each block is shown that is referenced
 
@@ -89,7 +83,7 @@ module _ (t : Told) (s : Replica) (mended : Option Told) (over : MendsAll t s me
   stands a c referenced =
       let sense = ((calls_keep t s mended over s mended [] [] None (refl, refl) whole live).stands view found_there).0 in
       let inside = sense.grid a (ap (λ (o : Option ℕ). is_known o || (is_captured a work.running || (is_known (work.view.checkpoint.parts.references a) || is_of a work.view.checkpoint.chain))) referenced) in
-      all_shown (unit_at s.file.layout s.file.cluster t.shown) view.checkpoint.parts.references 1 s.file.layout.blocks is.bodies is.shown a c inside.0 (omega (arith, inside.1)) referenced
+      all_shown (unit_at s.file.layout s.file.cluster t.shown) view.checkpoint.parts.references 1 s.file.layout.blocks is.bodies is.there a c inside.0 (omega (arith, inside.1)) referenced
 
   at_base : IsTableIn s.file (units_log (format s.file) base.log) view table
   at_base =

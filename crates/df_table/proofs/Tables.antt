@@ -48,7 +48,7 @@ one_list t (p ∷ ps) (c ∷ one) (d ∷ other) first second =
 
 pub table_is_one : TableIsOne
 table_is_one file image v t u one two =
-    let bodies = one_bodies image (references_of file v) one.bodies two.bodies one.shown two.shown in
+    let bodies = one_bodies image (references_of file v) one.bodies two.bodies one.there two.there in
     let base = one_table (empty_table file.layout) one.base two.base one.bodies one.rows (subst (λ (l : List (List ℕ)). TakesAll (empty_table file.layout) l two.base) (sym bodies) two.rows) in
     let commands = one_list one.base v.tail one.commands two.commands one.tail (subst (λ (b : Table). FollowAll b v.tail two.commands) (sym base) two.tail) in
     one.is ∙ ap (λ (l : List Command). with_commands l one.base) commands ∙ ap (λ (b : Table). with_commands two.commands b) base ∙ sym two.is
@@ -61,7 +61,7 @@ none_referenced (a ∷ xs) = none_referenced xs
 pub first_is_empty : FirstIsEmpty
 first_is_empty file image = record {
   bodies = [];
-  shown = subst (λ (l : List (ℕ × ℕ)). ShowsBodies image l []) (sym (none_referenced (addresses (shape file).layout))) tt;
+  there = subst (λ (l : List (ℕ × ℕ)). ShowsBodies image l []) (sym (none_referenced (addresses (shape file).layout))) tt;
   few = omega arith;
   base = empty_table file.layout;
   rows = refl;

@@ -7,9 +7,9 @@ use Rattle.df_layout.specs.declared.layout.Layout.{Layout}
 use Rattle.df_lines.specs.Room.{IsAtEnd, Room, Tells, line_bound}
 use Rattle.df_lines.specs.Text.{line_of, unread}
 use Rattle.df_rows.specs.declared.line.Line.{Line}
-use Rattle.df_rows.specs.Grammar.{said_with}
-use Rattle.df_rows.specs.Reads.{RefusesNext, TakesLine}
-use Rattle.df_rows.specs.Script.{IsLine, IsRefused}
+use Rattle.df_rows.specs.Grammar.{Says, said_with}
+use Rattle.df_lines.specs.Reads.{RefusesNext, TakesLine}
+use Rattle.df_lines.specs.Lines.{IsLine, IsRefused}
 use Rattle.df_table.specs.declared.ending.Ending.{Ending}
 use Rattle.df_table.specs.declared.ending.Ending.TheVariants.{Disk, Damaged, NotTable, OpsSpent, SequenceSpent}
 use Rattle.df_table.specs.declared.session.Session.{Session}
@@ -44,12 +44,12 @@ undone_script text old new ends (inr fails) done = let apart : status.WriteFault
 -- ---- a line was taken
 
 module _ (layout : Layout) (before after : Outside) (old new : Session) (room : Room) (line : Line) (bound : old.lines.reading.bound ≡ line_bound layout) (at_end : IsTrue old.lines.ended → IsAtEnd before.left)
-    (gives : (text : List ℕ) → Tells old.lines before.left text → TakesLine old.lines.reading room.reading text (unread room.reading.held after.left) (said_with room.body line)) (kept : new.lines ≡ room) (counted : new.count ≡ old.count + 1) where
+    (gives : (text : List ℕ) → Tells old.lines before.left text → TakesLine Says old.lines.reading room.reading text (unread room.reading.held after.left) (said_with room.body line)) (kept : new.lines ≡ room) (counted : new.count ≡ old.count + 1) where
   takes : (rest : List ℕ) → (state before old).text ≡ Some rest → Takes (line_bound layout) (state before old) (said_with room.body line) (state after new).text (state after new).budget rest
   takes rest is =
       let taken_is = gives rest (record { is = is; ended = at_end }) in
       record {
-        line = subst (λ (n : ℕ). IsLine n old.lines.reading.budget rest (said_with room.body line)) bound taken_is.line;
+        line = subst (λ (n : ℕ). IsLine Says n old.lines.reading.budget rest (said_with room.body line)) bound taken_is.line;
         rest_is = ap (λ (l : Room). unread l.reading.held after.left) kept ∙ taken_is.rest;
         budget_is = ap (λ (l : Room). l.reading.budget) kept ∙ taken_is.budget;
       }
@@ -82,11 +82,11 @@ module _ (layout : Layout) (before after : Outside) (old new : Session) (same : 
 
   -- the next line is refused
   pub ends_refused : (room : Room) → old.lines.reading.bound ≡ line_bound layout → room.reading.bound ≡ old.lines.reading.bound → (IsTrue old.lines.ended → IsAtEnd before.left)
-      → ((text : List ℕ) → Tells old.lines before.left text → RefusesNext old.lines.reading room.reading text (unread room.reading.held after.left)) → (ends : Status)
+      → ((text : List ℕ) → Tells old.lines before.left text → RefusesNext Says old.lines.reading room.reading text (unread room.reading.held after.left)) → (ends : Status)
       → Writes (script_text (old.count + 1)) status.Script before.written after.written ends → EndsIn layout (state before old) (state after new) ends
   ends_refused room bound bound_kept at_end gives ends wrote = ends_between layout (state before old) (state after new) true ends same one text wrote
     where
-      refuses : (rest : List ℕ) → (state before old).text ≡ Some rest → RefusesNext old.lines.reading room.reading rest (unread room.reading.held after.left)
+      refuses : (rest : List ℕ) → (state before old).text ≡ Some rest → RefusesNext Says old.lines.reading room.reading rest (unread room.reading.held after.left)
       refuses rest is = gives rest (record { is = is; ended = at_end })
 
       holds : (rest : List ℕ) → (state before old).text ≡ Some rest → (remains : List ℕ) → after.left ≡ Some remains → HoldsLine (line_bound layout) rest remains
@@ -101,7 +101,7 @@ module _ (layout : Layout) (before after : Outside) (old new : Session) (same : 
 
       text : (rest : List ℕ) → (state before old).text ≡ Some rest → EndsText (line_bound layout) old.lines.reading.budget rest after.left true ends
       text rest is = record {
-        refused = λ yes. subst (λ (n : ℕ). IsRefused n old.lines.reading.budget rest) bound (refuses rest is).refuses;
+        refused = λ yes. subst (λ (n : ℕ). IsRefused Says n old.lines.reading.budget rest) bound (refuses rest is).refuses;
         held = λ yes remains has. holds rest is remains has;
         finished = λ done. absurd (undone_script (script_text (old.count + 1)) before.written after.written ends wrote done);
       }

@@ -6,9 +6,9 @@ use Rattle.df_disk.specs.Told.{Told}
 use Rattle.df_layout.specs.declared.layout.Layout.{Layout}
 use Rattle.df_lines.specs.Room.{line_bound}
 use Rattle.df_lines.specs.Text.{after_line, taken}
-use Rattle.df_rows.specs.Grammar.{Said}
+use Rattle.df_rows.specs.Grammar.{Said, Says}
 use Rattle.df_rows.specs.Lines.{accepted, all_accepted, all_behind, behind, map_text, text_of}
-use Rattle.df_rows.specs.Script.{Begins, IsLine}
+use Rattle.df_lines.specs.Lines.{Begins, IsLine}
 use Rattle.df_rows.specs.Tables.{Table}
 use Rattle.df_rows.proofs.Laws.{accepted_more, text_more}
 use Rattle.df_session.specs.Below.{State as Replica}
@@ -27,10 +27,10 @@ pub said_more : (turns more : List Turn) → all_said (turns ++ more) ≡ all_sa
 said_more [] more = refl
 said_more (x ∷ turns) more = ap (λ (l : List Said). x.said ∷ l) (said_more turns more)
 
-pub begins_more : (bound budget : ℕ) (text : List ℕ) (says : List Said) (left : ℕ) (rest : List ℕ) (said : Said) → Begins bound budget text says left rest → IsLine bound left rest said
-    → Begins bound budget text (says ++ said ∷ []) (left - taken rest) (after_line rest)
+pub begins_more : (bound budget : ℕ) (text : List ℕ) (says : List Said) (left : ℕ) (rest : List ℕ) (said : Said) → Begins Says bound budget text says left rest → IsLine Says bound left rest said
+    → Begins Says bound budget text (says ++ said ∷ []) (left - taken rest) (after_line rest)
 begins_more bound budget text [] left rest said begins is = (
-  subst (λ (n : ℕ). IsLine bound n text said) begins.0 (subst (λ (t : List ℕ). IsLine bound left t said) begins.1 is),
+  subst (λ (n : ℕ). IsLine Says bound n text said) begins.0 (subst (λ (t : List ℕ). IsLine Says bound left t said) begins.1 is),
   ((λ i. begins.0 i - taken (begins.1 i)), λ i. after_line (begins.1 i)),
 )
 begins_more bound budget text (x ∷ says) left rest said begins is = (begins.0, begins_more bound (budget - taken text) (after_line text) says left rest said begins.1 is)
@@ -59,19 +59,19 @@ module _ (layout : Layout) where
 
 -- what the text, the budget and the lines are behind a line
 pub record Takes (bound : ℕ) (old : State) (said : Said) (text : Option (List ℕ)) (budget : ℕ) (rest : List ℕ) : Type 0 where
-  pub line : IsLine bound old.budget rest said
+  pub line : IsLine Says bound old.budget rest said
   pub rest_is : text ≡ Some (after_line rest)
   pub budget_is : budget ≡ old.budget - taken rest
 
 module _ (layout : Layout) (old new : State) (said : Said) (takes : (rest : List ℕ) → old.text ≡ Some rest → Takes (line_bound layout) old said new.text new.budget rest) (origin : State) (turns : List Turn) (before : Executed layout origin old turns) where
   -- a text that begins with all these lines
-  begins_too : (text : List ℕ) → origin.text ≡ Some text → (rest : List ℕ) × (new.text ≡ Some rest) × Begins (line_bound layout) origin.budget text (all_said turns ++ said ∷ []) new.budget rest
+  begins_too : (text : List ℕ) → origin.text ≡ Some text → (rest : List ℕ) × (new.text ≡ Some rest) × Begins Says (line_bound layout) origin.budget text (all_said turns ++ said ∷ []) new.budget rest
   begins_too text is =
       let so_far = before.text text is in
       let taken_is = takes so_far.0 so_far.1 in (
         after_line so_far.0,
         taken_is.rest_is,
-        subst (λ (n : ℕ). Begins (line_bound layout) origin.budget text (all_said turns ++ said ∷ []) n (after_line so_far.0)) (sym taken_is.budget_is)
+        subst (λ (n : ℕ). Begins Says (line_bound layout) origin.budget text (all_said turns ++ said ∷ []) n (after_line so_far.0)) (sym taken_is.budget_is)
             (begins_more (line_bound layout) origin.budget text (all_said turns) old.budget so_far.0 said so_far.2 taken_is.line),
       )
 
@@ -110,7 +110,7 @@ module _ (layout : Layout) (old new : State) (said : Said) (takes : (rest : List
     executed_more more wrote = record {
       text = λ text is.
           let begins = begins_too text is in
-          (begins.0, begins.1, subst (λ (l : List Said). Begins (line_bound layout) origin.budget text l new.budget begins.0) (sym all_is) begins.2);
+          (begins.0, begins.1, subst (λ (l : List Said). Begins Says (line_bound layout) origin.budget text l new.budget begins.0) (sym all_is) begins.2);
       written = subst (Appends origin.outside.written new.outside.written) (sym text_is) (appends_more origin.outside.written old.outside.written new.outside.written (map_text origin.table origin.replica.head (all_said turns)) (text_of old.table old.replica.head said) before.written wrote);
       lines = lines_is more;
       calls = calls_is;
@@ -132,7 +132,7 @@ module _ (layout : Layout) (old new : State) (said : Said) (takes : (rest : List
           let begins = begins_too text is in (
             new.budget,
             begins.0,
-            subst (λ (l : List Said). Begins (line_bound layout) origin.budget text l new.budget begins.0) (sym (append-nil (all_said (turns ++ turn ∷ [])) ∙ all_is)) begins.2,
+            subst (λ (l : List Said). Begins Says (line_bound layout) origin.budget text l new.budget begins.0) (sym (append-nil (all_said (turns ++ turn ∷ [])) ∙ all_is)) begins.2,
             record { refused = λ no. absurd (cc); held = λ no. absurd (cc); finished = λ done. absurd (let apart : WriteFault ≡ Done = sym fault ∙ done in cc) },
           );
       written = inr (
@@ -179,7 +179,7 @@ module _ (layout : Layout) (old new : State) (cut : Bool) (status : Status) (sam
     halts = (one, same);
     text = λ text is.
         let so_far = before.text text is in
-        (old.budget, so_far.0, subst (λ (l : List Said). Begins (line_bound layout) origin.budget text l old.budget so_far.0) (sym (append-nil (all_said turns))) so_far.2, ends so_far.0 so_far.1);
+        (old.budget, so_far.0, subst (λ (l : List Said). Begins Says (line_bound layout) origin.budget text l old.budget so_far.0) (sym (append-nil (all_said turns))) so_far.2, ends so_far.0 so_far.1);
     written = closes origin turns before wrote;
   }
     where

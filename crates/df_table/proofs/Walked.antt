@@ -194,7 +194,7 @@ module _ (file : DataFile) where
         let its = block_written file a s r old mid x w n at.same at.kept_is call.call body is (subst (λ (k : Memory). first_refusal (block_refusals k 1 body) ≡ None) (sym own) did.0) in
         let block : WroteBody (log_of behind) (address, sum) body = record {
           block = block_of m.content.boot sum 1 body;
-          written = subst (λ (k : Memory). IsWritten (log_of behind) (BlockPlace (next_address k)) (BlockUnit (block_of k.content.boot sum 1 body))) own its;
+          there = subst (λ (k : Memory). IsWritten (log_of behind) (BlockPlace (next_address k)) (BlockUnit (block_of k.content.boot sum 1 body))) own its;
           sum = refl;
           own = omega arith;
           body_is = refl;

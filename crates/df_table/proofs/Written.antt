@@ -11,8 +11,23 @@ use Rattle.df_theory.specs.Holds.{Stands}
 use Rattle.df_theory.specs.UnitLog.{UnitEvent, UnitLog}
 use Rattle.df_theory.specs.Units.{AnyUnit, Block, BlockPlace, BlockUnit, Place, Units}
 use Rattle.df_theory.specs.View.{View}
-use Rattle.df_table.specs.Table.{IsTable, ShowsBodies, ShowsBody, references_of}
+use Rattle.df_table.specs.Table.{HaveBodies, IsTable, IsTableBy, ShowsBodies, ShowsBody, references_of}
 use Rattle.df_table.specs.Written.{IsTableIn, IsWritten, WroteBodies, WroteBody}
+
+-- ---- what is said of places alone
+
+-- where one thing is said, another is
+pub bodies_as : (P Q : Place → AnyUnit → Type 0) → ((place : Place) (x : AnyUnit) → P place x → Q place x) → (references : List (ℕ × ℕ)) (bodies : List (List ℕ)) → HaveBodies P references bodies → HaveBodies Q references bodies
+bodies_as P Q turned [] [] have = tt
+bodies_as P Q turned [] (body ∷ bodies) have = absurd have
+bodies_as P Q turned (x ∷ more) [] have = absurd have
+bodies_as P Q turned (x ∷ more) (body ∷ bodies) have = (
+  record { block = have.0.block; there = turned (BlockPlace x.0) (BlockUnit have.0.block) have.0.there; sum = have.0.sum; own = have.0.own; body_is = have.0.body_is },
+  bodies_as P Q turned more bodies have.1,
+)
+
+pub table_as : (P Q : Place → AnyUnit → Type 0) (file : DataFile) (v : View) (t : Table) → ((bodies : List (List ℕ)) → HaveBodies P (references_of file v) bodies → HaveBodies Q (references_of file v) bodies) → IsTableBy P file v t → IsTableBy Q file v t
+table_as P Q file v t turned is = record { bodies = is.bodies; there = turned is.bodies is.there; few = is.few; base = is.base; rows = is.rows; commands = is.commands; tail = is.tail; is = is.is }
 
 -- ---- shown
 
@@ -29,7 +44,7 @@ module _ (log : UnitLog) (image : Units) (chance : NoChance log image) where
   body_shown x body stood wrote =
       let place = BlockPlace x.0 in
       let seen = in_pools log.start log.events place (BlockUnit stood.0) (chance.pooled place (BlockUnit stood.0) stood.1) in
-      let same : stood.0 ≡ wrote.block = chance.distinct place place (BlockUnit stood.0) (BlockUnit wrote.block) seen wrote.written (stood.2 ∙ sym wrote.sum) in
+      let same : stood.0 ≡ wrote.block = chance.distinct place place (BlockUnit stood.0) (BlockUnit wrote.block) seen wrote.there (stood.2 ∙ sym wrote.sum) in
       record { block = wrote.block; there = stood.1 ∙ ap (λ (b : Block). Some (BlockUnit b)) same; sum = wrote.sum; own = wrote.own; body_is = wrote.body_is }
 
   module _ (f : ℕ → Option ℕ) (stands : (a c : ℕ) → f a ≡ Some c → Stood image a c) where
@@ -46,16 +61,7 @@ module _ (log : UnitLog) (image : Units) (chance : NoChance log image) where
 
   -- the table of an image that stands is that of the log
   pub table_shown : (file : DataFile) (v : View) (t : Table) → Stands image v → IsTableIn file log v t → IsTable file image v t
-  table_shown file v t stands is = record {
-    bodies = is.bodies;
-    shown = all_shown v.checkpoint.parts.references stands (addresses (shape file).layout) is.bodies is.written;
-    few = is.few;
-    base = is.base;
-    rows = is.rows;
-    commands = is.commands;
-    tail = is.tail;
-    is = is.is;
-  }
+  table_shown file v t stands is = table_as (IsWritten log) (λ place unit. image place ≡ Some unit) file v t (all_shown v.checkpoint.parts.references stands (addresses (shape file).layout)) is
 
 -- ---- later
 
@@ -70,23 +76,8 @@ module _ (f : Format) (place : Place) (x : AnyUnit) where
   written_on (e ∷ es) log is = written_on es (add e log) (written_add e log is)
 
 pub bodies_on : (f : Format) (es : List Event) (log : Log) (references : List (ℕ × ℕ)) (bodies : List (List ℕ)) → WroteBodies (units_log f log) references bodies → WroteBodies (units_log f (adds es log)) references bodies
-bodies_on f es log [] [] wrote = tt
-bodies_on f es log [] (body ∷ bodies) wrote = absurd wrote
-bodies_on f es log (x ∷ more) [] wrote = absurd wrote
-bodies_on f es log (x ∷ more) (body ∷ bodies) wrote = (
-  record { block = wrote.0.block; written = written_on f (BlockPlace x.0) (BlockUnit wrote.0.block) es log wrote.0.written; sum = wrote.0.sum; own = wrote.0.own; body_is = wrote.0.body_is },
-  bodies_on f es log more bodies wrote.1,
-)
+bodies_on f es log references bodies wrote = bodies_as (IsWritten (units_log f log)) (IsWritten (units_log f (adds es log))) (λ place x is. written_on f place x es log is) references bodies wrote
 
 -- and so is the table, whatever is done
 pub table_on : (file : DataFile) (f : Format) (es : List Event) (log : Log) (v : View) (t : Table) → IsTableIn file (units_log f log) v t → IsTableIn file (units_log f (adds es log)) v t
-table_on file f es log v t is = record {
-  bodies = is.bodies;
-  written = bodies_on f es log (references_of file v) is.bodies is.written;
-  few = is.few;
-  base = is.base;
-  rows = is.rows;
-  commands = is.commands;
-  tail = is.tail;
-  is = is.is;
-}
+table_on file f es log v t is = table_as (IsWritten (units_log f log)) (IsWritten (units_log f (adds es log))) file v t (bodies_on f es log (references_of file v)) is

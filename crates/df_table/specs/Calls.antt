@@ -43,10 +43,6 @@ IsRunning s = OfRunning s.running (λ r. Unit {0})
 
 -- ---- answers
 
-abbrev pub IsStepped : Answer → Type 0
-IsStepped (answers.Advance (Ok progress)) = Unit {0}
-IsStepped answer = ⊥
-
 -- what is taken of an answer: the op; whether a reply was stored, a block written or a checkpoint begun; and whether it is done
 abbrev pub op_of : Answer → Result ℕ Ending
 op_of (answers.Append (Ok receipt)) = Ok receipt.op

@@ -4,8 +4,8 @@ use Rattle.df_disk.specs.Told.{Told}
 use Rattle.df_layout.specs.declared.layout.Layout.{Layout}
 use Rattle.df_theory.specs.View.{View, boot_of}
 use Rattle.df_lines.specs.Room.{line_bound}
-use Rattle.df_rows.specs.Grammar.{Said}
-use Rattle.df_rows.specs.Script.{Begins}
+use Rattle.df_rows.specs.Grammar.{Said, Says}
+use Rattle.df_lines.specs.Lines.{Begins}
 use Rattle.df_rows.specs.Tables.{Table}
 use Rattle.df_session.specs.Below.{DataFile, State as Replica}
 use Rattle.df_session.specs.Following.{MayOpen}
@@ -22,7 +22,7 @@ use Rattle.df_table.specs.Session.{Halt, ServesLines, script_budget}
 pub record IsWhole (layout : Layout) (text : List ℕ) : Type 0 where
   pub lines : List Said
   pub left : ℕ
-  pub begins : Begins (line_bound layout) script_budget text lines left []
+  pub begins : Begins Says (line_bound layout) script_budget text lines left []
 
 -- no op, or no sequence, is left
 abbrev pub IsSpent : Ending → Type 0

@@ -70,10 +70,10 @@ KeepsBy extent t old new status (inr (inr own)) chapter = KeepsOf extent own.lay
 
 -- the program was run, with its word, over a disk that told this before and that after it, and did what it promises
 pub record WasRun (t n : Told) : Type 0 where
-  pub old : Outside
-  pub new : Outside
   pub status : Status
+  pub old : Outside
   pub from : old.told ≡ Some t
+  pub new : Outside
   pub to : new.told ≡ Some n
   pub whole : IsImage t.shown
   pub runs : Runs old new status

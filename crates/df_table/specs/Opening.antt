@@ -116,11 +116,21 @@ prepare_ending (prepare.Damaged place class) = Damaged place class
 prepare_ending prepare.DiskFault = Disk
 prepare_ending (prepare.NotKept first last) = Disk
 
+-- the body of a unit that was read: it is taken so, or it shows in this way that the file is no table's
+abbrev pub TakesBody : {A : Type 0} → (taken : A → Type 0) → (other : Place → Type 0) → Result A Ending → Type 0
+TakesBody taken other (Ok x) = taken x
+TakesBody taken other (Err (NotTable place)) = other place
+TakesBody taken other (Err ending) = ⊥
+
 -- the body of a block, behind so many: its rows are taken; or it has no rows of the table, or is one too many
+abbrev pub GivesRows : (before most : ℕ) → Table → List ℕ → Table → Type 0
+GivesRows before most t body new = (before < most) × ((entries : List Entry) × Takes t body entries × (new ≡ with_rows entries t))
+
+abbrev pub LacksRows : (address before most : ℕ) → Table → List ℕ → Place → Type 0
+LacksRows address before most t body place = (place ≡ place_at Grid address) × (((entries : List Entry) → Takes t body entries → ⊥) ⊎ (most ≤ before))
+
 abbrev pub TakesRows : (address before most : ℕ) → Table → List ℕ → Result Table Ending → Type 0
-TakesRows address before most t body (Ok new) = (before < most) × ((entries : List Entry) × Takes t body entries × (new ≡ with_rows entries t))
-TakesRows address before most t body (Err (NotTable place)) = (place ≡ place_at Grid address) × (((entries : List Entry) → Takes t body entries → ⊥) ⊎ (most ≤ before))
-TakesRows address before most t body (Err ending) = ⊥
+TakesRows address before most t body result = TakesBody (GivesRows before most t body) (LacksRows address before most t body) result
 
 -- a block that is read, behind so many: it is taken; or it isn't shown, has no rows of the table, or is one too many; or the disk fails
 abbrev pub ReadsBlock : Shown → Memory → (address before most : ℕ) → Table → Result Table Ending → Type 0
@@ -137,10 +147,14 @@ ReadsNext shown m address most t (Some c) (Ok next) = ReadsBlock shown m address
 ReadsNext shown m address most t (Some c) (Err ending) = ReadsBlock shown m address t.count most t.table (Err ending)
 
 -- the body of a prepare in this slot: its command is applied, or it is none
+abbrev pub GivesCommand : {A : Type 0} → (t new : Table) → List ℕ → A → Type 0
+GivesCommand t new body done = (c : Command) × Follows t body c × (new ≡ with_command c t)
+
+abbrev pub LacksCommand : Place → Table → List ℕ → Place → Type 0
+LacksCommand slot t body place = (place ≡ slot) × NoCommand t body
+
 abbrev pub TakesCommand : {A : Type 0} → Place → (t new : Table) → List ℕ → Result A Ending → Type 0
-TakesCommand slot t new body (Ok done) = (c : Command) × Follows t body c × (new ≡ with_command c t)
-TakesCommand slot t new body (Err (NotTable place)) = (place ≡ slot) × NoCommand t body
-TakesCommand slot t new body (Err ending) = ⊥
+TakesCommand slot t new body result = TakesBody (GivesCommand t new body) (LacksCommand slot t body) result
 
 -- a prepare that is read: its command is applied; or it isn't shown, or is none; or the disk fails
 abbrev pub ReadsPrepare : {A : Type 0} → Layout → Shown → Memory → (op : ℕ) → (t new : Table) → Result A Ending → Type 0

@@ -6,10 +6,10 @@ use Rattle.df_layout.specs.declared.layout.Layout.{Layout}
 use Rattle.df_lines.specs.Room.{IsAtEnd, line_bound}
 use Rattle.df_lines.specs.Text.{unread}
 use Rattle.df_model.specs.Commands.{Answer}
-use Rattle.df_rows.specs.Grammar.{Said}
+use Rattle.df_rows.specs.Grammar.{Said, Says}
 use Rattle.df_rows.specs.Limits.{rows_in_block}
 use Rattle.df_rows.specs.Lines.{accepted as change_of, all_accepted, behind, map_text, text_of}
-use Rattle.df_rows.specs.Script.{Begins}
+use Rattle.df_lines.specs.Lines.{Begins}
 use Rattle.df_rows.specs.Tables.{Table}
 use Rattle.df_session.specs.Below.{State as Replica}
 use Rattle.df_session.specs.Links.{AreCalls, command_in}
@@ -28,17 +28,17 @@ use Rattle.df_table.specs.Turns.{AreFit, AreTurns, EndIn, IsAccepted, IsOfCall, 
 
 -- ---- how far it has come
 
--- what is around it, the text that is unread where the source tells it, how many bytes may still be taken, how many lines were executed, the replica and the table
+-- what is around it, the table and the replica, the text that is unread where the source tells it, how many bytes may still be taken, and how many lines were executed
 pub record State : Type 0 where
   pub outside : Outside
+  pub table : Table
+  pub replica : Replica
   pub text : Option (List ℕ)
   pub budget : ℕ
   pub lines : ℕ
-  pub replica : Replica
-  pub table : Table
 
 abbrev pub state : Outside → Session → State
-state outside s = record { outside = outside; text = unread s.lines.reading.held outside.left; budget = s.lines.reading.budget; lines = s.count; replica = s.replica; table = s.table }
+state outside s = record { outside = outside; table = s.table; replica = s.replica; text = unread s.lines.reading.held outside.left; budget = s.lines.reading.budget; lines = s.count }
 
 -- what is true of it between two lines, whatever the disk tells
 pub record IsServing (layout : Layout) (s : Session) (left : Option (List ℕ)) : Type 0 where
@@ -50,7 +50,7 @@ pub record IsServing (layout : Layout) (s : Session) (left : Option (List ℕ)) 
 
 -- from origin to now these lines were executed, the first ones of the text, and what a map answers to them is written
 pub record Executed (layout : Layout) (origin now : State) (turns : List Turn) : Type 0 where
-  pub text : (text : List ℕ) → origin.text ≡ Some text → (rest : List ℕ) × (now.text ≡ Some rest) × Begins (line_bound layout) origin.budget text (all_said turns) now.budget rest
+  pub text : (text : List ℕ) → origin.text ≡ Some text → (rest : List ℕ) × (now.text ≡ Some rest) × Begins Says (line_bound layout) origin.budget text (all_said turns) now.budget rest
   pub written : Appends origin.outside.written now.outside.written (map_text origin.table origin.replica.head (all_said turns))
   pub lines : now.lines ≡ origin.lines + length turns
   pub calls : AreTurns layout origin.replica origin.outside.told origin.table turns now.replica now.outside.told now.table
@@ -67,7 +67,7 @@ pub record Ended (layout : Layout) (origin now : State) (status : Status) : Type
   pub cut : Bool
   pub halts : HaltsIn layout replica mid table halt now.replica now.outside.told
   pub text : (text : List ℕ) → origin.text ≡ Some text
-      → (budget : ℕ) × (rest : List ℕ) × Begins (line_bound layout) origin.budget text (all_said turns ++ said_in halt) budget rest × EndsText (line_bound layout) budget rest now.outside.left cut status
+      → (budget : ℕ) × (rest : List ℕ) × Begins Says (line_bound layout) origin.budget text (all_said turns ++ said_in halt) budget rest × EndsText (line_bound layout) budget rest now.outside.left cut status
   pub written : EndsWith (map_text origin.table origin.replica.head (all_said turns) ++ closing (origin.lines + length turns) halt cut) halt cut origin.outside.written now.outside.written status
 
 -- ---- one line

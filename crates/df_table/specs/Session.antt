@@ -7,8 +7,8 @@ use Rattle.df_layout.specs.declared.layout.Layout.{Layout}
 use Rattle.df_lines.specs.Room.{line_bound}
 use Rattle.df_lines.specs.Text.{line_of}
 use Rattle.df_model.specs.Commands.{Answer}
-use Rattle.df_rows.specs.Grammar.{Said}
-use Rattle.df_rows.specs.Script.{Begins, IsRefused}
+use Rattle.df_rows.specs.Grammar.{Said, Says}
+use Rattle.df_lines.specs.Lines.{Begins, IsRefused}
 use Rattle.df_rows.specs.Tables.{Table}
 use Rattle.df_session.specs.Below.{State as Replica, memory}
 use Rattle.df_session.specs.Links.{CallsMade}
@@ -48,7 +48,7 @@ pub record HoldsLine (bound : ℕ) (rest left : List ℕ) : Type 0 where
 
 -- what is unread at the end: where the script is cut, a line that is refused, and the source was read as far as that takes; at Done nothing at all
 pub record EndsText (bound budget : ℕ) (rest : List ℕ) (left : Option (List ℕ)) (cut : Bool) (status : Status) : Type 0 where
-  pub refused : cut ≡ true → IsRefused bound budget rest
+  pub refused : cut ≡ true → IsRefused Says bound budget rest
   pub held : cut ≡ true → (remains : List ℕ) → left ≡ Some remains → HoldsLine bound rest remains
   pub finished : status ≡ Done → (rest ≡ []) × (left ≡ Some [])
 
@@ -87,7 +87,7 @@ pub record ServesLines (layout : Layout) (t : Table) (s : Replica) (told : Optio
   pub last : Replica
   pub halts : HaltsIn layout replica mid table halt last new.told
   pub text : (text : List ℕ) → old.left ≡ Some text
-      → (budget : ℕ) × (rest : List ℕ) × Begins (line_bound layout) script_budget text (all_said turns ++ said_in halt) budget rest × EndsText (line_bound layout) budget rest new.left cut status
+      → (budget : ℕ) × (rest : List ℕ) × Begins Says (line_bound layout) script_budget text (all_said turns ++ said_in halt) budget rest × EndsText (line_bound layout) budget rest new.left cut status
   pub written : EndsWith (map_text t s.head (all_said turns) ++ closing (length (all_said turns)) halt cut) halt cut old.written new.written status
 
 -- ---- a session

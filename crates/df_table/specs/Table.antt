@@ -2,7 +2,7 @@
 use Rattle.std.specs.Prelude.{◌≡◌, ◌≤◌, ◌<◌, ℕ, List, [], ◌∷◌, length, Some}
 use Rattle.std.specs.FinMap as map
 use Rattle.df_layout.specs.declared.layout.Layout.{Layout}
-use Rattle.df_theory.specs.Units.{Block, BlockPlace, BlockUnit, Message, Units}
+use Rattle.df_theory.specs.Units.{AnyUnit, Block, BlockPlace, BlockUnit, Message, Place, Units}
 use Rattle.df_theory.specs.View.{View}
 use Rattle.df_theory.specs.Holds.{Held}
 use Rattle.df_base.specs.Image.{Image}
@@ -21,19 +21,26 @@ use Rattle.df_session.specs.Serving.{format}
 abbrev pub references_of : DataFile → View → List (ℕ × ℕ)
 references_of file v = entries v.checkpoint.parts.references (addresses (shape file).layout)
 
--- the image shows a block at this address with this checksum, no trailer's, and this is its body
-pub record ShowsBody (image : Units) (x : ℕ × ℕ) (body : List ℕ) : Type 0 where
+-- a block with this checksum, no trailer's, is said to be at this address, and this is its body
+pub record HasBody (At : Place → AnyUnit → Type 0) (x : ℕ × ℕ) (body : List ℕ) : Type 0 where
   pub block : Block
-  pub there : image (BlockPlace x.0) ≡ Some (BlockUnit block)
+  pub there : At (BlockPlace x.0) (BlockUnit block)
   pub sum : block.checksum ≡ x.1
   pub own : 0 < block.kind
   pub body_is : block.body ≡ body
 
 -- so it is of each of these, in order
+abbrev pub HaveBodies : (Place → AnyUnit → Type 0) → List (ℕ × ℕ) → List (List ℕ) → Type 0
+HaveBodies At [] [] = Unit {0}
+HaveBodies At (x ∷ more) (body ∷ bodies) = HasBody At x body × HaveBodies At more bodies
+HaveBodies At references bodies = ⊥
+
+-- the image shows them
+abbrev pub ShowsBody : Units → (ℕ × ℕ) → List ℕ → Type 0
+ShowsBody image x body = HasBody (λ place unit. image place ≡ Some unit) x body
+
 abbrev pub ShowsBodies : Units → List (ℕ × ℕ) → List (List ℕ) → Type 0
-ShowsBodies image [] [] = Unit {0}
-ShowsBodies image (x ∷ more) (body ∷ bodies) = ShowsBody image x body × ShowsBodies image more bodies
-ShowsBodies image references bodies = ⊥
+ShowsBodies image references bodies = HaveBodies (λ place unit. image place ≡ Some unit) references bodies
 
 -- ---- commands
 
@@ -54,16 +61,20 @@ FollowAll t ps cs = ⊥
 abbrev pub empty_table : Layout → Table
 empty_table layout = record { max = most_rows layout; rows = map.empty }
 
--- the table of a view, over an image that shows what the view references
-pub record IsTable (file : DataFile) (image : Units) (v : View) (t : Table) : Type 0 where
+-- the table of a view, whose blocks are said to be where the view references them
+pub record IsTableBy (At : Place → AnyUnit → Type 0) (file : DataFile) (v : View) (t : Table) : Type 0 where
   pub bodies : List (List ℕ)
-  pub shown : ShowsBodies image (references_of file v) bodies
+  pub there : HaveBodies At (references_of file v) bodies
   pub few : length bodies ≤ blocks_of_table file.layout
   pub base : Table
   pub rows : TakesAll (empty_table file.layout) bodies base
   pub commands : List Command
   pub tail : FollowAll base v.tail commands
   pub is : t ≡ with_commands commands base
+
+-- over an image that shows them
+abbrev pub IsTable : DataFile → Units → View → Table → Type 0
+IsTable file image v t = IsTableBy (λ place unit. image place ≡ Some unit) file v t
 
 -- an image of the disk has a view whose table this is
 pub record HasTable (file : DataFile) (t : Table) (image : Image) : Type 0 where

@@ -10,7 +10,7 @@ ghost use Rattle.df_session.specs.Beginning.{begun};
 ghost use Rattle.df_session.specs.Below.{memory};
 ghost use Rattle.df_session.specs.Blocks.{next_block, released, written};
 ghost use Rattle.df_result.specs.Replying.{next_reply, replied};
-ghost use Rattle.df_table.specs.Calls.{Comes, IsRunning, IsStepped, MayAppend, MayBegin, Stepped, accepted_or, done_of, op_of};
+ghost use Rattle.df_table.specs.Calls.{Comes, IsRunning, MayAppend, MayBegin, Stepped, accepted_or, done_of, op_of};
 ghost use Rattle.df_table.specs.Policy.{the_client};
 ghost use Rattle.df_table.specs.Statuses.{is_disk};
 ghost use Rattle.df_table.specs.Turns.{IsOfCall};
@@ -29,19 +29,7 @@ fn op_in(answer: &Answer) -> Result<u64, Ending>
 {
     match answer {
         Answer::Append(Ok(receipt)) => Ok(receipt.op),
-        Answer::Append(Err(_))
-        | Answer::Stage(_)
-        | Answer::Flush(_)
-        | Answer::Reply(_)
-        | Answer::WriteBlock(_)
-        | Answer::Release(_)
-        | Answer::Begin(_)
-        | Answer::Advance(_)
-        | Answer::ReadPrepare(_)
-        | Answer::ReadReply(_)
-        | Answer::ReadBlock(_)
-        | Answer::Scrub(_)
-        | Answer::Recent => Err(Ending::OpsSpent),
+        _ => Err(Ending::OpsSpent),
     }
 }
 
@@ -77,19 +65,7 @@ fn accepted_or(answer: &Answer, otherwise: Ending) -> Result<(), Ending>
 {
     match answer {
         Answer::Reply(Ok(_)) | Answer::WriteBlock(Ok(_)) | Answer::Begin(Ok(_)) => Ok(()),
-        Answer::Reply(Err(_))
-        | Answer::WriteBlock(Err(_))
-        | Answer::Begin(Err(_))
-        | Answer::Append(_)
-        | Answer::Stage(_)
-        | Answer::Flush(_)
-        | Answer::Release(_)
-        | Answer::Advance(_)
-        | Answer::ReadPrepare(_)
-        | Answer::ReadReply(_)
-        | Answer::ReadBlock(_)
-        | Answer::Scrub(_)
-        | Answer::Recent => Err(otherwise),
+        _ => Err(otherwise),
     }
 }
 
@@ -159,28 +135,11 @@ pub(crate) fn begin<D: Disk>(disk: &mut D, replica: &mut Replica) -> Result<(), 
     }
 }
 
-// Whether the checkpoint is done by a step.
+// Whether the checkpoint is done by a step that answered so.
 fn is_done(answer: &Answer) -> bool
-    requires { IsStepped answer.now }
     ensures { result ≡ done_of answer.now }
 {
-    match answer {
-        Answer::Advance(Ok(Progress::Working { left: _ })) => false,
-        Answer::Advance(Ok(Progress::Done { sequence: _ })) => true,
-        Answer::Advance(Err(_))
-        | Answer::Append(_)
-        | Answer::Stage(_)
-        | Answer::Flush(_)
-        | Answer::Reply(_)
-        | Answer::WriteBlock(_)
-        | Answer::Release(_)
-        | Answer::Begin(_)
-        | Answer::ReadPrepare(_)
-        | Answer::ReadReply(_)
-        | Answer::ReadBlock(_)
-        | Answer::Scrub(_)
-        | Answer::Recent => unreachable!(),
-    }
+    matches!(answer, Answer::Advance(Ok(Progress::Done { sequence: _ })))
 }
 
 /// Takes a step of the checkpoint that runs, and says whether it is done.

@@ -2,17 +2,16 @@
 ghost use Rattle.std.specs.Prelude.{◌≡◌};
 ghost use Rattle.df_base.specs.Causes.{HasCause};
 ghost use Rattle.df_inspect.specs.Prints.{Prints};
-ghost use Rattle.df_script_model.specs.Texts.{damaged_text};
 ghost use Rattle.df_table.specs.Outside.{Blames, Writes};
 ghost use Rattle.df_table.specs.Statuses.{ended_by, ending_text, status_of};
 
 use crate::status::Status;
 use df_base::{Failed, Sink};
-use df_inspect::{print_answer, text_line, write_line};
+use df_inspect::{text_line, write_line};
 use df_layout::{Class, Place};
-use df_model::{Answer, Command, StepError};
 use df_rows::print_not_table;
 use df_session::Fault;
+use df_telling::print_damaged;
 
 /// Why a session ends.
 #[derive(Clone, Copy, Debug, PartialEq, Eq)]
@@ -50,15 +49,6 @@ fn status_of(ending: Ending) -> Status
         | Ending::OpsSpent
         | Ending::SequenceSpent => Status::Refused,
     }
-}
-
-// The line on a unit that is damaged.
-fn print_damaged<W: Sink>(sink: &mut W, place: Place, class: Class) -> Result<(), Failed>
-    ensures prints { Prints (damaged_text place class) (W.written sink.old) (W.written sink.new) result }
-    ensures cause { HasCause (W.faults sink.old) (W.faults sink.new) result }
-{
-    let answer = Answer::Advance(Err(StepError::Damaged { place, class }));
-    print_answer(sink, &Command::Advance, &answer)
 }
 
 // The line of an ending; a failing disk has none.

@@ -2,18 +2,20 @@
 ghost use Rattle.std.specs.Prelude.{◌≡◌, ◌↔◌, ◌*◌, ◌≤◌, codes, map, string_bytes, vec_len, IfOk, IsTrue};
 ghost use Rattle.df_lines.specs.Room.{IsFresh, line_bound};
 ghost use Rattle.df_rows.specs.Limits as limits;
-ghost use Rattle.df_table.specs.Outside.{Blames, HasCauses, Writes};
+ghost use Rattle.df_table.specs.Outside.{Blames, HasCauses, Writes, around, counts};
 ghost use Rattle.df_table.specs.Run.{IsSilent, IsTableWord, Runs, usage};
 ghost use Rattle.df_table.specs.Table.{empty_table};
 
-use crate::serving::{Reserved, refuse_file, serve_table};
+use crate::serving::{Reserved, serve_table};
 use crate::status::Status;
 use df_base::{OutOfMemory, Sink, Source};
 use df_buffers::ProbeRoom;
 use df_disk::Disk;
 use df_layout::Layout;
-use df_rows::{ObjectTable, ROW, ScriptRoom, rows_in_block};
+use df_lines::LineRoom;
+use df_rows::{ObjectTable, ROW, rows_in_block};
 use df_session::{Rooms, probe};
+use df_telling::{end_with, refuse_file};
 use std::alloc::Global;
 
 /// The line that says which words have a meaning.
@@ -41,10 +43,7 @@ fn print_usage<W: Sink>(sink: &mut W) -> Status
     ensures usage { Writes usage Status.Words (W.written sink.old) (W.written sink.new) result }
     ensures sink { Blames Status.WriteFault (W.faults sink.old) (W.faults sink.new) result }
 {
-    match sink.write(USAGE) {
-        Ok(()) => Status::Words,
-        Err(_) => Status::WriteFault,
-    }
+    end_with(sink, USAGE, Status::Words, Status::WriteFault)
 }
 
 // Takes all the memory of a session over a file of a layout.
@@ -54,7 +53,7 @@ fn reserve(alloc: Global, layout: &Layout) -> Result<Reserved, OutOfMemory>
     ensures table { IfOk result (λ reserved. reserved.table ≡ empty_table layout.now) }
     ensures block { IfOk result (λ reserved. 64 * limits.rows_in_block layout.now ≤ vec_len reserved.block) }
 {
-    let lines = ScriptRoom::reserve(alloc, layout)?;
+    let lines = LineRoom::reserve(alloc, layout)?;
     let table = ObjectTable::reserve(alloc, layout)?;
     let size = rows_in_block(layout) as usize * ROW;
     let block = vec![in alloc; 0; size]?;
@@ -74,12 +73,8 @@ fn run_file<D: Disk, S: Source, W: Sink>(
     sink: &mut W,
     disk: &mut D,
 ) -> Status
-    ensures runs { Runs
-        (record { told = D.told disk.old; left = S.left source.old; written = W.written sink.old })
-        (record { told = D.told disk.new; left = S.left source.new; written = W.written sink.new }) result }
-    ensures causes { HasCauses
-        (record { disk = D.faults disk.old; source = S.faults source.old; sink = W.faults sink.old })
-        (record { disk = D.faults disk.new; source = S.faults source.new; sink = W.faults sink.new }) result }
+    ensures runs { Runs (around (D.told disk.old) (S.left source.old) (W.written sink.old)) (around (D.told disk.new) (S.left source.new) (W.written sink.new)) result }
+    ensures causes { HasCauses (counts (D.faults disk.old) (S.faults source.old) (W.faults sink.old)) (counts (D.faults disk.new) (S.faults source.new) (W.faults sink.new)) result }
     ensures memory { result ≡ Status.Memory → IsSilent
         (record { told = D.told disk.old; left = S.left source.old; written = W.written sink.old })
         (record { told = D.told disk.new; left = S.left source.new; written = W.written sink.new }) }
@@ -94,7 +89,13 @@ fn run_file<D: Disk, S: Source, W: Sink>(
             Ok(reserved) => serve_table(reserved, source, sink, disk),
             Err(_) => Status::Memory,
         },
-        Err(error) => refuse_file(sink, &error),
+        Err(error) => refuse_file(
+            sink,
+            &error,
+            Status::Refused,
+            Status::DiskFault,
+            Status::WriteFault,
+        ),
     }
 }
 
@@ -121,14 +122,14 @@ pub fn run_table<D: Disk, S: Source, W: Sink>(
         (record { told = D.told disk.old; left = S.left source.old; written = W.written sink.old })
         (record { told = D.told disk.new; left = S.left source.new; written = W.written sink.new }) result }
 
-    // Each fault has its cause; want of memory comes before anything was read of the script or written.
-    ensures causes { HasCauses
-        (record { disk = D.faults disk.old; source = S.faults source.old; sink = W.faults sink.old })
-        (record { disk = D.faults disk.new; source = S.faults source.new; sink = W.faults sink.new }) result }
+    // Want of memory comes before anything was read of the script or written; each fault has its cause.
     ensures memory { result ≡ Status.Memory → IsSilent
         (record { told = D.told disk.old; left = S.left source.old; written = W.written sink.old })
         (record { told = D.told disk.new; left = S.left source.new; written = W.written sink.new }) }
     ensures unwritten { result ≡ Status.Memory → D.told disk.new ≡ D.told disk.old }
+    ensures causes { HasCauses
+        (record { disk = D.faults disk.old; source = S.faults source.old; sink = W.faults sink.old })
+        (record { disk = D.faults disk.new; source = S.faults source.new; sink = W.faults sink.new }) result }
 {
     if is_table(words) {
         run_file(alloc, source, sink, disk)

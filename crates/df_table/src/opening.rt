@@ -278,8 +278,8 @@ fn catch_up<D: Disk>(disk: &mut D, replica: &mut Replica) -> Result<(), Ending>
 fn follow<D: Disk>(
     disk: &mut D,
     replica: &mut Replica,
-    table: ObjectTable,
     layout: &Layout,
+    table: ObjectTable,
 ) -> Result<ObjectTable, Ending>
     requires live { replica.old.live ≡ true }
     ensures makes { Comes (prepare_reads (memory replica.old) ++ replies (memory replica.old)) replica.old replica.new (D.told disk.old) (D.told disk.new) result }
@@ -306,8 +306,8 @@ pub(crate) fn open_table<D: Disk>(
     table: ObjectTable,
     layout: &Layout,
 ) -> Result<ObjectTable, Ending>
-    requires live { replica.old.live ≡ true }
     requires empty { table ≡ empty_table layout.now }
+    requires live { replica.old.live ≡ true }
     ensures opens { (w : Work) → IsBegun layout.now w replica.old → Opens replica.old replica.new (D.told disk.old) (D.told disk.new) result }
     ensures finds { (w : Work) → IsBegun layout.now w replica.old → (t : Told) → D.told disk.old ≡ Some t → FindsOf layout.now (shown_of replica.old.file t.shown) (memory replica.old) result }
     ensures ready { (w : Work) → IsBegun layout.now w replica.old → (t : Told) → D.told disk.old ≡ Some t → OnOk result (IsReady layout.now replica.new) }
@@ -317,7 +317,7 @@ pub(crate) fn open_table<D: Disk>(
     match other_client(replica) {
         Some(place) => Err(not_table(Zone::ClientReplies, place)),
         None => match take_blocks(disk, replica, table, layout) {
-            Ok(table) => follow(disk, replica, table, layout),
+            Ok(table) => follow(disk, replica, layout, table),
             Err(ending) => Err(ending),
         },
     }

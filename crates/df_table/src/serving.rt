@@ -5,7 +5,7 @@ ghost use Rattle.df_disk.specs.Told.{Told};
 ghost use Rattle.df_lines.specs.Room.{IsFresh, line_bound};
 ghost use Rattle.df_model.specs.Work.{Work};
 ghost use Rattle.df_rows.specs.Limits as limits;
-ghost use Rattle.df_table.specs.Outside.{Blames, HasCauses, PrintsError};
+ghost use Rattle.df_table.specs.Outside.{HasCauses, around, counts};
 ghost use Rattle.df_table.specs.Ready.{IsBegun};
 ghost use Rattle.df_table.specs.Run.{Does};
 ghost use Rattle.df_table.specs.Session.{ServesOpened};
@@ -18,10 +18,11 @@ use crate::status::Status;
 use crate::turns::serve_lines;
 use df_base::{Sink, Source};
 use df_disk::Disk;
-use df_inspect::print_open_refusal;
 use df_layout::Layout;
-use df_rows::{ObjectTable, ScriptRoom};
-use df_session::{OpenError, Replica, Rooms};
+use df_lines::LineRoom;
+use df_rows::ObjectTable;
+use df_session::{Replica, Rooms};
+use df_telling::refuse_file;
 
 /// The memory of a session over a file.
 #[derive(Drop)]
@@ -31,7 +32,7 @@ pub(crate) struct Reserved {
     /// The table's, which is empty.
     pub table: ObjectTable,
     /// The script's.
-    pub lines: ScriptRoom,
+    pub lines: LineRoom,
     /// A block's.
     pub block: Vec<u8>,
 }
@@ -41,22 +42,8 @@ pub(crate) struct Reserved {
 struct Opening {
     layout: Layout,
     table: ObjectTable,
-    lines: ScriptRoom,
+    lines: LineRoom,
     block: Vec<u8>,
-}
-
-/// Prints why a file isn't opened; a failing disk has no line.
-pub(crate) fn refuse_file<W: Sink>(sink: &mut W, error: &OpenError) -> Status
-    ensures prints { PrintsError error.now (W.written sink.old) (W.written sink.new) result }
-    ensures sink { Blames Status.WriteFault (W.faults sink.old) (W.faults sink.new) result }
-{
-    if *error == OpenError::DiskFault {
-        return Status::DiskFault;
-    }
-    match print_open_refusal(sink, error) {
-        Ok(()) => Status::Refused,
-        Err(_) => Status::WriteFault,
-    }
 }
 
 // Finds the table of a file that was opened, and executes the script.
@@ -72,14 +59,10 @@ fn serve_opened<D: Disk, S: Source, W: Sink>(
     requires lines { IsFresh (line_bound opening.layout) opening.lines }
     requires table { opening.table ≡ empty_table opening.layout }
     requires block { 64 * limits.rows_in_block opening.layout ≤ vec_len opening.block }
-    ensures serves { (w : Work) → IsBegun opening.layout w replica → (t : Told) → D.told disk.old ≡ Some t → ServesOpened opening.layout replica t
-        (record { told = D.told disk.old; left = S.left source.old; written = W.written sink.old })
-        (record { told = D.told disk.new; left = S.left source.new; written = W.written sink.new }) result }
-    ensures causes { HasCauses
-        (record { disk = D.faults disk.old; source = S.faults source.old; sink = W.faults sink.old })
-        (record { disk = D.faults disk.new; source = S.faults source.new; sink = W.faults sink.new }) result }
     ensures memory { result ≡ Status.Memory → ⊥ }
     ensures words { result ≡ Status.Words → ⊥ }
+    ensures serves { (w : Work) → IsBegun opening.layout w replica → (t : Told) → D.told disk.old ≡ Some t → ServesOpened opening.layout replica t (around (D.told disk.old) (S.left source.old) (W.written sink.old)) (around (D.told disk.new) (S.left source.new) (W.written sink.new)) result }
+    ensures causes { HasCauses (counts (D.faults disk.old) (S.faults source.old) (W.faults sink.old)) (counts (D.faults disk.new) (S.faults source.new) (W.faults sink.new)) result }
 {
     let Opening {
         layout,
@@ -114,12 +97,8 @@ pub(crate) fn serve_table<D: Disk, S: Source, W: Sink>(
     requires lines { IsFresh (line_bound reserved.rooms.layout) reserved.lines }
     requires table { reserved.table ≡ empty_table reserved.rooms.layout }
     requires block { 64 * limits.rows_in_block reserved.rooms.layout ≤ vec_len reserved.block }
-    ensures serves { (t : Told) → D.told disk.old ≡ Some t → IsImage t.shown → Does reserved.rooms.layout t
-        (record { told = D.told disk.old; left = S.left source.old; written = W.written sink.old })
-        (record { told = D.told disk.new; left = S.left source.new; written = W.written sink.new }) result }
-    ensures causes { HasCauses
-        (record { disk = D.faults disk.old; source = S.faults source.old; sink = W.faults sink.old })
-        (record { disk = D.faults disk.new; source = S.faults source.new; sink = W.faults sink.new }) result }
+    ensures serves { (t : Told) → D.told disk.old ≡ Some t → IsImage t.shown → Does reserved.rooms.layout t (around (D.told disk.old) (S.left source.old) (W.written sink.old)) (around (D.told disk.new) (S.left source.new) (W.written sink.new)) result }
+    ensures causes { HasCauses (counts (D.faults disk.old) (S.faults source.old) (W.faults sink.old)) (counts (D.faults disk.new) (S.faults source.new) (W.faults sink.new)) result }
     ensures memory { result ≡ Status.Memory → ⊥ }
     ensures words { result ≡ Status.Words → ⊥ }
 {
@@ -140,6 +119,12 @@ pub(crate) fn serve_table<D: Disk, S: Source, W: Sink>(
             };
             serve_opened(disk, source, sink, replica, opening)
         }
-        Err((_, error)) => refuse_file(sink, &error),
+        Err((_, error)) => refuse_file(
+            sink,
+            &error,
+            Status::Refused,
+            Status::DiskFault,
+            Status::WriteFault,
+        ),
     }
 }

@@ -6,7 +6,7 @@ ghost use Rattle.df_rows.specs.Answers.{refusal_of};
 ghost use Rattle.df_rows.specs.Lines.{done_text};
 ghost use Rattle.df_rows.specs.declared.line.Line.TheVariants as lines;
 ghost use Rattle.df_rows.specs.Grammar.{Count, Drop, Get, Put, said_with, value_length};
-ghost use Rattle.df_table.specs.Outside.{Blames, Writes};
+ghost use Rattle.df_table.specs.Outside.{Blames, Writes, around};
 ghost use Rattle.df_table.specs.Ready.{IsSteady};
 ghost use Rattle.df_table.specs.Serving.{BlamesIfEnds, Ended, EndsTurn, Executes, IsServing, OnGoing, Tells, Turns, printed_turn, state};
 
@@ -17,7 +17,8 @@ use crate::status::Status;
 use df_base::{Failed, Sink, Source};
 use df_disk::Disk;
 use df_inspect::print_script;
-use df_rows::{Answer, Command, Line, Next, Refusal, Row, print_answer};
+use df_lines::Next;
+use df_rows::{Answer, Command, Line, Refusal, Row, print_answer};
 
 /// What became of a session by one turn.
 #[derive(Clone, Copy, Debug, PartialEq, Eq)]
@@ -63,7 +64,7 @@ fn put<D: Disk, W: Sink>(
     ensures disk { BlamesIfEnds Status.DiskFault (D.faults disk.old) (D.faults disk.new) result }
     ensures sink { BlamesIfEnds Status.WriteFault (W.faults sink.old) (W.faults sink.new) result }
 {
-    let row = Row::new(key, session.lines.value(size));
+    let row = Row::new(key, session.lines.body(size));
     match change(disk, session, Command::Put(row)) {
         Ok(op) => printed(print_answer(sink, &Answer::Put { op })),
         Err(ending) => Turn::Ends(tell_ending(sink, ending)),
@@ -175,20 +176,19 @@ pub(crate) fn serve_lines<D: Disk, S: Source, W: Sink>(
     sink: &mut W,
     session: &mut Session,
 ) -> Status
-    requires serving { IsServing session.old.layout session.old (S.left source.old) }
-    ensures session { IsSteady session.old.layout session.old.replica session.old.table → Ended session.old.layout
-        (state (record { told = D.told disk.old; left = S.left source.old; written = W.written sink.old }) session.old)
-        (state (record { told = D.told disk.new; left = S.left source.new; written = W.written sink.new }) session.new) result }
+    requires { IsServing session.old.layout session.old (S.left source.old) }
     ensures memory { result ≡ Status.Memory → ⊥ }
     ensures words { result ≡ Status.Words → ⊥ }
+    ensures session { IsSteady session.old.layout session.old.replica session.old.table → Ended session.old.layout
+        (state (around (D.told disk.old) (S.left source.old) (W.written sink.old)) session.old) (state (around (D.told disk.new) (S.left source.new) (W.written sink.new)) session.new) result }
     ensures disk { Blames Status.DiskFault (D.faults disk.old) (D.faults disk.new) result }
     ensures source { Blames Status.ReadFault (S.faults source.old) (S.faults source.new) result }
     ensures sink { Blames Status.WriteFault (W.faults sink.old) (W.faults sink.new) result }
 {
     loop {
         match take_turn(disk, source, sink, session) {
-            Turn::GoesOn => {}
             Turn::Ends(status) => return status,
+            Turn::GoesOn => {}
         }
     }
 }

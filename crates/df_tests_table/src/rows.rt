@@ -1,6 +1,6 @@
 // Worked scripts over new files: a key and its value, checkpoints of the table, a full one, values that are too long.
-use crate::shown::{expect, expect_words, new_file, run_failing};
-use df_runs::words;
+use crate::shown::{expect, new_file, run_failing};
+use df_runs::{expect_words, words};
 use df_table::Status;
 use std::alloc::Global;
 use std::test::Fail;

@@ -2,7 +2,7 @@
 use df_base::{MemorySink, MemorySource};
 use df_disk::Disk;
 use df_memdisk::MemoryDisk;
-use df_runs::{WordList, made_file, run_words, word};
+use df_runs::{WordList, expect_text, made_file, word};
 use df_table::{Status, run_table};
 use std::alloc::Global;
 use std::test::Fail;
@@ -63,24 +63,7 @@ pub fn expect<D: Disk>(
     if ran.status != status {
         return Err("another status".into());
     }
-    if ran.text.as_slice() != text.as_bytes() {
-        return Err("another text".into());
-    }
-    Ok(())
-}
-
-/// That words of `datafile` print this.
-pub fn expect_words<D: Disk>(
-    alloc: Global,
-    disk: &mut D,
-    words: &[&str],
-    text: &str,
-) -> Result<(), Fail> {
-    let ran = run_words(alloc, disk, words)?;
-    if ran.text.as_slice() != text.as_bytes() {
-        return Err("another text of datafile".into());
-    }
-    Ok(())
+    expect_text(ran.text.as_slice(), text)
 }
 
 /// A disk in memory with a new file of this layout.

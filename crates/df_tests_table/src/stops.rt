@@ -1,26 +1,9 @@
 // A put whose device calls fail one after the other, with a stop behind each; and failing calls of the script's source and of the sink.
 use crate::shown::{expect, new_file, run_failing, serve};
-use df_base::SECTOR;
-use df_memdisk::{Change, MemoryDisk};
-use df_runs::{small_file, word};
+use df_runs::{small_file, stopped, word};
 use df_table::Status;
 use std::alloc::Global;
 use std::test::Fail;
-
-// The disk behind a stop that leaves these sectors, which were being written, with the byte a5 in each place.
-fn stopped(alloc: Global, disk: MemoryDisk, sectors: &[u64]) -> Result<MemoryDisk, Fail> {
-    let mut changes = Vec::new(alloc);
-    for sector in sectors {
-        changes.push(Change {
-            sector: *sector,
-            bytes: [0xa5; SECTOR],
-        })?;
-    }
-    match disk.stop(changes) {
-        Ok(disk) => Ok(disk),
-        Err(_) => Err("the stop isn't made".into()),
-    }
-}
 
 // The device call that fails in the session `put 1 aa` on a new small file, counted from its first: four reads of the copies, the barrier and
 // 42 reads of the open, the four writes, four syncs and four reads of its boot update, the prepare, a sync, its header sector, a sync, the reply, a sync. Then the sectors that the stop garbles, and what

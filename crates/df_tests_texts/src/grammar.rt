@@ -1,5 +1,5 @@
 // Worked lines, and numbers up to their width.
-use df_lines::{Line, one_meaning, parse, u32_of, u64_of, u128_of};
+use df_lines::{Line, LineKind, one_meaning, u32_of, u64_of, u128_of};
 use std::process::Abort;
 
 // A line, what it is read as, and its body.
@@ -103,7 +103,7 @@ fn expect_lines(rt: &impl Abort, rows: &[Row]) {
     for (line, want, bytes) in rows {
         let mut body = [9u8; 40];
         assert!(rt; line.len() <= 80);
-        assert!(rt; parse(line, &mut body) == Some(*want), "{want:?}");
+        assert!(rt; Line::parse(line, &mut body) == Some(*want), "{want:?}");
         assert!(rt; body.as_slice().starts_with(bytes));
     }
 }
@@ -165,6 +165,6 @@ fn a_byte_is_read_up_to_its_width(rt: HostRuntime) {
     for (line, want) in &rows {
         let mut body = [0u8; 40];
         assert!(rt; line.len() <= 80);
-        assert!(rt; parse(line, &mut body) == *want);
+        assert!(rt; Line::parse(line, &mut body) == *want);
     }
 }

@@ -1,5 +1,5 @@
 // Lines that are none.
-use df_lines::parse;
+use df_lines::{Line, LineKind};
 use std::process::Abort;
 
 // None of these is a line. A stroke stands between two of them.
@@ -8,7 +8,7 @@ fn expect_no_line(rt: &impl Abort, lines: &str) {
         let mut body = [0u8; 40];
         let bytes = line.as_bytes();
         assert!(rt; bytes.len() <= 80);
-        assert!(rt; parse(bytes, &mut body) == None, "{line}");
+        assert!(rt; Line::parse(bytes, &mut body) == None, "{line}");
     }
 }
 

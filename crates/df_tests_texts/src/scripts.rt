@@ -93,12 +93,12 @@ fn a_script_is_read_in_pieces_of_any_size(rt: HostRuntime) {
 
 // A script whose first and third reads fail: each failure is answered once, and no line is lost.
 fn expect_each_line(rt: &impl Abort, room: &mut LineRoom, source: &mut MemorySource, body: &[u8]) {
-    assert!(rt; room.next(source) == Err(Failed));
+    assert!(rt; room.next::<Line, MemorySource>(source) == Err(Failed));
     expect_line(rt, room, source, 4, 1, b"");
-    assert!(rt; room.next(source) == Err(Failed));
+    assert!(rt; room.next::<Line, MemorySource>(source) == Err(Failed));
     expect_line(rt, room, source, 55, 1, body);
     expect_line(rt, room, source, 6, 2, b"\xff");
-    assert!(rt; room.next(source) == Ok(Next::End));
+    assert!(rt; room.next::<Line, MemorySource>(source) == Ok(Next::End));
 }
 
 #[test]
@@ -122,7 +122,7 @@ fn a_line_past_the_bound_is_refused(rt: HostRuntime) {
     }
 }
 
-const SHORTEST: [(&[u8], Next); 2] = [(b"", Next::End), (b"\n", Next::Refused)];
+const SHORTEST: [(&[u8], Next<Line>); 2] = [(b"", Next::End), (b"\n", Next::Refused)];
 
 #[test]
 fn an_empty_line_is_refused_and_an_empty_script_ends(rt: HostRuntime) {
@@ -134,7 +134,7 @@ fn an_empty_line_is_refused_and_an_empty_script_ends(rt: HostRuntime) {
 }
 
 // The reader's answer, which stays the same.
-fn expect_twice<S: Source>(rt: &impl Abort, room: &mut LineRoom, source: &mut S, want: Next) {
+fn expect_twice<S: Source>(rt: &impl Abort, room: &mut LineRoom, source: &mut S, want: Next<Line>) {
     assert!(rt; room.next(source) == Ok(want));
     assert!(rt; room.next(source) == Ok(want));
 }

@@ -2,9 +2,10 @@
 use crate::printed::new_sink;
 use df_base::{Failed, MemorySink, OutOfMemory};
 use df_layout::{Layout, Place, Zone};
+use df_lines::LineKind;
 use df_rows::{
-    Answer, Command, LONGEST_VALUE, Line, ObjectTable, ROW, Row, parse, print_answer,
-    print_not_table, rows_in_block,
+    Answer, Command, LONGEST_VALUE, Line, ObjectTable, ROW, Row, print_answer, print_not_table,
+    rows_in_block,
 };
 use std::alloc::Global;
 use std::process::Abort;
@@ -79,7 +80,7 @@ fn run(
     for line in lines {
         let mut body = [9u8; 128];
         assert!(rt; line.len() <= 256);
-        match parse(line, &mut body) {
+        match Line::parse(line, &mut body) {
             Some(said) => {
                 let length = length_of(said);
                 assert!(rt; length <= body.len());

@@ -1,4 +1,3 @@
-mod Commas
 mod Modes
 mod Words
 mod Written

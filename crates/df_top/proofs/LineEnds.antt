@@ -1,7 +1,7 @@
 -- What one line does to a session: it goes on with the call that the line asks for, or ends.
 use Rattle.std.proofs.Common.{◌≡◌, ◌⊎◌, ◌<◌, inl, inr, true, ℕ, ◌+◌, List, ◌++◌, length, Option, Some, ◌∙◌, ap, subst}
 use Rattle.df_lines.specs.declared.line.Line.{Line}
-use Rattle.df_lines.specs.Grammar.{Said, said_with}
+use Rattle.df_lines.specs.Grammar.{Said, Says, said_with}
 use Rattle.df_lines.specs.Reads.{RefusesNext, TakesLine}
 use Rattle.df_lines.specs.Room.{Room, Tells}
 use Rattle.df_lines.specs.Script.{IsRefused}
@@ -15,14 +15,14 @@ use Rattle.df_top.specs.Lines.{ByLine, command_of}
 use Rattle.df_top.specs.Outside.{Outside}
 use Rattle.df_top.specs.Pacing.{IsIdle, IsNext, runs}
 use Rattle.df_top.specs.Session.{EndedIsEnd, HoldsLine, State, state}
-use Rattle.df_top.specs.Step.{Answers, EndsIn, GoesOn as GoesOnBy, RefusesLine, Takes, Turns}
+use Rattle.df_top.specs.Step.{Answers, EndsIn, RefusesLine, Takes, Turns}
 use Rattle.df_top.specs.Turning.{OnGoing}
 use Rattle.df_top.specs.declared.session.Session.{Session}
 use Rattle.df_top.specs.declared.turns.Turn.{Turn}
 use Rattle.df_top.specs.declared.turns.Turn.TheVariants.{GoesOn, Ends}
 use Rattle.df_top.specs.declared.status.Status.{Status}
 use Rattle.df_top.specs.declared.status.Status.TheVariants.{Done, Found, Words, Script, Refused, DiskFault, ReadFault, WriteFault, Memory}
-use Rattle.df_top.proofs.Progress.{ends_answer, ends_damaged, ends_damaged_fault, ends_disk, ends_script, ends_script_fault, goes_on, on_ends, on_more}
+use Rattle.df_top.proofs.Progress.{ends_answer, ends_damaged, ends_damaged_fault, ends_disk, ends_script, ends_script_fault, goes_on}
 
 -- the line that refuses the next line ends the session
 pub ends_refused : (pace : Pace) (bound : ℕ) (old new : State) → new.outside.told ≡ old.outside.told → new.replica ≡ old.replica → IsIdle old.beat old.replica → ((rest : List ℕ) → old.text ≡ Some rest → IsRefused bound old.budget rest)
@@ -34,16 +34,16 @@ ends_refused pace bound old new same one idle refused holds status wrote = absur
 
 -- what the reader refuses is refused
 pub refused_next : (outside : Outside) (left : Option (List ℕ)) (old : Session) (room : Room) → EndedIsEnd old outside.left
-    → ((text : List ℕ) → Tells old.lines outside.left text → RefusesNext old.lines.reading room.reading text (unread room.reading.held left))
+    → ((text : List ℕ) → Tells old.lines outside.left text → RefusesNext Says old.lines.reading room.reading text (unread room.reading.held left))
     → (text : List ℕ) → (state outside old).text ≡ Some text → IsRefused old.lines.reading.bound old.lines.reading.budget text
 refused_next outside left old room ended gives text is = (gives text (record { is = is; ended = ended })).refuses
 
 -- and the reader holds it, or more of it than the bound
 pub held_next : (outside : Outside) (left : Option (List ℕ)) (old : Session) (room : Room) → EndedIsEnd old outside.left → room.reading.bound ≡ old.lines.reading.bound
-    → ((text : List ℕ) → Tells old.lines outside.left text → RefusesNext old.lines.reading room.reading text (unread room.reading.held left))
+    → ((text : List ℕ) → Tells old.lines outside.left text → RefusesNext Says old.lines.reading room.reading text (unread room.reading.held left))
     → (text : List ℕ) → (state outside old).text ≡ Some text → (remains : List ℕ) → left ≡ Some remains → HoldsLine old.lines.reading.bound text remains
 held_next outside left old room ended bound gives text is remains has =
-    let refuses : RefusesNext old.lines.reading room.reading text (unread room.reading.held left) = gives text (record { is = is; ended = ended }) in
+    let refuses : RefusesNext Says old.lines.reading room.reading text (unread room.reading.held left) = gives text (record { is = is; ended = ended }) in
     let whole : Some (room.reading.held ++ remains) ≡ Some text = subst (λ (o : Option (List ℕ)). unread room.reading.held o ≡ Some text) has refuses.rest in
     record {
       held = room.reading.held;
@@ -54,7 +54,7 @@ held_next outside left old room ended bound gives text is remains has =
 -- ---- a line was taken
 
 module _ (before after : Outside) (old : Session) (room : Room) (line : Line) (ended : EndedIsEnd old before.left)
-    (gives : (text : List ℕ) → Tells old.lines before.left text → TakesLine old.lines.reading room.reading text (unread room.reading.held after.left) (said_with room.body line)) where
+    (gives : (text : List ℕ) → Tells old.lines before.left text → TakesLine Says old.lines.reading room.reading text (unread room.reading.held after.left) (said_with room.body line)) where
   abbrev said : Said
   said = said_with room.body line
 
@@ -87,12 +87,6 @@ module _ (before after : Outside) (old : Session) (room : Room) (line : Line) (e
       line_turns (Ends Script) did count beat = absurd did
       line_turns (Ends ReadFault) did count beat = absurd did
       line_turns (Ends Memory) did count beat = absurd did
-
--- ---- the work behind a line
-
-pub then_turns : (pace : Pace) (bound : ℕ) (old mid new : State) → GoesOnBy pace bound old mid → (turn : Turn) → Turns pace bound mid new turn → Turns pace bound old new turn
-then_turns pace bound old mid new line GoesOn work = on_more pace bound old mid new line work
-then_turns pace bound old mid new line (Ends status) work = on_ends pace bound old mid new status line work
 
 -- ---- calls may go on behind a line that was answered
 

@@ -12,9 +12,9 @@ use Rattle.df_session.specs.Opened.{ToldBy}
 use Rattle.df_top.specs.Formats.{MakesOn}
 use Rattle.df_top.specs.Refusing.{PrintsFormatError}
 use Rattle.df_top.specs.declared.status.Status.{Status}
-use Rattle.df_top.specs.declared.status.Status.TheVariants.{Done, Refused}
+use Rattle.df_top.specs.declared.status.Status.TheVariants.{Done, Refused, WriteFault}
 use Rattle.df_session.proofs.Laws.{part_told}
-use Rattle.df_top.proofs.Causes.{line_ends}
+use Rattle.df_telling.proofs.Laws.{text_ends}
 
 format_told : {T : Type 0} (es : List Event) (old new : Option Told) (r : Result T FormatError) → AddsFormat es old new r → ToldBy old new
 format_told es old new (Ok x) is = (es, is)
@@ -42,5 +42,5 @@ module _ (layout : Layout) (cluster : ℕ) (before : Told) (may : MayMakeOn layo
 -- a format that is refused, or in which the disk failed, doesn't end with Done
 pub not_done : (e : FormatError) (old new : Option (List ℕ)) (status : Status) → PrintsFormatError e old new status → status ≡ Done → ⊥
 not_done formats.DiskFault old new status prints is = absurd (cc ((prints.fault refl).0, is))
-not_done formats.ClusterZero old new status prints is = line_ends _ Refused Done old new status (prints.other (λ no. cc)) (λ no. cc) (λ no. cc) is
-not_done (formats.NotBlank copy) old new status prints is = line_ends _ Refused Done old new status (prints.other (λ no. cc)) (λ no. cc) (λ no. cc) is
+not_done formats.ClusterZero old new status prints is = text_ends WriteFault _ Refused Done old new status (prints.other (λ no. cc)) (λ no. cc) (λ no. cc) is
+not_done (formats.NotBlank copy) old new status prints is = text_ends WriteFault _ Refused Done old new status (prints.other (λ no. cc)) (λ no. cc) (λ no. cc) is

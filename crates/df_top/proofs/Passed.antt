@@ -1,5 +1,5 @@
 -- What a piece of the loop's work comes to, by its answer.
-use Rattle.std.proofs.Common.{◌≡◌, ◌<◌, ℕ, Bool, true, false, if◌then◌else◌, List, Option, Some, None, Ok, Err, inl, inr, refl, sym, ◌∙◌, ap, subst}
+use Rattle.std.proofs.Common.{◌≡◌, ◌<◌, ℕ, Bool, true, false, if◌then◌else◌, List, Option, Some, None, Ok, Err, IsTrue, inl, inr, refl, sym, ◌∙◌, ap, subst, arith}
 use Rattle.std.proofs.lemmas.Option.{none-some}
 use Rattle.df_base.specs.Causes.{IsBlamed}
 use Rattle.df_disk.specs.Told.{Told}
@@ -12,6 +12,7 @@ use Rattle.df_model.specs.declared.errors.StepError.TheVariants as step
 use Rattle.df_model.specs.Faults.{is_append_fault, is_block_fault, is_flush_fault, is_lookup_fault, is_prepare_fault, is_read_fault, is_reply_fault}
 use Rattle.df_units.specs.Meaning.{number_of}
 use Rattle.df_session.specs.Calls.{machine_answer}
+use Rattle.df_lines.specs.Room.{Room}
 use Rattle.df_pace.specs.Beats.{command_of, is_begun, next_piece, pieces_left}
 use Rattle.df_pace.specs.declared.beat.Beat.{Beat}
 use Rattle.df_pace.specs.declared.beat.Piece.{Piece}
@@ -29,7 +30,8 @@ use Rattle.df_top.specs.Pacing.{IsNext, runs}
 use Rattle.df_top.specs.Refusing.{PrintsFault}
 use Rattle.df_top.specs.Session.{IsDamagedLine, State}
 use Rattle.df_top.specs.Step.{Passes, Turns}
-use Rattle.df_top.specs.Turning.{BlamesIfEnds, DoesPiece, OnGoing, begun_in}
+use Rattle.df_top.specs.Turning.{BlamesIfEnds, DoesPiece, IsReady, Leaves, OnGoing, begun_in}
+use Rattle.df_top.specs.declared.session.Session.{Session}
 use Rattle.df_top.specs.declared.turns.Turn.{Turn}
 use Rattle.df_top.specs.declared.turns.Turn.TheVariants.{GoesOn, Ends}
 use Rattle.df_top.specs.declared.status.Status.{Status}
@@ -77,6 +79,19 @@ begun_same x answers.Recent is = absurd (none-some x is)
 
 pub does_answered : (command : Command) (s t : Replica) (old new : Option Told) (a : Answer) (begun : Bool) → GivesAnswer command s t old new a → begun ≡ begun_in a → DoesPiece command s t old new (Ok begun)
 does_answered command s t old new a begun gives is = (gives.told, gives.makes, is ∙ begun_same gives.told a gives.in_words)
+
+-- ---- what a piece leaves as it is
+
+pub leaves_on : {r s t : Session} → Leaves r s → Leaves s t → Leaves r t
+leaves_on one more = record { lines = more.lines ∙ one.lines; count = more.count ∙ one.count; pace = more.pace ∙ one.pace }
+
+-- so a session that was ready still is, where calls may go on
+pub worked_ready : {s t : Session} {left : Option (List ℕ)} → IsReady s left → Leaves s t → t.replica.live ≡ true → IsReady t left
+worked_ready ready leaves live = record {
+  live = live;
+  count = omega (arith, ready.count, leaves.count, ap (λ (r : Room). r.reading.budget) leaves.lines);
+  at_end = λ ended. ready.at_end (subst (λ (r : Room). IsTrue r.ended) leaves.lines ended);
+}
 
 -- ---- a piece that ends the session
 

@@ -25,6 +25,7 @@ use Rattle.df_session.specs.Surveying.{TellsMends, TellsSurvey}
 use Rattle.df_session.proofs.Laws.{added_is_told, shown_after}
 use Rattle.df_session.specs.Found.{FoundFile, no_calls}
 use Rattle.df_session.specs.Laws.{CallsKeep}
+use Rattle.df_telling.proofs.Laws.{open_fault}
 use Rattle.df_top.specs.Outside.{Outside, PrintsLine}
 use Rattle.df_top.specs.Refusing.{PrintsError}
 use Rattle.df_top.specs.Reporting.{Inspects, Recovers, report_of, status_of}
@@ -34,7 +35,7 @@ use Rattle.df_top.specs.declared.mode.Mode.TheVariants.{Inspect}
 use Rattle.df_top.specs.declared.status.Status.{Status}
 use Rattle.df_top.specs.declared.status.Status.TheVariants.{Done}
 use Rattle.df_session.proofs.Laws.{calls_keep}
-use Rattle.df_top.proofs.Served.{by_fault, not_opened, opened_file}
+use Rattle.df_top.proofs.Served.{not_opened, opened_file}
 
 -- ---- the barrier
 
@@ -53,7 +54,10 @@ syncs_failed old new e is syncs = subst (λ (x : OpenError). Syncs {T = Replica}
 
 -- it adds nothing but its sync
 pub syncs_part : (old new : Option Told) (e : OpenError) → Syncs {T = Replica} old new (Err e) → AddsPart (Sync ∷ []) old new
-syncs_part old new e syncs = by_fault (λ x. AddsPart (Sync ∷ []) old new) e (λ is. syncs_failed old new e is syncs) (λ no. inr (syncs_once old new e no syncs))
+syncs_part old new e syncs = elim (open_fault e) [
+  | inl is ↦ syncs_failed old new e is syncs
+  | inr other ↦ inr (syncs_once old new e other.0 syncs)
+]
 
 -- ---- what is printed
 

@@ -1,6 +1,7 @@
 -- A generated run over a replica: its calls are joined, and what they leave of a file.
-use Rattle.std.proofs.Common.{◌≡◌, ◌<◌, ◌+◌, ℕ, Bool, true, List, [], ◌∷◌, ◌++◌, length, map, Option, Some, None, refl, sym, ◌∙◌, ap, subst, Result, Ok, Err, inl, inr, arith}
+use Rattle.std.proofs.Common.{◌≡◌, ◌<◌, ◌+◌, ℕ, Bool, true, List, [], ◌∷◌, ◌++◌, length, map, Option, Some, None, refl, sym, ◌∙◌, ap, subst, Result, Ok, Err, IsErr, IsErrAnd, inl, inr, arith}
 use Rattle.std.specs.Prelude.{OnOk}
+use Rattle.std.proofs.lemmas.Result.{err_from_is_err_and}
 use Rattle.df_disk.specs.Told.{Told}
 use Rattle.df_model.specs.Commands.{Advance, Command}
 use Rattle.df_session.specs.Session.{Act}
@@ -148,3 +149,11 @@ asks_so run a b is same = subst (λ (x : Asked). asks run ≡ Some (command_of r
 -- so what holds of the command that was made holds of the one that is asked for
 pub as_asked : (P : Command → Type 0) (run : Run) (made asked : Command) → asks run ≡ Some asked → made ≡ asked → P made → (c : Command) → asks run ≡ Some c → P c
 as_asked P run made asked is same holds c so = subst P (same ∙ one_asked run asked c is so) holds
+
+-- ---- a fault that is handed on
+
+pub handed_on : {T : Type 0} (P : Result T Fault → Type 0) (r : Result T Fault) (fault : Fault) → IsErr r × IsErrAnd r (λ e. e ≡ fault) → P (Err fault) → P r
+handed_on {T} P r fault is holds =
+    let p = err_from_is_err_and r is.1 in
+    let same : r ≡ Err fault = p.1 ∙ ap (λ (e : Fault). Err e) p.2 in
+    subst P (sym same) holds

@@ -16,9 +16,10 @@ use Rattle.df_session.specs.Following.{MayOpen}
 use Rattle.df_session.specs.Session.{Act}
 use Rattle.df_session.proofs.Laws.{safe_is_not_refused}
 use Rattle.df_session.specs.Found.{FoundFile}
-use Rattle.df_top.specs.Completeness.{IsCarriedOut, IsWhole, NoneFailed, SafeIsRun, SafeIsServed}
+use Rattle.df_telling.proofs.Laws.{nothing_failed}
+use Rattle.df_top.specs.Completeness.{IsCarriedOut, IsWhole, SafeIsRun, SafeIsServed}
 use Rattle.df_top.specs.Opening.{RefusesFile}
-use Rattle.df_top.specs.Outside.{Faults, HasCauses, Outside}
+use Rattle.df_top.specs.Outside.{Faults, HasCauses, NoneFailed, Outside}
 use Rattle.df_top.specs.Reporting.{status_of}
 use Rattle.df_top.specs.Scrubs.{failing_blocks, tour_status}
 use Rattle.df_top.specs.Run.{ComesTo, Does, DidNothing, RefusesSuperblock, ServesOwn, ServesScript, Works, script_budget}
@@ -85,14 +86,8 @@ run_ends run last told failed written took status writes = absurd writes
 -- ---- the words
 
 module _ (file : DataFile) (view : View) (t : Told) (old new : Outside) (before now : Faults) (status : Status) (may : MayOpen file view t) (unspent : boot_of view < 2 ^ 62) (causes : HasCauses before now status) (none : NoneFailed before now) where
-  no_disk : status ≡ DiskFault → ⊥
-  no_disk is = none.disk (causes.disk.rose is)
-
-  no_source : status ≡ ReadFault → ⊥
-  no_source is = none.source (causes.source.rose is)
-
-  no_sink : status ≡ WriteFault → ⊥
-  no_sink is = none.sink (causes.sink.rose is)
+  unfailed : (status ≡ DiskFault → ⊥) × (status ≡ ReadFault → ⊥) × (status ≡ WriteFault → ⊥)
+  unfailed = nothing_failed DiskFault ReadFault WriteFault before now status causes none
 
   answers : IsImage t.shown × IsNotRefused file t.shown
   answers = safe_is_not_refused file view t may unspent
@@ -110,9 +105,9 @@ module _ (file : DataFile) (view : View) (t : Told) (old new : Outside) (before 
               let read = serves.session.text text left in
               whole_uncut file.layout text read.1 (all_said serves.session.turns ++ said_of serves.session.failing) read.0 whole read.2 (read.3.refused cut);
         })
-    | Unread failed ↦ absurd (no_source failed)
-    | Unwritten failed ↦ absurd (no_sink failed)
-    | Unserved failed ↦ absurd (no_disk failed)
+    | Unread failed ↦ absurd (unfailed.1 failed)
+    | Unwritten failed ↦ absurd (unfailed.2 failed)
+    | Unserved failed ↦ absurd (unfailed.0 failed)
     | Damaged refused ↦ absurd (serves.undamaged refused)
   ]
 
@@ -120,8 +115,8 @@ module _ (file : DataFile) (view : View) (t : Told) (old new : Outside) (before 
   worked run last told failed written took writes undamaged = elim (run_ends run last told failed written took status writes) [
     | inl done ↦ done
     | inr (inl refused) ↦ absurd (undamaged refused)
-    | inr (inr (inl fault)) ↦ absurd (no_disk fault)
-    | inr (inr (inr fault)) ↦ absurd (no_sink fault)
+    | inr (inr (inl fault)) ↦ absurd (unfailed.0 fault)
+    | inr (inr (inr fault)) ↦ absurd (unfailed.2 fault)
   ]
 
   carried : (mode : Mode) (found : FoundFile file.layout t) → Works mode file.layout t found old new status → IsCarriedOut mode file.layout old.left status
@@ -131,22 +126,22 @@ module _ (file : DataFile) (view : View) (t : Told) (old new : Outside) (before 
   carried (Paced pace) found serves = served pace found serves
   carried Recover found recovers = elim recovers.prints [
     | inl printed ↦ printed.0
-    | inr part ↦ absurd (no_sink part.0)
+    | inr part ↦ absurd (unfailed.2 part.0)
   ]
   carried Inspect found inspects = elim inspects.prints [
     | inl printed ↦ listed inspects.survey.mends status printed.0
-    | inr part ↦ absurd (no_sink part.0)
+    | inr part ↦ absurd (unfailed.2 part.0)
   ]
   carried Scrub found scrubs = elim scrubs.prints [
     | inl (inl printed) ↦ counted (length (failing_blocks found.replica scrubs.after.shown)) status printed.0
-    | inl (inr part) ↦ absurd (no_sink part.0)
-    | inr stops ↦ absurd (no_disk stops.fault)
+    | inl (inr part) ↦ absurd (unfailed.2 part.0)
+    | inr stops ↦ absurd (unfailed.0 stops.fault)
   ]
   carried (Workload seed count) found works = worked works.run works.last new.told works.worked.failed old.written new.written works.written works.undamaged
 
   came : (mode : Mode) → ComesTo mode file.layout t old new status → IsCarriedOut mode file.layout old.left status
   came mode (inl refuses) = absurd (no_refusal refuses)
-  came mode (inr (inl fails)) = absurd (no_disk fails.fault)
+  came mode (inr (inl fails)) = absurd (unfailed.0 fails.fault)
   came mode (inr (inr works)) = carried mode works.0 works.1
 
   done : (mode : Mode) → Does mode file.layout t old new status → IsCarriedOut mode file.layout old.left status
@@ -155,7 +150,7 @@ module _ (file : DataFile) (view : View) (t : Told) (old new : Outside) (before 
   ran : (mode : Mode) → DidNothing old new status ⊎ RefusesSuperblock t old new status ⊎ ServesOwn mode t old new status → (status ≡ Memory) ⊎ IsCarriedOut mode file.layout old.left status
   ran mode (inl nothing) = elim nothing.why [
     | inl wanting ↦ inl wanting
-    | inr failed ↦ absurd (no_disk failed)
+    | inr failed ↦ absurd (unfailed.0 failed)
   ]
   ran mode (inr (inl refuses)) = absurd (answers.1.usable refuses.error refuses.is)
   ran mode (inr (inr serves)) = inr (done mode (subst (λ (l : Layout). Does mode l t old new status) (answers.1.layout serves.layout serves.shown) serves.serves))

@@ -21,6 +21,7 @@ use Rattle.df_session.specs.Found.{FoundFile}
 use Rattle.df_session.specs.Links.{CallsMade}
 use Rattle.df_session.specs.Laws.{CallsKeep}
 use Rattle.df_session.proofs.Laws.{begun_here, calls_keep, ends_told}
+use Rattle.df_telling.proofs.Laws.{open_fault}
 use Rattle.df_top.specs.Acknowledging.{script_calls}
 use Rattle.df_top.specs.Opening.{FailsToFind, RefusesFileAs, StopsBefore}
 use Rattle.df_top.specs.Outside.{IsThrough, Outside}
@@ -154,26 +155,16 @@ refuses version layout t old new status e other whole told answer unread barrier
 }
 
 pub fails : (mode : Mode) (layout : Layout) (t : Told) (old new : Outside) (status : Status) (e : OpenError) → e ≡ opens.DiskFault → StopsBefore mode layout t new.told → new.left ≡ old.left → PrintsError e old.written new.written status → FailsToFind mode layout t old new status
-fails mode layout t old new status e is stops unread prints = record { fault = (prints.fault is).0; silent = record { written = (prints.fault is).1; unread = unread }; disk = stops }
-
--- a refusal is the disk's failure or another one
-pub by_fault : (P : OpenError → Type 0) (e : OpenError) → (e ≡ opens.DiskFault → P e) → ((e ≡ opens.DiskFault → ⊥) → P e) → P e
-by_fault P opens.DiskFault fault other = fault refl
-by_fault P opens.NotFormatted fault other = other (λ no. cc)
-by_fault P (opens.NoQuorum a) fault other = other (λ no. cc)
-by_fault P (opens.Version a) fault other = other (λ no. cc)
-by_fault P (opens.BadField a b) fault other = other (λ no. cc)
-by_fault P (opens.LayoutDiffers a b) fault other = other (λ no. cc)
-by_fault P (opens.Damaged a b) fault other = other (λ no. cc)
-by_fault P opens.BootSpent fault other = other (λ no. cc)
+fails mode layout t old new status e is stops unread prints = record { fault = (prints.failing is).0; silent = record { written = (prints.failing is).1; unread = unread }; disk = stops }
 
 -- so no word is carried out
 pub not_opened : (mode : Mode) (layout : Layout) (t : Told) (old new : Outside) (status : Status) (e : OpenError) → IsImage t.shown → old.told ≡ Some t → TellsSurvey layout old.told (Err e) → new.left ≡ old.left → ((e ≡ opens.DiskFault → ⊥) → new.told ≡ after Sync old.told)
     → (IsImage t.shown → e ≡ opens.DiskFault → StopsBefore mode layout t new.told) → PrintsError e old.written new.written status → ComesTo mode layout t old new status
 not_opened mode layout t old new status e whole told answer unread barrier stops prints =
-    by_fault (λ x. ComesTo mode layout t old new status) e
-    (λ is. inr (inl (fails mode layout t old new status e is (stops whole is) unread prints)))
-    (λ no. inl (refuses 2 layout t old new status e no whole told answer unread (barrier no) prints))
+    elim (open_fault e) [
+      | inl is ↦ inr (inl (fails mode layout t old new status e is (stops whole is) unread prints))
+      | inr other ↦ inl (refuses 2 layout t old new status e other.0 whole told answer unread (barrier other.0) prints)
+    ]
 
 -- ---- a word that executes a script
 

@@ -23,7 +23,7 @@ use Rattle.df_top.specs.declared.status.Status.TheVariants.{DiskFault, Done, Fou
 use Rattle.df_top.specs.declared.turns.Turn.{Turn}
 use Rattle.df_top.specs.declared.turns.Turn.TheVariants.{Ends, GoesOn}
 use Rattle.df_top.specs.Turning.{BlamesIfEnds}
-use Rattle.df_top.proofs.Causes.{no_blame}
+use Rattle.df_telling.proofs.Laws.{no_blame}
 use Rattle.df_model.proofs.Laws.{above, all_above}
 use Rattle.df_top.proofs.Checks.{IsChecked, IsEnded, IsStepOf, check_counts, check_fails, checked, ended, failing_of, left_of, referenced, referenced_rise}
 

@@ -20,29 +20,31 @@ use Rattle.df_units.proofs.Laws.{none_within}
 use Rattle.df_upgrade.specs.Below.{HasSuperAs, IsNotRefusedAs, MayBeHurtAs, RefusesAs, TellsSurveyAs, fault_as}
 use Rattle.df_upgrade.specs.Upgraded.{StopsUpgrading}
 use Rattle.df_upgrade.proofs.Laws.{answer_is_of_hurt_as, found_is_not_refused_as, headers_may_be_hurt_as, probe_is_of_hurt_as, super_as, two_copies_are_enough_as}
-use Rattle.df_top.specs.Completeness.{NoneFailed, OldIsUpgraded, SecondIsLeft}
+use Rattle.df_telling.proofs.Laws.{open_fault}
+use Rattle.df_top.specs.Completeness.{OldIsUpgraded, SecondIsLeft}
 use Rattle.df_top.specs.Hurting.{RefusesCopiesAs}
-use Rattle.df_top.specs.Outside.{Faults, HasCauses, Outside}
+use Rattle.df_top.specs.Outside.{Faults, HasCauses, NoneFailed, Outside}
 use Rattle.df_top.specs.Refusing.{PrintsError}
 use Rattle.df_top.specs.Run.{DidNothing, RefusesSuperblockAs}
 use Rattle.df_top.specs.Upgrading.{ComesToUpgrade, FailsToUpgrade, RunsUpgrade, UpgradeIsOfHurt, UpgradesHurt, UpgradesOverHurt, UpgradesOwn}
 use Rattle.df_top.specs.Within.{WritesOwnAs}
 use Rattle.df_top.specs.declared.status.Status.{Status}
 use Rattle.df_top.specs.declared.status.Status.TheVariants.{DiskFault, Done, Memory}
-use Rattle.df_top.proofs.Served.{by_fault, refuses}
+use Rattle.df_top.proofs.Served.{refuses}
 use Rattle.df_top.proofs.Within.{barrier_within, mends_within}
 
 -- ---- it isn't upgraded
 
 abbrev failing : (layout : Layout) (t : Told) (old new : Outside) (status : Status) (e : OpenError) → e ≡ opens.DiskFault → StopsUpgrading layout t new.told → new.left ≡ old.left → PrintsError e old.written new.written status → FailsToUpgrade layout t old new status
-failing layout t old new status e is stops unread prints = record { fault = (prints.fault is).0; silent = record { written = (prints.fault is).1; unread = unread }; disk = stops }
+failing layout t old new status e is stops unread prints = record { fault = (prints.failing is).0; silent = record { written = (prints.failing is).1; unread = unread }; disk = stops }
 
 pub not_upgraded : (layout : Layout) (t : Told) (old new : Outside) (status : Status) (e : OpenError) → IsImage t.shown → old.told ≡ Some t → TellsSurveyAs 1 layout old.told (Err e) → new.left ≡ old.left → ((e ≡ opens.DiskFault → ⊥) → new.told ≡ after Sync old.told)
     → (IsImage t.shown → e ≡ opens.DiskFault → StopsUpgrading layout t new.told) → PrintsError e old.written new.written status → ComesToUpgrade layout t old new status
 not_upgraded layout t old new status e whole told answer unread barrier stops prints =
-    by_fault (λ x. ComesToUpgrade layout t old new status) e
-    (λ is. inr (inl (failing layout t old new status e is (stops whole is) unread prints)))
-    (λ no. inl (refuses 1 layout t old new status e no whole told answer unread (barrier no) prints))
+    elim (open_fault e) [
+      | inl is ↦ inr (inl (failing layout t old new status e is (stops whole is) unread prints))
+      | inr other ↦ inl (refuses 1 layout t old new status e other.0 whole told answer unread (barrier other.0) prints)
+    ]
 
 -- ---- what is written
 

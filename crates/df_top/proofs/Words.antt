@@ -78,3 +78,10 @@ makes_file Inspect file is = absurd (let no : task.Open ≡ task.Make file = is 
 makes_file Scrub file is = absurd (let no : task.Open ≡ task.Make file = is in cc)
 makes_file (Paced pace) file is = absurd (let no : task.Open ≡ task.Make file = is in cc)
 makes_file (Workload seed count) file is = absurd (let no : task.Open ≡ task.Make file = is in cc)
+
+-- so words that make a file ask for nothing of one that is there, and for no upgrade
+pub none_asked : (words : List (List ℕ)) (mode : Mode) (file : NewFile) → task_of mode ≡ task.Make file → Means words mode → (other : Mode) → Means words other → IsOfFile other → ⊥
+none_asked words mode file is means other asks of = makes_alone words file.layout file.cluster other (subst (Means words) (makes_file mode file is) means) asks of
+
+pub no_upgrade_asked : (words : List (List ℕ)) (mode : Mode) (file : NewFile) → task_of mode ≡ task.Make file → Means words mode → Means words Upgrade → ⊥
+no_upgrade_asked words mode file is means asks = makes_none words file.layout file.cluster (subst (Means words) (makes_file mode file is) means) asks

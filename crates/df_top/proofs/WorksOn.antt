@@ -30,8 +30,8 @@ use Rattle.df_top.specs.Refusing.{PrintsFault}
 use Rattle.df_top.specs.Working.{WorksThrough}
 use Rattle.df_top.specs.Works.{PrintsRun, Writes, workload_of}
 use Rattle.df_top.specs.declared.status.Status.{Status}
-use Rattle.df_top.specs.declared.status.Status.TheVariants.{Done, Words, Refused, DiskFault, ReadFault, WriteFault, Memory}
-use Rattle.df_top.proofs.Causes.{calm_done, calm_refused, disk_blame, line_ends, never_printed, no_blame}
+use Rattle.df_top.specs.declared.status.Status.TheVariants.{Done, Words, Refused, WriteFault, Memory}
+use Rattle.df_top.proofs.Causes.{calm_done, calm_refused, failed_causes, line_causes, never_printed}
 use Rattle.df_top.proofs.Runs.{EndsRun}
 use Rattle.df_top.proofs.Served.{opened_file}
 
@@ -61,21 +61,9 @@ prints_damaged fault place class old new r status is prints ended =
 -- a run that ended so ends with no fault of another
 pub run_causes : {T : Type 0} (run : Run) (t : Replica) (r : Result T Fault) (disk disk_now source sink sink_now : ℕ) (old new : Option (List ℕ)) (status : Status) → PrintsRun run t r old new status → IsBlamed is_disk disk disk_now r
     → Blames WriteFault sink sink_now status → HasCauses (record { disk = disk; source = source; sink = sink }) (record { disk = disk_now; source = source; sink = sink_now }) status
-run_causes run t (Ok x) disk disk_now source sink sink_now old new status printed same blame = record {
-  disk = no_blame DiskFault disk disk_now status same (line_ends _ Done DiskFault old new status printed calm_done.disk (λ no. cc));
-  source = no_blame ReadFault source source status refl (line_ends _ Done ReadFault old new status printed calm_done.source (λ no. cc));
-  sink = blame;
-}
-run_causes run t (Err (Damaged place class)) disk disk_now source sink sink_now old new status printed same blame = record {
-  disk = no_blame DiskFault disk disk_now status same (line_ends _ Refused DiskFault old new status printed calm_refused.disk (λ no. cc));
-  source = no_blame ReadFault source source status refl (line_ends _ Refused ReadFault old new status printed calm_refused.source (λ no. cc));
-  sink = blame;
-}
-run_causes run t (Err Disk) disk disk_now source sink sink_now old new status printed blamed blame = record {
-  disk = disk_blame disk disk_now status printed.0 blamed.1;
-  source = no_blame ReadFault source source status refl (λ no. absurd (cc (printed.0, no)));
-  sink = blame;
-}
+run_causes run t (Ok x) disk disk_now source sink sink_now old new status printed same blame = line_causes disk disk_now source sink sink_now old new status (workload_text (workload_of run t)) Done calm_done same printed blame
+run_causes run t (Err (Damaged place class)) disk disk_now source sink sink_now old new status printed same blame = line_causes disk disk_now source sink sink_now old new status (damaged_text place class) Refused calm_refused same printed blame
+run_causes run t (Err Disk) disk disk_now source sink sink_now old new status printed blamed blame = failed_causes disk disk_now source sink sink_now old new status printed.0 blamed.1 blame
 
 pub run_never : {T : Type 0} (run : Run) (t : Replica) (r : Result T Fault) (old new : Option (List ℕ)) (status : Status) → PrintsRun run t r old new status → (status ≡ Memory → ⊥) × (status ≡ Words → ⊥)
 run_never run t (Ok x) old new status printed = never_printed _ Done old new status calm_done printed

@@ -1,6 +1,5 @@
 -- How a word ends where nothing fails: over a file that is safe to open, and `format` over a blank disk.
 use Rattle.std.specs.Prelude.{◌≡◌, ◌⊎◌, ◌<◌, ◌^◌, ℕ, List, [], Option, Some}
-use Rattle.df_base.specs.Causes.{Rose}
 use Rattle.df_base.specs.Image.{IsImage}
 use Rattle.df_disk.specs.Told.{Told}
 use Rattle.df_layout.specs.declared.layout.Layout.{Layout}
@@ -14,19 +13,13 @@ use Rattle.df_units.specs.Bytes.{unit_at}
 use Rattle.df_session.specs.Following.{MayOpen}
 use Rattle.df_top.specs.Formats.{Formats}
 use Rattle.df_top.specs.Mode.{IsOfFile}
-use Rattle.df_top.specs.Outside.{Faults, HasCauses, Outside}
+use Rattle.df_top.specs.Outside.{Faults, HasCauses, NoneFailed, Outside}
 use Rattle.df_top.specs.Run.{Runs, ServesIn, script_budget}
 use Rattle.df_top.specs.Upgrading.{RunsUpgrade}
 use Rattle.df_top.specs.declared.mode.Mode.{Mode}
 use Rattle.df_top.specs.declared.mode.Mode.TheVariants.{Format, Run, Recover, Inspect, Scrub, Workload, Upgrade, Paced}
 use Rattle.df_top.specs.declared.status.Status.{Status}
 use Rattle.df_top.specs.declared.status.Status.TheVariants.{Done, Found, Memory, Script}
-
--- no call of the disk, the source or the sink failed
-pub record NoneFailed (before now : Faults) : Type 0 where
-  pub disk : Rose before.disk now.disk → ⊥
-  pub source : Rose before.source now.source → ⊥
-  pub sink : Rose before.sink now.sink → ⊥
 
 -- each line of the text is a line of a script, within the bound of a layout and the budget
 pub record IsWhole (layout : Layout) (text : List ℕ) : Type 0 where

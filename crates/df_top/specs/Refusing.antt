@@ -1,21 +1,20 @@
 -- What is printed of a file that can't be opened or made, and of calls that end before the last one was answered.
 use Rattle.std.specs.Prelude.{◌≡◌, ℕ, List, Option}
-use Rattle.df_inspect.specs.Opening.{format_refusal, open_refusal}
+use Rattle.df_inspect.specs.Opening.{format_refusal}
 use Rattle.df_model.specs.declared.errors.FormatError.{FormatError}
 use Rattle.df_model.specs.declared.errors.FormatError.TheVariants as formats
 use Rattle.df_model.specs.declared.errors.OpenError.{OpenError}
-use Rattle.df_model.specs.declared.errors.OpenError.TheVariants as opens
 use Rattle.df_script_model.specs.Texts.{damaged_text}
 use Rattle.df_session.specs.declared.hearing.Fault.{Fault}
 use Rattle.df_session.specs.declared.hearing.Fault.TheVariants.{Disk, Damaged}
+use Rattle.df_telling.specs.Telling as telling
 use Rattle.df_top.specs.Outside.{PrintsLine}
 use Rattle.df_top.specs.declared.status.Status.{Status}
-use Rattle.df_top.specs.declared.status.Status.TheVariants.{DiskFault, Refused}
+use Rattle.df_top.specs.declared.status.Status.TheVariants.{DiskFault, Refused, WriteFault}
 
 -- the refusal's line is printed; a failing disk has none
-pub record PrintsError (error : OpenError) (old new : Option (List ℕ)) (status : Status) : Type 0 where
-  pub fault : error ≡ opens.DiskFault → (status ≡ DiskFault) × (new ≡ old)
-  pub other : (error ≡ opens.DiskFault → ⊥) → PrintsLine (open_refusal error) Refused old new status
+abbrev pub PrintsError : OpenError → (old new : Option (List ℕ)) → Status → Type 0
+PrintsError error old new status = telling.PrintsError Refused DiskFault WriteFault error old new status
 
 pub record PrintsFormatError (error : FormatError) (old new : Option (List ℕ)) (status : Status) : Type 0 where
   pub fault : error ≡ formats.DiskFault → (status ≡ DiskFault) × (new ≡ old)

@@ -3,7 +3,7 @@ use Rattle.std.specs.Prelude.{◌≡◌, ◌≤◌, ◌+◌, ◌^◌, ℕ, Bool,
 use Rattle.df_base.specs.Streams.{Appends, AppendsPart}
 use Rattle.df_inspect.specs.Answers.{text_of}
 use Rattle.df_disk.specs.Told.{Told}
-use Rattle.df_model.specs.Commands.{Answer as Said, Command}
+use Rattle.df_model.specs.Commands.{Answer as Said, Command, ReadBlock, ReadPrepare, ReadReply}
 use Rattle.df_model.specs.declared.commands.Answer.{Answer}
 use Rattle.df_model.specs.declared.commands.Answer.TheVariants as answers
 use Rattle.df_pace.specs.Beats.{is_begun}
@@ -47,6 +47,13 @@ Tells command (Ok answer) old new turn = IsPrinted (text_of command answer) old 
 Tells command (Err fault) old new GoesOn = ⊥
 Tells command (Err fault) old new (Ends status) = PrintsFault fault old new status
 
+-- the call lends the unit that it reads
+abbrev pub LendsUnit : Command → Type 0
+LendsUnit (ReadPrepare op) = Unit {0}
+LendsUnit (ReadReply client) = Unit {0}
+LendsUnit (ReadBlock address) = Unit {0}
+LendsUnit command = ⊥
+
 -- a checkpoint was begun by a call that answered so
 abbrev pub begun_in : Answer → Bool
 begun_in (answers.Begin (Ok blocks)) = true
@@ -56,6 +63,12 @@ begun_in answer = false
 abbrev pub DoesPiece : Command → (s t : Replica) → (old new : Option Told) → Result Bool Fault → Type 0
 DoesPiece command s t old new (Ok begun) = (x : Said) × Makes command s t old new (Some x) × (begun ≡ is_begun x)
 DoesPiece command s t old new (Err fault) = Makes command s t old new None × EndsBy fault command new
+
+-- the reader, how many lines were executed and the pace are as they were
+pub record Leaves (old new : Session) : Type 0 where
+  pub lines : new.lines ≡ old.lines
+  pub count : new.count ≡ old.count
+  pub pace : new.pace ≡ old.pace
 
 -- calls may go on, and no more lines were executed than bytes were taken
 pub record IsReady (s : Session) (left : Option (List ℕ)) : Type 0 where

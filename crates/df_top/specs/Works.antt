@@ -35,6 +35,11 @@ HearsOf command s t old new (Err fault) = Makes command s t old new None × Ends
 abbrev pub IsRunning : Replica → Type 0
 IsRunning s = OfRunning s.running (λ r. Unit {0})
 
+-- calls may go on, and a checkpoint runs where the flag of the run is set
+pub record CanGoOn (run : Run) (s : Replica) : Type 0 where
+  pub live : s.live ≡ true
+  pub runs : run.running ≡ true → IsRunning s
+
 -- where the flag of the run is set behind an answer, a checkpoint runs, if that was so before
 abbrev pub RunsOn : Command → (s t : Replica) → Result Outcome Fault → Type 0
 RunsOn command s t (Ok outcome) = (flag : Bool) → (flag ≡ true → IsRunning s) → runs_after command outcome flag ≡ true → IsRunning t

@@ -1,14 +1,16 @@
 // The loop's work behind a line: each piece is one call, whose answer isn't printed, until nothing is due or something fails.
 ghost use Rattle.std.specs.Prelude.{◌≡◌, ◌<◌, Option, List, ℕ, Some, true, OnOk};
 ghost use Rattle.df_base.specs.Causes.{IsBlamed};
-ghost use Rattle.df_model.specs.Commands.{Advance, Begin, Scrub};
+ghost use Rattle.df_inspect.specs.Answers.{command_of as call_of};
+ghost use Rattle.df_model.specs.Commands.{Begin, Scrub};
 ghost use Rattle.df_pace.specs.Beats.{behind_piece, command_of, is_begun, next_piece, pieces_left};
+ghost use Rattle.df_session.specs.Calls.{HasAnswer};
 ghost use Rattle.df_session.specs.Endings.{is_disk};
 ghost use Rattle.df_top.specs.Outside.{Blames};
 ghost use Rattle.df_top.specs.Pacing.{IsIdle, runs};
 ghost use Rattle.df_top.specs.Session.{state};
 ghost use Rattle.df_top.specs.Step.{Passes, Turns};
-ghost use Rattle.df_top.specs.Turning.{BlamesIfEnds, DoesPiece, OnGoing, begun_in};
+ghost use Rattle.df_top.specs.Turning.{BlamesIfEnds, DoesPiece, Leaves, OnGoing, begun_in};
 
 use crate::session::Session;
 use crate::status::Status;
@@ -33,26 +35,24 @@ fn durable_root(replica: &Replica) -> ArrayVec<u8, ROOT>
     }
 }
 
+// Makes the call of a piece, and says whether a checkpoint was begun by it.
+fn make_piece<D: Disk>(disk: &mut D, replica: &mut Replica, command: Command) -> Result<bool, Fault>
+    requires live { replica.old.live ≡ true }
+    requires answer { HasAnswer (call_of command) }
+    ensures does { DoesPiece (call_of command.entry) replica.old replica.new (D.told disk.old) (D.told disk.new) result }
+    ensures disk { IsBlamed is_disk (D.faults disk.old) (D.faults disk.new) result }
+{
+    match make(disk, replica, command) {
+        Ok(answer) => Ok(is_begun(&answer)),
+        Err(fault) => Err(fault),
+    }
+}
+
 // Whether a checkpoint was begun by a call that answered so.
 fn is_begun(answer: &Answer) -> bool
     ensures { result ≡ begun_in answer.now }
 {
-    match answer {
-        Answer::Begin(Ok(_)) => true,
-        Answer::Begin(Err(_))
-        | Answer::Append(_)
-        | Answer::Stage(_)
-        | Answer::Flush(_)
-        | Answer::Reply(_)
-        | Answer::WriteBlock(_)
-        | Answer::Release(_)
-        | Answer::Advance(_)
-        | Answer::ReadPrepare(_)
-        | Answer::ReadReply(_)
-        | Answer::ReadBlock(_)
-        | Answer::Scrub(_)
-        | Answer::Recent => false,
-    }
+    matches!(answer, Answer::Begin(Ok(_)))
 }
 
 // Begins a checkpoint with the durable root, and says whether it was begun.
@@ -63,22 +63,7 @@ fn begin<D: Disk>(disk: &mut D, replica: &mut Replica) -> Result<bool, Fault>
 {
     let root = durable_root(replica);
     let root = root.as_slice();
-    match make(disk, replica, Command::Begin { root }) {
-        Ok(answer) => Ok(is_begun(&answer)),
-        Err(fault) => Err(fault),
-    }
-}
-
-// Takes a step of the running checkpoint, which begins none.
-fn step<D: Disk>(disk: &mut D, replica: &mut Replica) -> Result<bool, Fault>
-    requires live { replica.old.live ≡ true }
-    ensures does { DoesPiece Advance replica.old replica.new (D.told disk.old) (D.told disk.new) result }
-    ensures disk { IsBlamed is_disk (D.faults disk.old) (D.faults disk.new) result }
-{
-    match make(disk, replica, Command::Advance) {
-        Ok(answer) => Ok(is_begun(&answer)),
-        Err(fault) => Err(fault),
-    }
+    make_piece(disk, replica, Command::Begin { root })
 }
 
 // Takes a step of the scrubber, which begins none.
@@ -101,7 +86,7 @@ fn do_piece<D: Disk>(disk: &mut D, replica: &mut Replica, piece: Piece) -> Resul
 {
     match piece {
         Piece::Begin => begin(disk, replica),
-        Piece::Step => step(disk, replica),
+        Piece::Step => make_piece(disk, replica, Command::Advance),
         Piece::Scrub => scrub(disk, replica),
     }
 }
@@ -110,10 +95,8 @@ fn do_piece<D: Disk>(disk: &mut D, replica: &mut Replica, piece: Piece) -> Resul
 fn pass<D: Disk, W: Sink>(disk: &mut D, sink: &mut W, session: &mut Session, piece: Piece) -> Turn
     requires live { session.old.replica.live ≡ true }
     ensures passes { Passes piece (command_of piece session.old.replica.root) session.old.replica session.new.replica (D.told disk.old) (D.told disk.new) (W.written sink.old) (W.written sink.new) session.old.beat session.new.beat result }
-    ensures lines { session.new.lines ≡ session.old.lines }
-    ensures count { session.new.count ≡ session.old.count }
-    ensures pace { session.new.pace ≡ session.old.pace }
     ensures live { OnGoing result (session.new.replica.live ≡ true) }
+    ensures leaves { Leaves session.old session.new }
     ensures disk { BlamesIfEnds Status.DiskFault (D.faults disk.old) (D.faults disk.new) result }
     ensures source { (faults : ℕ) → BlamesIfEnds Status.ReadFault faults faults result }
     ensures sink { BlamesIfEnds Status.WriteFault (W.faults sink.old) (W.faults sink.new) result }
@@ -140,9 +123,7 @@ fn do_next<D: Disk, W: Sink>(
     ensures turns { (left : Option (List ℕ)) (bound : ℕ) → Turns session.old.pace bound
         (state (record { told = D.told disk.old; left = left; written = W.written sink.old }) session.old)
         (state (record { told = D.told disk.new; left = left; written = W.written sink.new }) session.new) result }
-    ensures lines { session.new.lines ≡ session.old.lines }
-    ensures count { session.new.count ≡ session.old.count }
-    ensures pace { session.new.pace ≡ session.old.pace }
+    ensures leaves { Leaves session.old session.new }
     ensures live { OnGoing result (session.new.replica.live ≡ true) }
     ensures fewer { OnGoing result (pieces_left session.new.beat.due < pieces_left session.old.beat.due) }
     ensures disk { BlamesIfEnds Status.DiskFault (D.faults disk.old) (D.faults disk.new) result }
@@ -166,9 +147,7 @@ pub fn work<D: Disk, W: Sink>(disk: &mut D, sink: &mut W, session: &mut Session)
         (state (record { told = D.told disk.old; left = left; written = W.written sink.old }) session.old)
         (state (record { told = D.told disk.new; left = left; written = W.written sink.new }) session.new) result }
     ensures idle { OnGoing result (IsIdle session.new.beat session.new.replica) }
-    ensures lines { session.new.lines ≡ session.old.lines }
-    ensures count { session.new.count ≡ session.old.count }
-    ensures pace { session.new.pace ≡ session.old.pace }
+    ensures leaves { Leaves session.old session.new }
     ensures live { OnGoing result (session.new.replica.live ≡ true) }
     ensures disk { BlamesIfEnds Status.DiskFault (D.faults disk.old) (D.faults disk.new) result }
     ensures source { (faults : ℕ) → BlamesIfEnds Status.ReadFault faults faults result }

@@ -17,8 +17,9 @@ ghost use Rattle.df_top.specs.Within.{WritesOwn, WritesOwnAs};
 
 use crate::making::make_file;
 use crate::mode::{Mode, Task, mode_of, task_of};
-use crate::serving::{carry_out, refuse_file};
+use crate::serving::carry_out;
 use crate::status::Status;
+use crate::telling::refuse_file;
 use crate::upgrading::upgrade_old;
 use df_base::{OutOfMemory, Sink, Source};
 use df_buffers::ProbeRoom;
@@ -26,6 +27,7 @@ use df_disk::Disk;
 use df_layout::Layout;
 use df_lines::LineRoom;
 use df_session::{Rooms, probe};
+use df_telling::end_with;
 use std::alloc::Global;
 
 /// The line that says which words have a meaning.
@@ -82,10 +84,7 @@ fn print_usage<W: Sink>(sink: &mut W) -> Status
     ensures usage { PrintsUsage (W.written sink.old) (W.written sink.new) result }
     ensures sink { Blames Status.WriteFault (W.faults sink.old) (W.faults sink.new) result }
 {
-    match sink.write(USAGE) {
-        Ok(()) => Status::Words,
-        Err(_) => Status::WriteFault,
-    }
+    end_with(sink, USAGE, Status::Words, Status::WriteFault)
 }
 
 /// Does what the words say, over a disk, a source and a sink. All memory is taken before the first write to the disk or to the

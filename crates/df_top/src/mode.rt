@@ -1,13 +1,13 @@
 // What the words of the command line ask for, by rules that take no memory.
-ghost use Rattle.std.specs.Prelude.{◌≡◌, ◌<◌, ◌≤◌, ◌^◌, ℕ, List, [], ◌∷◌, ◌++◌, map, codes, decimal, string_bytes};
+ghost use Rattle.std.specs.Prelude.{◌≡◌, ◌≤◌, ℕ, [], ◌∷◌, map, codes, decimal, string_bytes};
 ghost use Rattle.std.specs.Prelude.{IfSome, IfNone};
-ghost use Rattle.df_layout.specs.declared.layout.Layout.{Layout};
 ghost use Rattle.df_top.specs.declared.mode.Mode.{Mode};
-ghost use Rattle.df_top.specs.Mode.{Means, NamesLayout, OneMeaning, numbers_of, task_of};
+ghost use Rattle.df_top.specs.Mode.{Means, OneMeaning, task_of};
 
 use df_layout::Layout;
-use df_lines::{u32_of, u64_of, u128_of};
+use df_lines::{u64_of, u128_of};
 use df_pace::Pace;
+use df_words::layout_named;
 
 /// The rounds of the longest generated run.
 const MOST_ROUNDS: u64 = 1_000_000;
@@ -197,44 +197,6 @@ fn format_mode(name: &str, cluster: &str) -> Option<Mode>
     let layout = layout_named(name)?;
     let cluster = u128_of(cluster.as_bytes())?;
     Some(Mode::Format { layout, cluster })
-}
-
-// The layout of this name.
-fn layout_named(name: &str) -> Option<Layout>
-    ensures found { IfSome result (NamesLayout name.now) }
-    ensures none { IfNone result ((layout : Layout) → NamesLayout name.now layout → ⊥) }
-{
-    if name == "small" {
-        return Some(Layout::small());
-    }
-    if name == "large" {
-        return Some(Layout::large());
-    }
-    layout_of_numbers(name)
-}
-
-// The layout of five numbers with commas between them.
-fn layout_of_numbers(name: &str) -> Option<Layout>
-    ensures found { IfSome result (λ layout. name.now ≡ numbers_of layout) }
-    ensures none { IfNone result ((layout : Layout) → name.now ≡ numbers_of layout → ⊥) }
-{
-    let (slots, rest) = number_before_comma(name)?;
-    let (message_size, rest) = number_before_comma(rest)?;
-    let (clients, rest) = number_before_comma(rest)?;
-    let (block_size, rest) = number_before_comma(rest)?;
-    let blocks = u32_of(rest.as_bytes())?;
-    Layout::new(slots, message_size, clients, block_size, blocks).ok()
-}
-
-// The number before the first comma and the text behind it, or None where no number below 2^32 stands before one.
-fn number_before_comma(text: &str) -> Option<(u32, &str)>
-    ensures found { IfSome result (λ parts. text.now ≡ decimal parts.0 ++ (44 ∷ parts.1.now)) }
-    ensures fits { IfSome result (λ parts. parts.0 < 2 ^ 32) }
-    ensures none { IfNone result ((n : ℕ) (rest : List ℕ) → n < 2 ^ 32
-        → text.now ≡ decimal n ++ (44 ∷ rest) → ⊥) }
-{
-    let (digits, rest) = text.split_once(',')?;
-    Some((u32_of(digits.as_bytes())?, rest))
 }
 
 /// Words ask for one thing at most.

@@ -1,8 +1,8 @@
 // The lines of a script that read: each call lends the unit that it read, and its line is printed from there.
 ghost use Rattle.std.specs.Prelude.{◌≡◌, true};
-ghost use Rattle.df_model.specs.Commands.{ReadBlock, ReadPrepare, ReadReply};
+ghost use Rattle.df_inspect.specs.Answers.{command_of};
 ghost use Rattle.df_top.specs.Step.{Answers};
-ghost use Rattle.df_top.specs.Turning.{BlamesIfEnds};
+ghost use Rattle.df_top.specs.Turning.{BlamesIfEnds, LendsUnit};
 
 use crate::status::Status;
 use crate::telling::{printed, tell};
@@ -13,63 +13,32 @@ use df_inspect::{print_block, print_prepare, print_reply};
 use df_model::{Answer, Command};
 use df_session::{Replica, hear};
 
-/// Reads a prepare, and prints it or why it isn't read.
-pub fn prepare<D: Disk, W: Sink>(disk: &mut D, sink: &mut W, replica: &mut Replica, op: u64) -> Turn
-    requires live { replica.old.live ≡ true }
-    ensures answers { Answers (ReadPrepare op) replica.old replica.new (D.told disk.old) (D.told disk.new) (W.written sink.old) (W.written sink.new) result }
-    ensures disk { BlamesIfEnds Status.DiskFault (D.faults disk.old) (D.faults disk.new) result }
-    ensures sink { BlamesIfEnds Status.WriteFault (W.faults sink.old) (W.faults sink.new) result }
-{
-    match replica.read_prepare(disk, op) {
-        Ok(unit) => printed(print_prepare(sink, unit.header(), unit.body())),
-        Err(error) => tell(
-            sink,
-            &Command::ReadPrepare { op },
-            hear(Answer::ReadPrepare(Err(error))),
-        ),
-    }
-}
-
-/// Reads a client's stored reply, and prints it or why it isn't read.
-pub fn lookup<D: Disk, W: Sink>(
+/// Reads a prepare, a client's stored reply or a live block, and prints it or why it isn't read.
+pub fn read<D: Disk, W: Sink>(
     disk: &mut D,
     sink: &mut W,
     replica: &mut Replica,
-    client: u128,
+    command: Command,
 ) -> Turn
     requires live { replica.old.live ≡ true }
-    ensures answers { Answers (ReadReply client) replica.old replica.new (D.told disk.old) (D.told disk.new) (W.written sink.old) (W.written sink.new) result }
+    requires lends { LendsUnit (command_of command) }
+    ensures answers { Answers (command_of command.entry) replica.old replica.new (D.told disk.old) (D.told disk.new) (W.written sink.old) (W.written sink.new) result }
     ensures disk { BlamesIfEnds Status.DiskFault (D.faults disk.old) (D.faults disk.new) result }
     ensures sink { BlamesIfEnds Status.WriteFault (W.faults sink.old) (W.faults sink.new) result }
 {
-    match replica.read_reply(disk, client) {
-        Ok(unit) => printed(print_reply(sink, unit.header(), unit.body())),
-        Err(error) => tell(
-            sink,
-            &Command::ReadReply { client },
-            hear(Answer::ReadReply(Err(error))),
-        ),
-    }
-}
-
-/// Reads a live block, and prints it or why it isn't read.
-pub fn read_block<D: Disk, W: Sink>(
-    disk: &mut D,
-    sink: &mut W,
-    replica: &mut Replica,
-    address: u64,
-) -> Turn
-    requires live { replica.old.live ≡ true }
-    ensures answers { Answers (ReadBlock address) replica.old replica.new (D.told disk.old) (D.told disk.new) (W.written sink.old) (W.written sink.new) result }
-    ensures disk { BlamesIfEnds Status.DiskFault (D.faults disk.old) (D.faults disk.new) result }
-    ensures sink { BlamesIfEnds Status.WriteFault (W.faults sink.old) (W.faults sink.new) result }
-{
-    match replica.read_block(disk, address) {
-        Ok(unit) => printed(print_block(sink, address, unit.header(), unit.body())),
-        Err(error) => tell(
-            sink,
-            &Command::ReadBlock { address },
-            hear(Answer::ReadBlock(Err(error))),
-        ),
+    match command {
+        Command::ReadPrepare { op } => match replica.read_prepare(disk, op) {
+            Ok(unit) => printed(print_prepare(sink, unit.header(), unit.body())),
+            Err(error) => tell(sink, &command, hear(Answer::ReadPrepare(Err(error)))),
+        },
+        Command::ReadReply { client } => match replica.read_reply(disk, client) {
+            Ok(unit) => printed(print_reply(sink, unit.header(), unit.body())),
+            Err(error) => tell(sink, &command, hear(Answer::ReadReply(Err(error)))),
+        },
+        Command::ReadBlock { address } => match replica.read_block(disk, address) {
+            Ok(unit) => printed(print_block(sink, address, unit.header(), unit.body())),
+            Err(error) => tell(sink, &command, hear(Answer::ReadBlock(Err(error)))),
+        },
+        _ => unreachable!(),
     }
 }

@@ -9,8 +9,8 @@ ghost use Rattle.df_top.specs.Outside.{Blames, EndsWithFile, HasCauses, PrintsLi
 ghost use Rattle.df_top.specs.Reporting.{OneReport, report_of, status_of};
 ghost use Rattle.df_top.specs.Run.{ServesIn};
 
-use crate::serving::refuse_file;
 use crate::status::Status;
+use crate::telling::refuse_file;
 use df_base::Sink;
 use df_disk::Disk;
 use df_inspect::{print_inspection, print_summary};

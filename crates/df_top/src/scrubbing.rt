@@ -12,9 +12,8 @@ ghost use Rattle.df_top.specs.Scrubs.{PrintsTour, tour_status};
 ghost use Rattle.df_top.specs.Touring.{EndsTour, TakesStep, TellsFound, TellsStep};
 ghost use Rattle.df_top.specs.Turning.{BlamesIfEnds};
 
-use crate::serving::refuse_file;
 use crate::status::Status;
-use crate::telling::printed;
+use crate::telling::{printed, refuse_file};
 use crate::turns::Turn;
 use df_base::Sink;
 use df_disk::Disk;

@@ -1,5 +1,5 @@
 // A file is opened and its script is served, or another word is carried out, in rooms that were taken before.
-ghost use Rattle.std.specs.Prelude.{◌≡◌, [], ◌∷◌, map, string_bytes};
+ghost use Rattle.std.specs.Prelude.{◌≡◌, ℕ, List, [], ◌∷◌, Option, map, string_bytes};
 ghost use Rattle.df_base.specs.Log.{Sync};
 ghost use Rattle.df_disk.specs.Adds.{AddsPart};
 ghost use Rattle.df_lines.specs.Room.{IsFresh, line_bound};
@@ -7,8 +7,7 @@ ghost use Rattle.df_top.specs.Hurting.{ServesOverHurt};
 ghost use Rattle.df_top.specs.Reopening.{ServesOverHistory};
 ghost use Rattle.df_top.specs.declared.mode.Mode.{Mode};
 ghost use Rattle.df_top.specs.Mode.{AsksOfFile, AsksScript, Executes, IsRunnable, Means, ReadsScript};
-ghost use Rattle.df_top.specs.Outside.{Blames, EndsWithFile, HasCauses, around, counts};
-ghost use Rattle.df_top.specs.Refusing.{PrintsError};
+ghost use Rattle.df_top.specs.Outside.{EndsWithFile, HasCauses, around, counts};
 ghost use Rattle.df_top.specs.Run.{ServesIn};
 ghost use Rattle.df_top.specs.Within.{WritesIn};
 
@@ -17,28 +16,14 @@ use crate::reporting::{inspect_file, recover_file};
 use crate::scrubbing::scrub_file;
 use crate::session::Session;
 use crate::status::Status;
+use crate::telling::refuse_file;
 use crate::turns::serve_script;
 use crate::working::workload_file;
 use df_base::{Sink, Source};
 use df_disk::Disk;
-use df_inspect::print_open_refusal;
 use df_lines::LineRoom;
 use df_pace::{Beat, Pace};
-use df_session::{OpenError, Replica, Rooms};
-
-/// Prints why a file isn't opened; a failing disk has no line.
-pub(crate) fn refuse_file<W: Sink>(sink: &mut W, error: &OpenError) -> Status
-    ensures prints { PrintsError error.now (W.written sink.old) (W.written sink.new) result }
-    ensures sink { Blames Status.WriteFault (W.faults sink.old) (W.faults sink.new) result }
-{
-    if *error == OpenError::DiskFault {
-        return Status::DiskFault;
-    }
-    match print_open_refusal(sink, error) {
-        Ok(()) => Status::Refused,
-        Err(_) => Status::WriteFault,
-    }
-}
+use df_session::{Replica, Rooms};
 
 // Opens the file and serves the script, with this work beside it.
 fn serve_file<D: Disk, S: Source, W: Sink>(
@@ -70,6 +55,24 @@ fn serve_file<D: Disk, S: Source, W: Sink>(
     }
 }
 
+// Carries out a word on the file that the disk shows that reads no script.
+fn work_on<D: Disk, W: Sink>(mode: Mode, rooms: Rooms, sink: &mut W, disk: &mut D) -> Status
+    requires runnable { IsRunnable mode }
+    requires unread { ReadsScript mode → ⊥ }
+    ensures serves { (left : Option (List ℕ)) → ServesIn mode rooms.layout (around (D.told disk.old) left (W.written sink.old)) (around (D.told disk.new) left (W.written sink.new)) result }
+    ensures inspects { mode ≡ Mode.Inspect → AddsPart (Sync ∷ []) (D.told disk.old) (D.told disk.new) }
+    ensures causes { (source : ℕ) → HasCauses (counts (D.faults disk.old) source (W.faults sink.old)) (counts (D.faults disk.new) source (W.faults sink.new)) result }
+    ensures ends { EndsWithFile result }
+{
+    match mode {
+        Mode::Recover => recover_file(rooms, sink, disk),
+        Mode::Inspect => inspect_file(rooms, sink, disk),
+        Mode::Scrub => scrub_file(rooms, sink, disk),
+        Mode::Workload { seed, count } => workload_file(rooms, seed, count, sink, disk),
+        _ => unreachable!(),
+    }
+}
+
 /// Carries out a word on the file that the disk shows, over rooms of one layout; takes no memory.
 pub(crate) fn carry_out<D: Disk, S: Source, W: Sink>(
     mode: Mode,
@@ -81,29 +84,16 @@ pub(crate) fn carry_out<D: Disk, S: Source, W: Sink>(
 ) -> Status
     requires runnable { IsRunnable mode }
     requires lines { IsFresh (line_bound rooms.layout) lines }
-    ensures serves { ServesIn mode rooms.layout
-        (record { told = D.told disk.old; left = S.left source.old; written = W.written sink.old })
-        (record { told = D.told disk.new; left = S.left source.new; written = W.written sink.new }) result }
+    ensures serves { ServesIn mode rooms.layout (around (D.told disk.old) (S.left source.old) (W.written sink.old)) (around (D.told disk.new) (S.left source.new) (W.written sink.new)) result }
     ensures inspects { mode ≡ Mode.Inspect → AddsPart (Sync ∷ []) (D.told disk.old) (D.told disk.new) }
     ensures unread { (ReadsScript mode → ⊥) → S.left source.new ≡ S.left source.old }
-    ensures causes { HasCauses
-        (record { disk = D.faults disk.old; source = S.faults source.old; sink = W.faults sink.old })
-        (record { disk = D.faults disk.new; source = S.faults source.new; sink = W.faults sink.new }) result }
-    ensures memory { result ≡ Status.Memory → ⊥ }
-    ensures usage { result ≡ Status.Words → ⊥ }
+    ensures causes { HasCauses (counts (D.faults disk.old) (S.faults source.old) (W.faults sink.old)) (counts (D.faults disk.new) (S.faults source.new) (W.faults sink.new)) result }
+    ensures ends { EndsWithFile result }
 {
     match mode {
         Mode::Run => serve_file(rooms, lines, Pace::idle(), source, sink, disk),
-        Mode::Recover => recover_file(rooms, sink, disk),
-        Mode::Inspect => inspect_file(rooms, sink, disk),
-        Mode::Scrub => scrub_file(rooms, sink, disk),
-        Mode::Workload { seed, count } => workload_file(rooms, seed, count, sink, disk),
         Mode::Paced { pace } => serve_file(rooms, lines, pace, source, sink, disk),
-        Mode::Upgrade
-        | Mode::Format {
-            layout: _,
-            cluster: _,
-        } => unreachable!(),
+        _ => work_on(mode, rooms, sink, disk),
     }
 }
 

@@ -1,9 +1,9 @@
-// What becomes of a session by what was heard of an answer: its line is printed, or the session ends.
+// What becomes of a session by what was heard of an answer: its line is printed, or the session ends; and why a file isn't opened.
 ghost use Rattle.std.specs.Prelude.{◌≡◌, true};
 ghost use Rattle.df_inspect.specs.Answers.{command_of};
 ghost use Rattle.df_session.specs.Calls.{HasAnswer};
 ghost use Rattle.df_top.specs.Outside.{Blames, status_or};
-ghost use Rattle.df_top.specs.Refusing.{PrintsFault};
+ghost use Rattle.df_top.specs.Refusing.{PrintsError, PrintsFault};
 ghost use Rattle.df_top.specs.Step.{Answers};
 ghost use Rattle.df_top.specs.Turning.{BlamesIfEnds, Tells, printed_turn};
 
@@ -12,8 +12,9 @@ use crate::turns::Turn;
 use df_base::{Failed, Sink};
 use df_disk::Disk;
 use df_inspect::print_answer;
-use df_model::{Answer, Command, StepError};
-use df_session::{Fault, Replica, make};
+use df_model::{Answer, Command};
+use df_session::{Fault, OpenError, Replica, make};
+use df_telling::print_damaged;
 
 /// Goes on where the answer was printed.
 pub fn printed(done: Result<(), Failed>) -> Turn
@@ -35,6 +36,20 @@ pub fn ended(done: Result<(), Failed>, status: Status) -> Status
     }
 }
 
+/// Prints why a file isn't opened; a failing disk has no line.
+pub fn refuse_file<W: Sink>(sink: &mut W, error: &OpenError) -> Status
+    ensures prints { PrintsError error.now (W.written sink.old) (W.written sink.new) result }
+    ensures sink { Blames Status.WriteFault (W.faults sink.old) (W.faults sink.new) result }
+{
+    df_telling::refuse_file(
+        sink,
+        error,
+        Status::Refused,
+        Status::DiskFault,
+        Status::WriteFault,
+    )
+}
+
 /// Prints why calls ended before the last one was answered; a failing disk has no line.
 pub fn tell_fault<W: Sink>(sink: &mut W, fault: Fault) -> Status
     ensures prints { PrintsFault fault (W.written sink.old) (W.written sink.new) result }
@@ -42,11 +57,7 @@ pub fn tell_fault<W: Sink>(sink: &mut W, fault: Fault) -> Status
 {
     match fault {
         Fault::Damaged { place, class } => {
-            let answer = Answer::Advance(Err(StepError::Damaged { place, class }));
-            ended(
-                print_answer(sink, &Command::Advance, &answer),
-                Status::Refused,
-            )
+            ended(print_damaged(sink, place, class), Status::Refused)
         }
         Fault::Disk => Status::DiskFault,
     }

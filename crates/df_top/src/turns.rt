@@ -1,5 +1,6 @@
 // The session over a script: one turn for each line and the work behind it, until there is none, one is refused, or something fails.
 ghost use Rattle.std.specs.Prelude.{◌≡◌, ◌<◌, ◌≤◌, ◌+◌, ◌^◌, length, true};
+ghost use Rattle.df_inspect.specs.Answers.{command_of as call_of};
 ghost use Rattle.df_lines.specs.Grammar.{body_length, said_with};
 ghost use Rattle.df_pace.specs.Beats.{behind_line};
 ghost use Rattle.df_top.specs.Lines.{command_of};
@@ -7,10 +8,10 @@ ghost use Rattle.df_top.specs.Outside.{Blames};
 ghost use Rattle.df_top.specs.Pacing.{IsIdle, runs};
 ghost use Rattle.df_top.specs.Session.{Ended, state};
 ghost use Rattle.df_top.specs.Step.{Answers, RefusesLine, Turns};
-ghost use Rattle.df_top.specs.Turning.{BlamesIfEnds, IsReady, OnGoing};
+ghost use Rattle.df_top.specs.Turning.{BlamesIfEnds, IsReady, Leaves, OnGoing};
 
 use crate::background::work;
-use crate::reads::{lookup, prepare, read_block};
+use crate::reads::read;
 use crate::scrub_calls::{recent, scrub};
 use crate::session::Session;
 use crate::status::Status;
@@ -18,7 +19,7 @@ use crate::telling::serve;
 use df_base::{Sink, Source};
 use df_disk::Disk;
 use df_inspect::print_script;
-use df_lines::{Line, Next};
+use df_lines::{Line, LineRoom, Next};
 use df_model::Command;
 use df_pace::Beat;
 
@@ -41,75 +42,71 @@ fn refuse<W: Sink>(sink: &mut W, lines: u64) -> Status
     }
 }
 
-// Makes the call that a line asks for, whose body is in the reader's buffer, and prints what it answers.
-fn execute<D: Disk, W: Sink>(disk: &mut D, sink: &mut W, session: &mut Session, line: Line) -> Turn
-    requires live { session.old.replica.live ≡ true }
-    requires size { body_length line ≤ length session.old.lines.body }
-    ensures answers { Answers (command_of (said_with session.old.lines.body line)) session.old.replica session.new.replica (D.told disk.old) (D.told disk.new) (W.written sink.old) (W.written sink.new) result }
-    ensures lines { session.new.lines ≡ session.old.lines }
-    ensures count { session.new.count ≡ session.old.count }
-    ensures pace { session.new.pace ≡ session.old.pace }
-    ensures beat { session.new.beat ≡ session.old.beat }
-    ensures disk { BlamesIfEnds Status.DiskFault (D.faults disk.old) (D.faults disk.new) result }
-    ensures sink { BlamesIfEnds Status.WriteFault (W.faults sink.old) (W.faults sink.new) result }
+// What a line asks for, whose body is in the reader's buffer.
+fn asked(lines: &LineRoom, line: Line) -> Command<'_>
+    requires { body_length line ≤ length lines.now.body }
+    ensures { call_of result ≡ command_of (said_with lines.now.body line) }
 {
-    let replica = &mut session.replica;
-    let lines = &session.lines;
     match line {
         Line::Append {
             client,
             request,
             length,
-        } => {
-            let body = lines.body(length);
-            serve(
-                disk,
-                sink,
-                replica,
-                Command::Append {
-                    client,
-                    request,
-                    body,
-                },
-            )
-        }
+        } => Command::Append {
+            client,
+            request,
+            body: lines.body(length),
+        },
         Line::Stage {
             client,
             request,
             length,
-        } => {
-            let body = lines.body(length);
-            serve(
-                disk,
-                sink,
-                replica,
-                Command::Stage {
-                    client,
-                    request,
-                    body,
-                },
-            )
-        }
-        Line::Flush => serve(disk, sink, replica, Command::Flush),
-        Line::Reply { op, length } => {
-            let body = lines.body(length);
-            serve(disk, sink, replica, Command::Reply { op, body })
-        }
-        Line::Block { kind, length } => {
-            let body = lines.body(length);
-            serve(disk, sink, replica, Command::WriteBlock { kind, body })
-        }
-        Line::Release { address } => serve(disk, sink, replica, Command::Release { address }),
-        Line::Checkpoint { length } => {
-            let root = lines.body(length);
-            serve(disk, sink, replica, Command::Begin { root })
-        }
-        Line::Step => serve(disk, sink, replica, Command::Advance),
-        Line::Prepare { op } => prepare(disk, sink, replica, op),
-        Line::Lookup { client } => lookup(disk, sink, replica, client),
-        Line::Read { address } => read_block(disk, sink, replica, address),
-        Line::Scrub => scrub(disk, sink, replica),
-        Line::Recent => recent(sink, replica),
+        } => Command::Stage {
+            body: lines.body(length),
+            client,
+            request,
+        },
+        Line::Flush => Command::Flush,
+        Line::Reply { op, length } => Command::Reply {
+            op,
+            body: lines.body(length),
+        },
+        Line::Block { kind, length } => Command::WriteBlock {
+            kind,
+            body: lines.body(length),
+        },
+        Line::Release { address } => Command::Release { address },
+        Line::Checkpoint { length } => Command::Begin {
+            root: lines.body(length),
+        },
+        Line::Step => Command::Advance,
+        Line::Prepare { op } => Command::ReadPrepare { op },
+        Line::Lookup { client } => Command::ReadReply { client },
+        Line::Read { address } => Command::ReadBlock { address },
+        Line::Scrub => Command::Scrub,
+        Line::Recent => Command::Recent,
+    }
+}
+
+// Makes the call that a line asks for, and prints what it answers.
+fn execute<D: Disk, W: Sink>(disk: &mut D, sink: &mut W, session: &mut Session, line: Line) -> Turn
+    requires live { session.old.replica.live ≡ true }
+    requires size { body_length line ≤ length session.old.lines.body }
+    ensures answers { Answers (command_of (said_with session.old.lines.body line)) session.old.replica session.new.replica (D.told disk.old) (D.told disk.new) (W.written sink.old) (W.written sink.new) result }
+    ensures leaves { Leaves session.old session.new }
+    ensures beat { session.new.beat ≡ session.old.beat }
+    ensures disk { BlamesIfEnds Status.DiskFault (D.faults disk.old) (D.faults disk.new) result }
+    ensures sink { BlamesIfEnds Status.WriteFault (W.faults sink.old) (W.faults sink.new) result }
+{
+    let replica = &mut session.replica;
+    let command = asked(&session.lines, line);
+    match command {
+        Command::ReadPrepare { op: _ }
+        | Command::ReadReply { client: _ }
+        | Command::ReadBlock { address: _ } => read(disk, sink, replica, command),
+        Command::Scrub => scrub(disk, sink, replica),
+        Command::Recent => recent(sink, replica),
+        _ => serve(disk, sink, replica, command),
     }
 }
 
@@ -154,8 +151,8 @@ fn take_line<D: Disk, S: Source, W: Sink>(
     sink: &mut W,
     session: &mut Session,
 ) -> Turn
-    requires ready { IsReady session.old (S.left source.old) }
     requires idle { IsIdle session.old.beat session.old.replica }
+    requires ready { IsReady session.old (S.left source.old) }
     ensures turns { Turns session.old.pace session.old.lines.reading.bound
         (state (record { told = D.told disk.old; left = S.left source.old; written = W.written sink.old }) session.old)
         (state (record { told = D.told disk.new; left = S.left source.new; written = W.written sink.new }) session.new) result }
@@ -172,33 +169,6 @@ fn take_line<D: Disk, S: Source, W: Sink>(
         Ok(Next::Refused) => Turn::Ends(refuse(sink, session.count)),
         Ok(Next::End) => Turn::Ends(Status::Done),
         Err(_) => Turn::Ends(Status::ReadFault),
-    }
-}
-
-// Serves the next line of the script, and does the work that is due behind it.
-fn take_turn<D: Disk, S: Source, W: Sink>(
-    disk: &mut D,
-    source: &mut S,
-    sink: &mut W,
-    session: &mut Session,
-) -> Turn
-    requires ready { IsReady session.old (S.left source.old) }
-    requires idle { IsIdle session.old.beat session.old.replica }
-    ensures turns { Turns session.old.pace session.old.lines.reading.bound
-        (state (record { told = D.told disk.old; left = S.left source.old; written = W.written sink.old }) session.old)
-        (state (record { told = D.told disk.new; left = S.left source.new; written = W.written sink.new }) session.new) result }
-    ensures ready { OnGoing result (IsReady session.new (S.left source.new)) }
-    ensures idle { OnGoing result (IsIdle session.new.beat session.new.replica) }
-    ensures bound { session.new.lines.reading.bound ≡ session.old.lines.reading.bound }
-    ensures budget { OnGoing result (session.new.lines.reading.budget < session.old.lines.reading.budget) }
-    ensures pace { session.new.pace ≡ session.old.pace }
-    ensures disk { BlamesIfEnds Status.DiskFault (D.faults disk.old) (D.faults disk.new) result }
-    ensures source { BlamesIfEnds Status.ReadFault (S.faults source.old) (S.faults source.new) result }
-    ensures sink { BlamesIfEnds Status.WriteFault (W.faults sink.old) (W.faults sink.new) result }
-{
-    match take_line(disk, source, sink, session) {
-        Turn::GoesOn => work(disk, sink, session),
-        Turn::Ends(status) => Turn::Ends(status),
     }
 }
 
@@ -219,7 +189,11 @@ pub fn serve_script<D: Disk, S: Source, W: Sink>(
     ensures sink { Blames Status.WriteFault (W.faults sink.old) (W.faults sink.new) result }
 {
     loop {
-        match take_turn(disk, source, sink, session) {
+        match take_line(disk, source, sink, session) {
+            Turn::GoesOn => {}
+            Turn::Ends(status) => return status,
+        }
+        match work(disk, sink, session) {
             Turn::GoesOn => {}
             Turn::Ends(status) => return status,
         }

@@ -5,8 +5,8 @@ ghost use Rattle.df_top.specs.Outside.{Blames, EndsWithFile, HasCauses, PrintsLi
 ghost use Rattle.df_top.specs.Run.{IsWithout};
 ghost use Rattle.df_top.specs.Upgrading.{RunsUpgrade, UpgradesIn};
 
-use crate::serving::refuse_file;
 use crate::status::Status;
+use crate::telling::refuse_file;
 use df_base::Sink;
 use df_buffers::ProbeRoom;
 use df_disk::Disk;

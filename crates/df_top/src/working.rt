@@ -8,11 +8,10 @@ ghost use Rattle.df_session.specs.Endings.{is_disk};
 ghost use Rattle.df_top.specs.declared.mode.Mode.{Mode};
 ghost use Rattle.df_top.specs.Outside.{Blames, EndsWithFile, HasCauses, around, counts};
 ghost use Rattle.df_top.specs.Run.{ServesIn};
-ghost use Rattle.df_top.specs.Works.{Comes, IsRunning, PrintsRun, steps_left, workload_of};
+ghost use Rattle.df_top.specs.Works.{CanGoOn, Comes, PrintsRun, steps_left, workload_of};
 
-use crate::serving::refuse_file;
 use crate::status::Status;
-use crate::telling::{ended, tell_fault};
+use crate::telling::{ended, refuse_file, tell_fault};
 use crate::works::{make_call, make_next};
 use df_base::Sink;
 use df_disk::Disk;
@@ -21,125 +20,88 @@ use df_model::Command;
 use df_session::{Fault, Replica, Rooms};
 use df_workload::Generator;
 
+// A generated run, and the replica that it works on.
+#[derive(Drop)]
+struct Running {
+    replica: Replica,
+    generator: Generator,
+}
+
 // Makes the next call of a run, and lets the run hear of its answer.
-fn go_on<D: Disk>(
-    disk: &mut D,
-    replica: &mut Replica,
-    generator: &mut Generator,
-) -> Result<(), Fault>
-    requires live { replica.old.live ≡ true }
-    requires going { is_at_end generator.old.point ≡ false }
-    requires runs { generator.old.running ≡ true → IsRunning replica.old }
-    ensures comes { Comes generator.old replica.old (D.told disk.old) generator.new replica.new (D.told disk.new) result }
-    ensures live { OnOk result (replica.new.live ≡ true) }
-    ensures runs { OnOk result (generator.new.running ≡ true → IsRunning replica.new) }
-    ensures less { OnOk result (left generator.new < left generator.old) }
+fn go_on<D: Disk>(disk: &mut D, run: &mut Running) -> Result<(), Fault>
+    requires ready { CanGoOn run.old.generator run.old.replica }
+    requires going { is_at_end run.old.generator.point ≡ false }
+    ensures comes { Comes run.old.generator run.old.replica (D.told disk.old) run.new.generator run.new.replica (D.told disk.new) result }
+    ensures ready { OnOk result (CanGoOn run.new.generator run.new.replica) }
+    ensures less { OnOk result (left run.new.generator < left run.old.generator) }
     ensures disk { IsBlamed is_disk (D.faults disk.old) (D.faults disk.new) result }
 {
-    match make_next(disk, replica, generator) {
-        Ok(outcome) => {
-            generator.hear(outcome);
-            Ok(())
-        }
-        Err(fault) => Err(fault),
-    }
+    let outcome = make_next(disk, &mut run.replica, &run.generator)?;
+    run.generator.hear(outcome);
+    Ok(())
 }
 
 // Carries out all rounds of a run.
-fn go_through<D: Disk>(
-    disk: &mut D,
-    replica: &mut Replica,
-    generator: &mut Generator,
-) -> Result<(), Fault>
-    requires live { replica.old.live ≡ true }
-    requires runs { generator.old.running ≡ true → IsRunning replica.old }
-    ensures comes { Comes generator.old replica.old (D.told disk.old) generator.new replica.new (D.told disk.new) result }
-    ensures live { OnOk result (replica.new.live ≡ true) }
-    ensures runs { OnOk result (generator.new.running ≡ true → IsRunning replica.new) }
-    ensures ending { OnOk result (generator.new.point ≡ Point.Ending) }
+fn go_through<D: Disk>(disk: &mut D, run: &mut Running) -> Result<(), Fault>
+    requires ready { CanGoOn run.old.generator run.old.replica }
+    ensures comes { Comes run.old.generator run.old.replica (D.told disk.old) run.new.generator run.new.replica (D.told disk.new) result }
+    ensures ready { OnOk result (CanGoOn run.new.generator run.new.replica) }
+    ensures ending { OnOk result (run.new.generator.point ≡ Point.Ending) }
     ensures disk { IsBlamed is_disk (D.faults disk.old) (D.faults disk.new) result }
 {
-    while !generator.is_ending() {
-        match go_on(disk, replica, generator) {
-            Ok(()) => {}
-            Err(fault) => return Err(fault),
-        }
+    while !run.generator.is_ending() {
+        go_on(disk, run)?;
     }
     Ok(())
 }
 
 // Takes one step of the checkpoint that runs when all rounds are over.
-fn end_step<D: Disk>(
-    disk: &mut D,
-    replica: &mut Replica,
-    generator: &mut Generator,
-) -> Result<(), Fault>
-    requires live { replica.old.live ≡ true }
-    requires ending { generator.old.point ≡ Point.Ending }
-    requires running { generator.old.running ≡ true }
-    requires runs { IsRunning replica.old }
-    ensures comes { Comes generator.old replica.old (D.told disk.old) generator.new replica.new (D.told disk.new) result }
-    ensures live { OnOk result (replica.new.live ≡ true) }
-    ensures runs { OnOk result (generator.new.running ≡ true → IsRunning replica.new) }
-    ensures ending { OnOk result (generator.new.point ≡ Point.Ending) }
-    ensures less { OnOk result (steps_left generator.new replica.new < steps_left generator.old replica.old) }
+fn end_step<D: Disk>(disk: &mut D, run: &mut Running) -> Result<(), Fault>
+    requires ready { CanGoOn run.old.generator run.old.replica }
+    requires ending { run.old.generator.point ≡ Point.Ending }
+    requires running { run.old.generator.running ≡ true }
+    ensures comes { Comes run.old.generator run.old.replica (D.told disk.old) run.new.generator run.new.replica (D.told disk.new) result }
+    ensures ending { OnOk result (run.new.generator.point ≡ Point.Ending) }
+    ensures less { OnOk result (steps_left run.new.generator run.new.replica < steps_left run.old.generator run.old.replica) }
+    ensures ready { OnOk result (CanGoOn run.new.generator run.new.replica) }
     ensures disk { IsBlamed is_disk (D.faults disk.old) (D.faults disk.new) result }
 {
-    match make_call(disk, replica, Command::Advance) {
-        Ok(outcome) => {
-            generator.hear(outcome);
-            Ok(())
-        }
-        Err(fault) => Err(fault),
-    }
+    let outcome = make_call(disk, &mut run.replica, Command::Advance)?;
+    run.generator.hear(outcome);
+    Ok(())
 }
 
 // Ends the checkpoint that runs when all rounds are over.
-fn end_checkpoint<D: Disk>(
-    disk: &mut D,
-    replica: &mut Replica,
-    generator: &mut Generator,
-) -> Result<(), Fault>
-    requires live { replica.old.live ≡ true }
-    requires ending { generator.old.point ≡ Point.Ending }
-    requires runs { generator.old.running ≡ true → IsRunning replica.old }
-    ensures comes { Comes generator.old replica.old (D.told disk.old) generator.new replica.new (D.told disk.new) result }
-    ensures over { OnOk result (asks generator.new ≡ None) }
+fn end_checkpoint<D: Disk>(disk: &mut D, run: &mut Running) -> Result<(), Fault>
+    requires ready { CanGoOn run.old.generator run.old.replica }
+    requires ending { run.old.generator.point ≡ Point.Ending }
+    ensures comes { Comes run.old.generator run.old.replica (D.told disk.old) run.new.generator run.new.replica (D.told disk.new) result }
+    ensures over { OnOk result (asks run.new.generator ≡ None) }
     ensures disk { IsBlamed is_disk (D.faults disk.old) (D.faults disk.new) result }
 {
-    while generator.is_running() {
-        match end_step(disk, replica, generator) {
-            Ok(()) => {}
-            Err(fault) => return Err(fault),
-        }
+    while run.generator.is_running() {
+        end_step(disk, run)?;
     }
     Ok(())
 }
 
 // Carries out a run to its end.
-fn work<D: Disk>(
-    disk: &mut D,
-    replica: &mut Replica,
-    generator: &mut Generator,
-) -> Result<(), Fault>
-    requires live { replica.old.live ≡ true }
-    requires runs { generator.old.running ≡ true → IsRunning replica.old }
-    ensures comes { Comes generator.old replica.old (D.told disk.old) generator.new replica.new (D.told disk.new) result }
-    ensures over { OnOk result (asks generator.new ≡ None) }
+fn work<D: Disk>(disk: &mut D, run: &mut Running) -> Result<(), Fault>
+    requires ready { CanGoOn run.old.generator run.old.replica }
+    ensures comes { Comes run.old.generator run.old.replica (D.told disk.old) run.new.generator run.new.replica (D.told disk.new) result }
+    ensures over { OnOk result (asks run.new.generator ≡ None) }
     ensures disk { IsBlamed is_disk (D.faults disk.old) (D.faults disk.new) result }
 {
-    match go_through(disk, replica, generator) {
-        Ok(()) => end_checkpoint(disk, replica, generator),
-        Err(fault) => Err(fault),
-    }
+    go_through(disk, run)?;
+    end_checkpoint(disk, run)
 }
 
 // What a run did, and the file after it.
-fn report_of(replica: &Replica, generator: &Generator) -> Workload
-    ensures { result ≡ workload_of generator.now replica.now }
+fn report_of(run: &Running) -> Workload
+    ensures { result ≡ workload_of run.now.generator run.now.replica }
 {
-    let counts = generator.counts();
-    let summary = replica.summary();
+    let counts = run.generator.counts();
+    let summary = run.replica.summary();
     Workload {
         appended: counts.appended,
         replied: counts.replied,
@@ -155,20 +117,12 @@ fn report_of(replica: &Replica, generator: &Generator) -> Workload
 }
 
 // Prints what a run did, or why it ended before.
-fn tell<W: Sink>(
-    sink: &mut W,
-    replica: &Replica,
-    generator: &Generator,
-    worked: Result<(), Fault>,
-) -> Status
-    ensures prints { PrintsRun generator.now replica.now worked (W.written sink.old) (W.written sink.new) result }
+fn tell<W: Sink>(sink: &mut W, run: &Running, worked: Result<(), Fault>) -> Status
+    ensures prints { PrintsRun run.now.generator run.now.replica worked (W.written sink.old) (W.written sink.new) result }
     ensures sink { Blames Status.WriteFault (W.faults sink.old) (W.faults sink.new) result }
 {
     match worked {
-        Ok(()) => ended(
-            print_workload(sink, &report_of(replica, generator)),
-            Status::Done,
-        ),
+        Ok(()) => ended(print_workload(sink, &report_of(run)), Status::Done),
         Err(fault) => tell_fault(sink, fault),
     }
 }
@@ -189,11 +143,12 @@ pub fn workload_file<D: Disk, W: Sink>(
     ensures ends { EndsWithFile result }
 {
     match Replica::open(disk, rooms) {
-        Ok(mut replica) => {
+        Ok(replica) => {
             let layout = replica.summary().layout;
-            let mut generator = Generator::new(seed, count, layout.clients);
-            let worked = work(disk, &mut replica, &mut generator);
-            tell(sink, &replica, &generator, worked)
+            let generator = Generator::new(seed, count, layout.clients);
+            let mut run = Running { replica, generator };
+            let worked = work(disk, &mut run);
+            tell(sink, &run, worked)
         }
         Err((_, error)) => refuse_file(sink, &error),
     }

@@ -1,7 +1,6 @@
 -- Room is made, and then the command is stored, and the table changed.
-use Rattle.std.proofs.Common.{◌+◌, ◌∙◌, ℕ, Result, Ok, Err, ap, subst, sym}
+use Rattle.std.proofs.Common.{◌+◌, ◌∙◌, ℕ, Ok, Err, ap, subst, sym}
 use Rattle.df_rows.specs.Tables.{CanApply, Table, with_command}
-use Rattle.df_table.specs.declared.ending.Ending.{Ending}
 use Rattle.df_table.proofs.Changed.{change_comes, room_ends}
 use Rattle.df_table.proofs.appending.change.Goals as goal
 
@@ -10,30 +9,24 @@ store-requires g c = record { live = c.in-Ok.ensures.live; fits = c.requires.fit
 
 pub returns-in-Ok-store-clause-changed : goal.returns-in-Ok-store-clause-changed
 returns-in-Ok-store-clause-changed g c = λ ready few.
-    let layout = c.args.session.now.layout in
     let room = c.in-Ok.ensures.room ready few in
-    let ok : Result ℕ Ending = Ok c.in-Ok-store.op in
     record {
-      makes = change_comes layout c.args.session.now.table.rows c.args.command c.args.session.now.replica c.make_room.new.session.replica c.store.new.replica (g.D.Disk.told c.args.disk.now) (g.D.Disk.told c.make_room.new.disk) (g.D.Disk.told c.store.new.disk) ok
-          (c.in-Ok.ensures.makes ready few) room (c.in-Ok-store.ensures.makes layout room.ready room.room);
       op = c.in-Ok-store.ensures.op ∙ ap (λ (h : ℕ). h + 1) room.head;
       head = c.in-Ok-store.ensures.head ∙ ap (λ (h : ℕ). h + 1) room.head;
-      ready = c.in-Ok-store.ensures.ready layout room.ready room.room;
+      ready = c.in-Ok-store.ensures.ready c.args.session.now.layout room.ready room.room;
       ends = tt;
+      makes = change_comes c.args.session.now.layout c.args.session.now.table.rows c.args.command c.args.session.now.replica c.make_room.new.session.replica c.store.new.replica (g.D.Disk.told c.args.disk.now) (g.D.Disk.told c.make_room.new.disk) (g.D.Disk.told c.store.new.disk) (Ok c.in-Ok-store.op) (c.in-Ok.ensures.makes ready few) room (c.in-Ok-store.ensures.makes c.args.session.now.layout room.ready room.room);
     }
 
 pub returns-in-Err-store-clause-changed : goal.returns-in-Err-store-clause-changed
 returns-in-Err-store-clause-changed g c = λ ready few.
-    let layout = c.args.session.now.layout in
     let room = c.in-Ok.ensures.room ready few in
-    let err : Result ℕ Ending = Err c.in-Err-store.ending in
     record {
-      makes = change_comes layout c.args.session.now.table.rows c.args.command c.args.session.now.replica c.make_room.new.session.replica c.store.new.replica (g.D.Disk.told c.args.disk.now) (g.D.Disk.told c.make_room.new.disk) (g.D.Disk.told c.store.new.disk) err
-          (c.in-Ok.ensures.makes ready few) room (c.in-Err-store.ensures.makes layout room.ready room.room);
+      makes = change_comes c.args.session.now.layout c.args.session.now.table.rows c.args.command c.args.session.now.replica {T = ℕ} c.make_room.new.session.replica c.store.new.replica (g.D.Disk.told c.args.disk.now) (g.D.Disk.told c.make_room.new.disk) (g.D.Disk.told c.store.new.disk) (Err c.in-Err-store.ending) (c.in-Ok.ensures.makes ready few) room (c.in-Err-store.ensures.makes c.args.session.now.layout room.ready room.room);
+      ends = c.in-Err-store.ensures.ends;
       op = tt;
       head = tt;
       ready = tt;
-      ends = c.in-Err-store.ensures.ends;
     }
 
 pub returns-in-Err-clause-changed : goal.returns-in-Err-clause-changed

@@ -16,43 +16,23 @@ reply-requires g c = record { live = c.in-Ok.ensures.live }
 
 pub returns-in-Ok-reply-clause-makes : goal.returns-in-Ok-reply-clause-makes
 returns-in-Ok-reply-clause-makes g c = λ layout ready room.
-    let s = c.args.replica.now in
-    let number = c.next_request-number.ensures layout ready in
-    let body = c.as_slice.ensures.value ∙ c.encode-body.ensures in
-    let may = may_store layout s ready room c.args.command.now c.requires.fits c.next_request-number.result c.as_slice.result.now number body in
-    let replied = may_answer layout s c.append.new.replica ready c.next_request-number.result c.as_slice.result.now c.in-Ok.op c.in-Ok.ensures.op c.in-Ok.ensures.state in
-    both_made c.args.command.now s c.next_request-number.result c.as_slice.result.now number body c.append.new.replica c.reply.new.replica (g.D.Disk.told c.args.disk.now) (g.D.Disk.told c.append.new.disk) (g.D.Disk.told c.reply.new.disk)
-    (c.in-Ok.ensures.makes may) c.in-Ok.op c.in-Ok.ensures.op (c.in-Ok-reply.ensures.makes replied)
+    both_made c.args.command.now c.args.replica.now c.next_request-number.result c.as_slice.result.now (c.next_request-number.ensures layout ready) (c.as_slice.ensures.value ∙ c.encode-body.ensures) c.append.new.replica c.reply.new.replica (g.D.Disk.told c.args.disk.now) (g.D.Disk.told c.append.new.disk) (g.D.Disk.told c.reply.new.disk)
+    (c.in-Ok.ensures.makes (may_store layout c.args.replica.now ready room c.args.command.now c.requires.fits c.next_request-number.result c.as_slice.result.now (c.next_request-number.ensures layout ready) (c.as_slice.ensures.value ∙ c.encode-body.ensures))) c.in-Ok.op c.in-Ok.ensures.op (c.in-Ok-reply.ensures.makes (may_answer layout c.args.replica.now c.append.new.replica ready c.next_request-number.result c.as_slice.result.now c.in-Ok.op c.in-Ok.ensures.op c.in-Ok.ensures.state))
 
 pub returns-in-Err-reply-clause-makes : goal.returns-in-Err-reply-clause-makes
 returns-in-Err-reply-clause-makes g c = λ layout ready room.
-    let s = c.args.replica.now in
-    let number = c.next_request-number.ensures layout ready in
-    let body = c.as_slice.ensures.value ∙ c.encode-body.ensures in
-    let may = may_store layout s ready room c.args.command.now c.requires.fits c.next_request-number.result c.as_slice.result.now number body in
-    let replied = may_answer layout s c.append.new.replica ready c.next_request-number.result c.as_slice.result.now c.in-Ok.op c.in-Ok.ensures.op c.in-Ok.ensures.state in
-    reply_ends c.args.command.now s c.next_request-number.result c.as_slice.result.now number body c.append.new.replica c.reply.new.replica (g.D.Disk.told c.args.disk.now) (g.D.Disk.told c.append.new.disk) (g.D.Disk.told c.reply.new.disk)
-    (c.in-Ok.ensures.makes may) c.in-Ok.op c.in-Ok.ensures.op c.in-Err-reply.ending (c.in-Err-reply.ensures.makes replied)
+    reply_ends c.args.command.now c.args.replica.now c.next_request-number.result c.as_slice.result.now (c.next_request-number.ensures layout ready) (c.as_slice.ensures.value ∙ c.encode-body.ensures) c.append.new.replica c.reply.new.replica (g.D.Disk.told c.args.disk.now) (g.D.Disk.told c.append.new.disk) (g.D.Disk.told c.reply.new.disk)
+    (c.in-Ok.ensures.makes (may_store layout c.args.replica.now ready room c.args.command.now c.requires.fits c.next_request-number.result c.as_slice.result.now (c.next_request-number.ensures layout ready) (c.as_slice.ensures.value ∙ c.encode-body.ensures))) c.in-Ok.op c.in-Ok.ensures.op c.in-Err-reply.ending (c.in-Err-reply.ensures.makes (may_answer layout c.args.replica.now c.append.new.replica ready c.next_request-number.result c.as_slice.result.now c.in-Ok.op c.in-Ok.ensures.op c.in-Ok.ensures.state))
 
 pub returns-in-Err-clause-makes : goal.returns-in-Err-clause-makes
 returns-in-Err-clause-makes g c = λ layout ready room.
-    let s = c.args.replica.now in
-    let number = c.next_request-number.ensures layout ready in
-    let body = c.as_slice.ensures.value ∙ c.encode-body.ensures in
-    let may = may_store layout s ready room c.args.command.now c.requires.fits c.next_request-number.result c.as_slice.result.now number body in
-    append_ends c.args.command.now s c.next_request-number.result c.as_slice.result.now number body c.append.new.replica (g.D.Disk.told c.args.disk.now) (g.D.Disk.told c.append.new.disk) c.in-Err.ending (c.in-Err.ensures.makes may)
+    append_ends c.args.command.now c.args.replica.now c.next_request-number.result c.as_slice.result.now (c.next_request-number.ensures layout ready) (c.as_slice.ensures.value ∙ c.encode-body.ensures) c.append.new.replica (g.D.Disk.told c.args.disk.now) (g.D.Disk.told c.append.new.disk) c.in-Err.ending (c.in-Err.ensures.makes (may_store layout c.args.replica.now ready room c.args.command.now c.requires.fits c.next_request-number.result c.as_slice.result.now (c.next_request-number.ensures layout ready) (c.as_slice.ensures.value ∙ c.encode-body.ensures)))
 
 pub returns-in-Ok-reply-clause-head : goal.returns-in-Ok-reply-clause-head
 returns-in-Ok-reply-clause-head g c = ap (λ (v : Replica). v.head) c.in-Ok-reply.ensures.state ∙ ap (λ (v : Replica). v.head) c.in-Ok.ensures.state
 
 pub returns-in-Ok-reply-clause-ready : goal.returns-in-Ok-reply-clause-ready
 returns-in-Ok-reply-clause-ready g c = λ layout ready room.
-    let s = c.args.replica.now in
-    let number = c.next_request-number.ensures layout ready in
-    let body = c.as_slice.ensures.value ∙ c.encode-body.ensures in
-    let may = may_store layout s ready room c.args.command.now c.requires.fits c.next_request-number.result c.as_slice.result.now number body in
-    let replied = may_answer layout s c.append.new.replica ready c.next_request-number.result c.as_slice.result.now c.in-Ok.op c.in-Ok.ensures.op c.in-Ok.ensures.state in
-    ready_stored layout s ready c.next_request-number.result c.as_slice.result.now (next_reply c.append.new.replica []).header
-    c.append.new.replica c.reply.new.replica (g.D.Disk.told c.args.disk.now) (g.D.Disk.told c.reply.new.disk) (request (memory s) c.args.command.now) c.in-Ok.ensures.state c.in-Ok-reply.ensures.state
-    (both_made c.args.command.now s c.next_request-number.result c.as_slice.result.now number body c.append.new.replica c.reply.new.replica (g.D.Disk.told c.args.disk.now) (g.D.Disk.told c.append.new.disk) (g.D.Disk.told c.reply.new.disk)
-    (c.in-Ok.ensures.makes may) c.in-Ok.op c.in-Ok.ensures.op (c.in-Ok-reply.ensures.makes replied))
+    ready_stored layout c.args.replica.now ready c.next_request-number.result c.as_slice.result.now (next_reply c.append.new.replica []).header
+    c.append.new.replica c.reply.new.replica (g.D.Disk.told c.args.disk.now) (g.D.Disk.told c.reply.new.disk) (request (memory c.args.replica.now) c.args.command.now) c.in-Ok.ensures.state c.in-Ok-reply.ensures.state
+    (returns-in-Ok-reply-clause-makes g c layout ready room)

@@ -10,9 +10,6 @@ use Rattle.df_table.proofs.Called.{blamed_so, fault_ends, step_comes}
 use Rattle.df_table.proofs.Joined.{one_failed}
 use Rattle.df_table.proofs.calls.step.Goals as goal
 
-pub is_done-requires : goal.is_done-requires
-is_done-requires g c = (step_comes c.args.replica.now c.make.new.replica (g.D.Disk.told c.args.disk.now) (g.D.Disk.told c.make.new.disk) c.requires.runs c.in-Ok.answer c.in-Ok.ensures.makes).is
-
 pub returns-in-Ok : goal.returns-in-Ok
 returns-in-Ok g c =
     let comes = step_comes c.args.replica.now c.make.new.replica (g.D.Disk.told c.args.disk.now) (g.D.Disk.told c.make.new.disk) c.requires.runs c.in-Ok.answer c.in-Ok.ensures.makes in

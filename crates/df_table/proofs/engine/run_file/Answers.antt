@@ -11,10 +11,10 @@ use Rattle.df_table.proofs.engine.run_file.Goals as goal
 
 pub returns-in-Ok-reserve-clause-runs : goal.returns-in-Ok-reserve-clause-runs
 returns-in-Ok-reserve-clause-runs g c = λ t told whole.
+    let layout : Layout = c.in-Ok-probe.layout in
+    let new : Outside = record { told = g.D.Disk.told c.serve_table.new.disk; left = g.S.Source.left c.serve_table.new.source; written = g.W.Sink.written c.serve_table.new.sink } in
     let left = g.S.Source.left c.args.source.now in
     let written = g.W.Sink.written c.args.sink.now in
-    let new : Outside = record { told = g.D.Disk.told c.serve_table.new.disk; left = g.S.Source.left c.serve_table.new.source; written = g.W.Sink.written c.serve_table.new.sink } in
-    let layout : Layout = c.in-Ok-probe.layout in
     let does : (u : Told) → g.D.Disk.told c.args.disk.now ≡ Some u → IsImage u.shown → Does layout u (record { told = g.D.Disk.told c.args.disk.now; left = left; written = written }) new c.serve_table.result =
     subst (λ (o : Option Told). (u : Told) → o ≡ Some u → IsImage u.shown → Does layout u (record { told = o; left = left; written = written }) new c.serve_table.result) c.probe.ensures.same
     (subst (λ (l : Layout). (u : Told) → g.D.Disk.told c.probe.new.disk ≡ Some u → IsImage u.shown → Does l u (record { told = g.D.Disk.told c.probe.new.disk; left = left; written = written }) new c.serve_table.result) c.in-Ok-reserve.ensures.rooms c.serve_table.ensures.serves) in

@@ -57,8 +57,8 @@ returns-in-Err-clause-disk g c = subst (λ (n : ℕ). Blamed (is_disk c.in-Err.e
 
 pub returns-clause-makes : goal.returns-clause-makes
 returns-clause-makes g c =
-    let s = c.args.replica.now in
     let now = c.loop-before in
+    let s = c.args.replica.now in
     let past : s.head ≤ now.before = omega (arith, c.loop-before-test, ap (λ (x : Summary). x.head) c.summary-summary.ensures) in
     all_counted (λ (op : ℕ). Reply op []) (replies (memory s)) now.before s.head s now.replica (g.D.Disk.told c.args.disk.now) (g.D.Disk.told now.disk) past now.invariant.making
 

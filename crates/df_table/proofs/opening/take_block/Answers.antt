@@ -9,9 +9,10 @@ use Rattle.df_session.specs.Reading.{shown_of}
 use Rattle.df_session.specs.Stopping.{left_by}
 use Rattle.df_table.specs.declared.ending.Ending.{Ending}
 use Rattle.df_table.specs.Calls.{Comes}
-use Rattle.df_table.specs.Opening.{ReadsBlock, block_ending}
+use Rattle.df_table.specs.Opening.{GivesRows, LacksRows, ReadsBlock, block_ending}
 use Rattle.df_table.specs.Statuses.{is_disk}
-use Rattle.df_table.proofs.BlockTaken.{block_comes, block_found_here, block_refused, block_unfound, live_there, read_blamed, rows_blamed}
+use Rattle.df_table.proofs.BlockTaken.{block_comes, block_found_here, block_refused, block_unfound, live_there, read_blamed}
+use Rattle.df_table.proofs.BodyTaken.{body_blamed}
 use Rattle.df_table.proofs.Called.{on_ok}
 use Rattle.df_table.proofs.opening.take_block.Goals as goal
 
@@ -34,7 +35,7 @@ returns-in-Ok-clause-kept g c = on_ok c.take_rows.result (c.read_block.follows.h
 
 pub returns-in-Ok-clause-disk : goal.returns-in-Ok-clause-disk
 returns-in-Ok-clause-disk g c =
-    rows_blamed c.args.address c.args.before c.args.most c.args.table c.body.result.now c.take_rows.result (g.D.Disk.faults c.args.disk.now) (g.D.Disk.faults c.read_block.new.disk) c.take_rows.ensures c.in-Ok.ensures.cause
+    body_blamed Table (GivesRows c.args.before c.args.most c.args.table c.body.result.now) (LacksRows c.args.address c.args.before c.args.most c.args.table c.body.result.now) c.take_rows.result (g.D.Disk.faults c.args.disk.now) (g.D.Disk.faults c.read_block.new.disk) c.take_rows.ensures c.in-Ok.ensures.cause
 
 -- ---- it isn't
 

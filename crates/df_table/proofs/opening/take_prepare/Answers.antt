@@ -8,11 +8,12 @@ use Rattle.df_session.specs.Below.{State as Replica, memory}
 use Rattle.df_session.specs.Reading.{shown_of}
 use Rattle.df_session.specs.Stopping.{left_by}
 use Rattle.df_table.specs.declared.ending.Ending.{Ending}
-use Rattle.df_table.specs.Calls.{Comes}
-use Rattle.df_table.specs.Opening.{ReadsPrepare, TakesCommand, place_at, prepare_ending}
-use Rattle.df_table.specs.Statuses.{is_disk}
-use Rattle.df_table.proofs.PrepareTaken.{command_blamed, kept_there, prepare_comes, prepare_found_here, prepare_refused, prepare_unfound, unread_blamed}
+use Rattle.df_table.proofs.BodyTaken.{body_blamed}
 use Rattle.df_table.proofs.Called.{on_ok}
+use Rattle.df_table.specs.Calls.{Comes}
+use Rattle.df_table.specs.Opening.{GivesCommand, LacksCommand, ReadsPrepare, TakesCommand, place_at, prepare_ending}
+use Rattle.df_table.specs.Statuses.{is_disk}
+use Rattle.df_table.proofs.PrepareTaken.{kept_there, prepare_comes, prepare_found_here, prepare_refused, prepare_unfound, unread_blamed}
 use Rattle.df_table.proofs.opening.take_prepare.Goals as goal
 
 -- ---- it is
@@ -20,15 +21,14 @@ use Rattle.df_table.proofs.opening.take_prepare.Goals as goal
 pub returns-in-Ok-clause-makes : goal.returns-in-Ok-clause-makes
 returns-in-Ok-clause-makes g c =
     let s : Replica = c.args.replica.now in
-    let t : Replica = c.read_prepare.follows.lender-at-none in
-    let same : t ≡ s = c.read_prepare.follows.holds-at-none ∙ ap (left_by is_prepare_fault s) c.in-Ok.is in
+    let same : c.read_prepare.follows.lender-at-none ≡ s = c.read_prepare.follows.holds-at-none ∙ ap (left_by is_prepare_fault s) c.in-Ok.is in
     subst (λ (r : Replica). Comes (ReadPrepare c.args.op ∷ []) s r (g.D.Disk.told c.args.disk.now) (g.D.Disk.told c.read_prepare.new.disk) c.take_command.result) (sym same)
-    (prepare_comes c.args.op s s (g.D.Disk.told c.args.disk.now) (g.D.Disk.told c.read_prepare.new.disk) c.in-Ok.ensures.same _ c.args.table.now c.take_command.new.table c.body.result.now _ c.take_command.result c.in-Ok.ensures.call c.take_command.ensures)
+    (prepare_comes c.args.op s s (g.D.Disk.told c.args.disk.now) (g.D.Disk.told c.read_prepare.new.disk) c.in-Ok.ensures.same (Unit {0}) _ c.args.table.now c.take_command.new.table c.body.result.now _ c.take_command.result c.in-Ok.ensures.call c.take_command.ensures)
 
 pub returns-in-Ok-clause-reads : goal.returns-in-Ok-clause-reads
 returns-in-Ok-clause-reads g c = λ of told is.
     let slots : c.from.result ≡ c.args.layout.now.slots = omega arith in
-    prepare_found_here c.args.layout.now c.args.op c.args.replica.now (g.D.Disk.told c.args.disk.now) told is of c.args.table.now c.take_command.new.table _ c.body.result.now c.take_command.result (sym c.body.ensures) c.in-Ok.ensures.exact
+    prepare_found_here c.args.layout.now c.args.op c.args.replica.now (g.D.Disk.told c.args.disk.now) told is of c.args.table.now c.take_command.new.table (Unit {0}) _ c.body.result.now c.take_command.result (sym c.body.ensures) c.in-Ok.ensures.exact
     (subst (λ (n : ℕ). TakesCommand (place_at WalPrepares (c.args.op % n)) c.args.table.now c.take_command.new.table c.body.result.now c.take_command.result) slots c.take_command.ensures)
 
 pub returns-in-Ok-clause-kept : goal.returns-in-Ok-clause-kept
@@ -36,7 +36,7 @@ returns-in-Ok-clause-kept g c = on_ok c.take_command.result (c.read_prepare.foll
 
 pub returns-in-Ok-clause-disk : goal.returns-in-Ok-clause-disk
 returns-in-Ok-clause-disk g c =
-    command_blamed _ c.args.table.now c.take_command.new.table c.body.result.now c.take_command.result (g.D.Disk.faults c.args.disk.now) (g.D.Disk.faults c.read_prepare.new.disk) c.take_command.ensures c.in-Ok.ensures.cause
+    body_blamed (Unit {0}) (GivesCommand c.args.table.now c.take_command.new.table c.body.result.now) (LacksCommand _ c.args.table.now c.body.result.now) c.take_command.result (g.D.Disk.faults c.args.disk.now) (g.D.Disk.faults c.read_prepare.new.disk) c.take_command.ensures c.in-Ok.ensures.cause
 
 -- ---- it isn't
 

@@ -21,13 +21,11 @@ open_table-requires g c = record { live = c.requires.live; empty = c.requires.ta
 
 pub serve_lines-requires : goal.serve_lines-requires
 serve_lines-requires g c = record {
-  serving = record {
-    live = c.in-Ok.ensures.live;
-    block = c.requires.block;
-    bound = ap (λ (r : Reading). r.bound) c.requires.lines.reading;
-    count = omega (arith, ap (λ (r : Reading). r.budget) c.requires.lines.reading);
-    at_end = λ yes. absurd (let no : false ≡ true = sym c.requires.lines.ended ∙ yes in cc);
-  };
+  live = c.in-Ok.ensures.live;
+  block = c.requires.block;
+  bound = ap (λ (r : Reading). r.bound) c.requires.lines.reading;
+  count = omega (arith, ap (λ (r : Reading). r.budget) c.requires.lines.reading);
+  at_end = λ yes. absurd (let no : false ≡ true = sym c.requires.lines.ended ∙ yes in cc);
 }
 
 pub returns-in-Ok-clause-serves : goal.returns-in-Ok-clause-serves

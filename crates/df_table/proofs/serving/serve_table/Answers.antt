@@ -11,7 +11,7 @@ use Rattle.df_table.specs.declared.status.Status.TheVariants as status
 use Rattle.df_table.specs.Outside.{Blames, Outside}
 use Rattle.df_table.specs.Run.{Does}
 use Rattle.df_table.specs.Table.{empty_table}
-use Rattle.df_table.proofs.Refused.{not_found, open_causes, refused_never}
+use Rattle.df_table.proofs.Refused.{not_found, refused_causes, refused_never}
 use Rattle.df_table.proofs.Served.{agree_self, begun, does}
 use Rattle.df_table.proofs.serving.serve_table.Goals as goal
 
@@ -53,15 +53,9 @@ returns-in-Ok-clause-causes g c = record {
 
 -- ---- it isn't
 
-pub returns-in-Err-clause-serves : goal.returns-in-Err-clause-serves
-returns-in-Err-clause-serves g c = λ t told whole.
-    not_found c.args.reserved.rooms.layout t (record { told = g.D.Disk.told c.args.disk.now; left = g.S.Source.left c.args.source.now; written = g.W.Sink.written c.args.sink.now })
-    (record { told = g.D.Disk.told c.open.new.disk; left = g.S.Source.left c.args.source.now; written = g.W.Sink.written c.refuse_file.new.sink }) c.refuse_file.result c.in-Err.error whole told c.in-Err.ensures.answer refl c.in-Err.ensures.refused
-    (c.in-Err.ensures.stopped t told) c.refuse_file.ensures.prints
-
 pub returns-in-Err-clause-causes : goal.returns-in-Err-clause-causes
 returns-in-Err-clause-causes g c =
-    open_causes (g.D.Disk.faults c.args.disk.now) (g.D.Disk.faults c.open.new.disk) (g.S.Source.faults c.args.source.now) (g.W.Sink.faults c.args.sink.now) (g.W.Sink.faults c.refuse_file.new.sink) (g.W.Sink.written c.args.sink.now) (g.W.Sink.written c.refuse_file.new.sink)
+    refused_causes (g.D.Disk.faults c.args.disk.now) (g.D.Disk.faults c.open.new.disk) (g.S.Source.faults c.args.source.now) (g.W.Sink.faults c.args.sink.now) (g.W.Sink.faults c.refuse_file.new.sink) (g.W.Sink.written c.args.sink.now) (g.W.Sink.written c.refuse_file.new.sink)
     c.refuse_file.result Replica c.in-Err.error c.in-Err.ensures.cause c.refuse_file.ensures.prints c.refuse_file.ensures.sink
 
 pub returns-in-Err-clause-memory : goal.returns-in-Err-clause-memory
@@ -69,3 +63,9 @@ returns-in-Err-clause-memory g c = (refused_never c.in-Err.error (g.W.Sink.writt
 
 pub returns-in-Err-clause-words : goal.returns-in-Err-clause-words
 returns-in-Err-clause-words g c = (refused_never c.in-Err.error (g.W.Sink.written c.args.sink.now) (g.W.Sink.written c.refuse_file.new.sink) c.refuse_file.result c.refuse_file.ensures.prints).1
+
+pub returns-in-Err-clause-serves : goal.returns-in-Err-clause-serves
+returns-in-Err-clause-serves g c = λ t told whole.
+    not_found c.args.reserved.rooms.layout t (record { told = g.D.Disk.told c.args.disk.now; left = g.S.Source.left c.args.source.now; written = g.W.Sink.written c.args.sink.now })
+    (record { told = g.D.Disk.told c.open.new.disk; left = g.S.Source.left c.args.source.now; written = g.W.Sink.written c.refuse_file.new.sink }) c.refuse_file.result c.in-Err.error whole told c.in-Err.ensures.answer refl c.in-Err.ensures.refused
+    (c.in-Err.ensures.stopped t told) c.refuse_file.ensures.prints

@@ -18,23 +18,6 @@ change-requires g c =
     let serving = c.requires.serving.1 in
     record { live = serving.live; buffer = serving.block; fits = c.ranges.key.fits; room = tt }
 
-pub returns-in-Ok-clause-executes : goal.returns-in-Ok-clause-executes
-returns-in-Ok-clause-executes g c =
-    let s = c.args.session.now in
-    done_executes s.layout (Drop c.args.key) (commands.Drop c.args.key) s c.change.new.session (g.D.Disk.told c.args.disk.now) (g.D.Disk.told c.change.new.disk) (g.W.Sink.written c.args.sink.now) (g.W.Sink.written c.print_answer.new.sink) (drop_asks s.table c.args.key c.requires.fine)
-    c.ranges.key.fits c.in-Ok.ensures.leaves c.in-Ok.op Failed c.print_answer.result (line_of (numbered (codes "dropped") c.in-Ok.op)) c.printed.result c.in-Ok.ensures.changed c.in-Ok.ensures.table c.in-Ok.ensures.live
-    (λ op. drop_text s.table s.replica.head c.args.key c.requires.fine ∙ ap (λ (n : ℕ). line_of (numbered (codes "dropped") n)) (sym op)) c.print_answer.ensures.prints c.printed.ensures
-
-pub returns-in-Ok-clause-disk : goal.returns-in-Ok-clause-disk
-returns-in-Ok-clause-disk g c =
-    subst (λ (u : Step). BlamesIfEnds DiskFault (g.D.Disk.faults c.args.disk.now) (g.D.Disk.faults c.change.new.disk) u) (sym c.printed.ensures)
-    (printed_disk Failed c.print_answer.result (g.D.Disk.faults c.args.disk.now) (g.D.Disk.faults c.change.new.disk) c.in-Ok.ensures.disk)
-
-pub returns-in-Ok-clause-sink : goal.returns-in-Ok-clause-sink
-returns-in-Ok-clause-sink g c =
-    subst (λ (u : Step). BlamesIfEnds WriteFault (g.W.Sink.faults c.args.sink.now) (g.W.Sink.faults c.print_answer.new.sink) u) (sym c.printed.ensures)
-    (printed_sink Failed c.print_answer.result (g.W.Sink.faults c.args.sink.now) (g.W.Sink.faults c.print_answer.new.sink) c.print_answer.ensures.cause)
-
 pub returns-in-Err-clause-executes : goal.returns-in-Err-clause-executes
 returns-in-Err-clause-executes g c =
     let s = c.args.session.now in
@@ -44,3 +27,18 @@ returns-in-Err-clause-executes g c =
 pub returns-in-Err-clause-disk : goal.returns-in-Err-clause-disk
 returns-in-Err-clause-disk g c =
     told_disk (g.D.Disk.faults c.args.disk.now) (g.D.Disk.faults c.change.new.disk) (g.W.Sink.written c.args.sink.now) (g.W.Sink.written c.tell_ending.new.sink) c.tell_ending.result c.in-Err.ending c.tell_ending.ensures.disk c.tell_ending.ensures.writes c.in-Err.ensures.disk
+
+pub returns-in-Ok-clause-executes : goal.returns-in-Ok-clause-executes
+returns-in-Ok-clause-executes g c =
+    let s = c.args.session.now in
+    done_executes s.layout (Drop c.args.key) (commands.Drop c.args.key) s c.change.new.session (g.D.Disk.told c.args.disk.now) (g.D.Disk.told c.change.new.disk) (g.W.Sink.written c.args.sink.now) (g.W.Sink.written c.print_answer.new.sink) (drop_asks s.table c.args.key c.requires.fine)
+    c.ranges.key.fits c.in-Ok.ensures.leaves c.in-Ok.op Failed c.print_answer.result (line_of (numbered (codes "dropped") c.in-Ok.op)) c.printed.result c.in-Ok.ensures.changed c.in-Ok.ensures.table c.in-Ok.ensures.live
+    (λ op. drop_text s.table s.replica.head c.args.key c.requires.fine ∙ ap (λ (n : ℕ). line_of (numbered (codes "dropped") n)) (sym op)) c.print_answer.ensures.prints c.printed.ensures
+
+pub returns-in-Ok-clause-sink : goal.returns-in-Ok-clause-sink
+returns-in-Ok-clause-sink g c =
+    subst (λ (u : Step). BlamesIfEnds WriteFault (g.W.Sink.faults c.args.sink.now) (g.W.Sink.faults c.print_answer.new.sink) u) (sym c.printed.ensures) (printed_sink Failed c.print_answer.result (g.W.Sink.faults c.args.sink.now) (g.W.Sink.faults c.print_answer.new.sink) c.print_answer.ensures.cause)
+
+pub returns-in-Ok-clause-disk : goal.returns-in-Ok-clause-disk
+returns-in-Ok-clause-disk g c =
+    subst (λ (u : Step). BlamesIfEnds DiskFault (g.D.Disk.faults c.args.disk.now) (g.D.Disk.faults c.change.new.disk) u) (sym c.printed.ensures) (printed_disk Failed c.print_answer.result (g.D.Disk.faults c.args.disk.now) (g.D.Disk.faults c.change.new.disk) c.in-Ok.ensures.disk)

@@ -13,7 +13,7 @@ loop-status-init g c = record {
   goes = λ steady. goes_none c.args.session.now.layout (state (record { told = g.D.Disk.told c.args.disk.now; left = g.S.Source.left c.args.source.now; written = g.W.Sink.written c.args.sink.now }) c.args.session.now);
   steady = λ steady. steady;
   layout = refl;
-  serving = c.requires.serving;
+  serving = c.requires;
   disk_faults = refl;
   source_faults = refl;
   sink_faults = refl;
@@ -47,11 +47,11 @@ loop-status-preserved g c =
 pub returns-in-Ends-clause-session : goal.returns-in-Ends-clause-session
 returns-in-Ends-clause-session g c = λ steady.
     let now = c.loop-status in
-    let layout = c.args.session.now.layout in
-    let at = now.invariant.layout in
     let old : State = state (record { told = g.D.Disk.told c.args.disk.now; left = g.S.Source.left c.args.source.now; written = g.W.Sink.written c.args.sink.now }) c.args.session.now in
-    let mid : State = state (record { told = g.D.Disk.told now.disk; left = g.S.Source.left now.source; written = g.W.Sink.written now.sink }) now.session in
+    let at = now.invariant.layout in
     let new : State = state (record { told = g.D.Disk.told c.take_turn.new.disk; left = g.S.Source.left c.take_turn.new.source; written = g.W.Sink.written c.take_turn.new.sink }) c.take_turn.new.session in
+    let layout = c.args.session.now.layout in
+    let mid : State = state (record { told = g.D.Disk.told now.disk; left = g.S.Source.left now.source; written = g.W.Sink.written now.sink }) now.session in
     let here = subst (λ (k : Layout). IsSteady k now.session.replica now.session.table) (sym at) (now.invariant.steady steady) in
     ended_all layout old mid new c.in-Ends.status (now.invariant.goes steady) (subst (λ (k : Layout). EndsIn k mid new c.in-Ends.status) at (c.in-Ends.ensures.turns here))
 

@@ -1,8 +1,9 @@
 -- Each arm is one way in which a line ends or goes on.
 use Rattle.std.proofs.Common.{◌≡◌, ◌<◌, ◌+◌, ℕ, ap, arith, refl, sym, subst}
 use Rattle.df_lines.specs.Room.{Room}
-use Rattle.df_rows.specs.Reads.{GivesNext, Spends}
-use Rattle.df_rows.specs.declared.next.Next.TheVariants as nexts
+use Rattle.df_lines.specs.Reads.{GivesNext, Spends}
+use Rattle.df_lines.specs.declared.next.Next.TheVariants as nexts
+use Rattle.df_rows.specs.Grammar.{table_lines}
 use Rattle.df_table.specs.Outside.{Outside}
 use Rattle.df_table.specs.declared.status.Status.TheVariants as status
 use Rattle.df_table.proofs.Behind.{executed_serving, taken_line}
@@ -17,7 +18,7 @@ returns-in-Ok-Line-clause-turns g c = λ steady.
     let before : Outside = record { told = g.D.Disk.told c.args.disk.now; left = g.S.Source.left c.args.source.now; written = g.W.Sink.written c.args.sink.now } in
     let after : Outside = record { told = g.D.Disk.told c.execute-turn.new.disk; left = g.S.Source.left c.next.new.source; written = g.W.Sink.written c.execute-turn.new.sink } in
     by_turn layout before after c.args.session.now (record c.execute-turn.new.session { count = c.execute-turn.new.session.count + 1 }) c.next.new.self c.in-Ok-Line.line c.requires.serving.bound c.requires.serving.at_end
-    (λ text tells. subst (GivesNext c.args.session.now.lines c.next.new.self text (g.S.Source.left c.next.new.source)) c.in-Ok-Line.field-0-is (c.in-Ok-Line.ensures.gives text tells))
+    (λ text tells. subst (GivesNext table_lines c.args.session.now.lines c.next.new.self text (g.S.Source.left c.next.new.source)) c.in-Ok-Line.field-0-is (c.in-Ok-Line.ensures.gives text tells))
     c.execute-turn.ensures.executes.leaves.lines (ap (λ (n : ℕ). n + 1) c.execute-turn.ensures.executes.leaves.count) c.execute-turn.result (c.execute-turn.ensures.executes.answers steady)
 
 pub returns-in-Ok-Refused-clause-turns : goal.returns-in-Ok-Refused-clause-turns
@@ -26,7 +27,7 @@ returns-in-Ok-Refused-clause-turns g c = λ steady.
     let before : Outside = record { told = g.D.Disk.told c.args.disk.now; left = g.S.Source.left c.args.source.now; written = g.W.Sink.written c.args.sink.now } in
     let after : Outside = record { told = g.D.Disk.told c.args.disk.now; left = g.S.Source.left c.next.new.source; written = g.W.Sink.written c.refuse.new.sink } in
     ends_refused layout before after c.args.session.now (record c.args.session.now { lines = c.next.new.self }) refl refl c.next.new.self c.requires.serving.bound c.next.ensures.bound c.requires.serving.at_end
-    (λ text tells. subst (GivesNext c.args.session.now.lines c.next.new.self text (g.S.Source.left c.next.new.source)) c.in-Ok-Refused.field-0-is (c.in-Ok-Refused.ensures.gives text tells))
+    (λ text tells. subst (GivesNext table_lines c.args.session.now.lines c.next.new.self text (g.S.Source.left c.next.new.source)) c.in-Ok-Refused.field-0-is (c.in-Ok-Refused.ensures.gives text tells))
     c.refuse.result c.refuse.ensures.line
 
 pub returns-in-Ok-End-clause-turns : goal.returns-in-Ok-End-clause-turns
@@ -36,7 +37,7 @@ returns-in-Ok-End-clause-turns g c = λ steady.
     let after : Outside = record { told = g.D.Disk.told c.args.disk.now; left = g.S.Source.left c.next.new.source; written = g.W.Sink.written c.args.sink.now } in
     ends_done layout before after c.args.session.now (record c.args.session.now { lines = c.next.new.self }) refl refl refl
     (λ rest is.
-    let ends = subst (GivesNext c.args.session.now.lines c.next.new.self rest (g.S.Source.left c.next.new.source)) c.in-Ok-End.field-0-is (c.in-Ok-End.ensures.gives rest (record { is = is; ended = c.requires.serving.at_end })) in
+    let ends = subst (GivesNext table_lines c.args.session.now.lines c.next.new.self rest (g.S.Source.left c.next.new.source)) c.in-Ok-End.field-0-is (c.in-Ok-End.ensures.gives rest (record { is = is; ended = c.requires.serving.at_end })) in
     (ends.none, ends.ended))
 
 pub returns-in-Err-clause-turns : goal.returns-in-Err-clause-turns
@@ -50,7 +51,7 @@ returns-in-Err-clause-turns g c = λ steady.
 
 pub execute-turn-requires : goal.execute-turn-requires
 execute-turn-requires g c =
-    let spends : Spends c.args.session.now.lines c.next.new.self (nexts.Line c.in-Ok-Line.line) = subst (Spends c.args.session.now.lines c.next.new.self) c.in-Ok-Line.field-0-is c.in-Ok-Line.ensures.spends in
+    let spends : Spends table_lines c.args.session.now.lines c.next.new.self (nexts.Line c.in-Ok-Line.line) = subst (Spends table_lines c.args.session.now.lines c.next.new.self) c.in-Ok-Line.field-0-is c.in-Ok-Line.ensures.spends in
     record {
       serving = (g.S.Source.left c.next.new.source, taken_line c.args.session.now.layout c.args.session.now (g.S.Source.left c.args.source.now) (g.S.Source.left c.next.new.source) c.requires.serving c.next.new.self c.next.ensures.bound c.next.ensures.at_end spends.0);
       size = spends.1;
@@ -61,7 +62,7 @@ returns-in-Ok-Line-clause-steady g c = c.execute-turn.ensures.executes.steady
 
 pub returns-in-Ok-Line-clause-serving : goal.returns-in-Ok-Line-clause-serving
 returns-in-Ok-Line-clause-serving g c =
-    let spends : Spends c.args.session.now.lines c.next.new.self (nexts.Line c.in-Ok-Line.line) = subst (Spends c.args.session.now.lines c.next.new.self) c.in-Ok-Line.field-0-is c.in-Ok-Line.ensures.spends in
+    let spends : Spends table_lines c.args.session.now.lines c.next.new.self (nexts.Line c.in-Ok-Line.line) = subst (Spends table_lines c.args.session.now.lines c.next.new.self) c.in-Ok-Line.field-0-is c.in-Ok-Line.ensures.spends in
     executed_serving c.args.session.now.layout c.args.session.now (g.S.Source.left c.args.source.now) (g.S.Source.left c.next.new.source) c.requires.serving c.next.new.self c.next.ensures.bound c.next.ensures.at_end spends.0
     c.execute-turn.new.session c.execute-turn.ensures.executes.leaves c.execute-turn.result c.execute-turn.ensures.executes.live
 
@@ -70,7 +71,7 @@ returns-in-Ok-Line-clause-layout g c = on_going c.execute-turn.result (c.execute
 
 pub returns-in-Ok-Line-clause-budget : goal.returns-in-Ok-Line-clause-budget
 returns-in-Ok-Line-clause-budget g c =
-    let spends : Spends c.args.session.now.lines c.next.new.self (nexts.Line c.in-Ok-Line.line) = subst (Spends c.args.session.now.lines c.next.new.self) c.in-Ok-Line.field-0-is c.in-Ok-Line.ensures.spends in
+    let spends : Spends table_lines c.args.session.now.lines c.next.new.self (nexts.Line c.in-Ok-Line.line) = subst (Spends table_lines c.args.session.now.lines c.next.new.self) c.in-Ok-Line.field-0-is c.in-Ok-Line.ensures.spends in
     on_going c.execute-turn.result (c.execute-turn.new.session.lines.reading.budget < c.args.session.now.lines.reading.budget) (subst (λ (r : Room). r.reading.budget < c.args.session.now.lines.reading.budget) (sym c.execute-turn.ensures.executes.leaves.lines) spends.0)
 
 pub returns-in-Ok-Line-clause-source : goal.returns-in-Ok-Line-clause-source

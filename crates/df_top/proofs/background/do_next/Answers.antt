@@ -11,7 +11,7 @@ pub returns-clause-turns : goal.returns-clause-turns
 returns-clause-turns g c = λ left bound.
     let old : State = state (record { told = g.D.Disk.told c.args.disk.now; left = left; written = g.W.Sink.written c.args.sink.now }) c.args.session.now in
     let new : State = state (record { told = g.D.Disk.told c.pass.new.disk; left = left; written = g.W.Sink.written c.pass.new.sink }) c.pass.new.session in
-    passes_turns c.args.session.now.pace bound old new c.args.piece (ap (λ (r : Room). unread r.reading.held left) c.pass.ensures.lines) (ap (λ (r : Room). r.reading.budget) c.pass.ensures.lines) c.pass.ensures.count c.requires.next c.pass.result c.pass.ensures.passes
+    passes_turns c.args.session.now.pace bound old new c.args.piece (ap (λ (r : Room). unread r.reading.held left) c.pass.ensures.leaves.lines) (ap (λ (r : Room). r.reading.budget) c.pass.ensures.leaves.lines) c.pass.ensures.leaves.count c.requires.next c.pass.result c.pass.ensures.passes
 
 pub returns-clause-fewer : goal.returns-clause-fewer
 returns-clause-fewer g c =

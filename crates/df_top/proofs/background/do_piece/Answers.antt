@@ -11,7 +11,7 @@ returns-in-Begin-clause-does g c =
 
 pub returns-in-Step-clause-does : goal.returns-in-Step-clause-does
 returns-in-Step-clause-does g c =
-    subst (λ (p : Piece). DoesPiece (command_of p c.args.replica.now.root) c.args.replica.now c.step.new.replica (g.D.Disk.told c.args.disk.now) (g.D.Disk.told c.step.new.disk) c.step.result) (sym c.in-Step.is) c.step.ensures.does
+    subst (λ (p : Piece). DoesPiece (command_of p c.args.replica.now.root) c.args.replica.now c.make_piece.new.replica (g.D.Disk.told c.args.disk.now) (g.D.Disk.told c.make_piece.new.disk) c.make_piece.result) (sym c.in-Step.is) c.make_piece.ensures.does
 
 pub returns-in-Scrub-clause-does : goal.returns-in-Scrub-clause-does
 returns-in-Scrub-clause-does g c =

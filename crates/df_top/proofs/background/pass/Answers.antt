@@ -18,4 +18,4 @@ returns-in-Err g c =
     let comes =
     fault_passes c.args.piece (command_of c.args.piece c.args.session.now.replica.root) c.args.session.now.replica c.do_piece.new.replica (g.D.Disk.told c.args.disk.now) (g.D.Disk.told c.do_piece.new.disk) (g.W.Sink.written c.args.sink.now) (g.W.Sink.written c.tell_fault.new.sink)
     c.args.session.now.beat c.args.session.now.beat (g.D.Disk.faults c.args.disk.now) (g.D.Disk.faults c.do_piece.new.disk) c.in-Err.fault c.tell_fault.result c.in-Err.ensures.does c.in-Err.ensures.disk c.tell_fault.ensures.prints in
-    record { passes = comes.0; lines = refl; count = refl; pace = refl; live = tt; disk = comes.1; source = passes_unread c.args.piece (command_of c.args.piece c.args.session.now.replica.root) c.args.session.now.replica c.do_piece.new.replica (g.D.Disk.told c.args.disk.now) (g.D.Disk.told c.do_piece.new.disk) (g.W.Sink.written c.args.sink.now) (g.W.Sink.written c.tell_fault.new.sink) c.args.session.now.beat c.args.session.now.beat (Ends c.tell_fault.result) comes.0; sink = c.tell_fault.ensures.sink }
+    record { passes = comes.0; live = tt; leaves = record { lines = refl; count = refl; pace = refl }; disk = comes.1; source = passes_unread c.args.piece (command_of c.args.piece c.args.session.now.replica.root) c.args.session.now.replica c.do_piece.new.replica (g.D.Disk.told c.args.disk.now) (g.D.Disk.told c.do_piece.new.disk) (g.W.Sink.written c.args.sink.now) (g.W.Sink.written c.tell_fault.new.sink) c.args.session.now.beat c.args.session.now.beat (Ends c.tell_fault.result) comes.0; sink = c.tell_fault.ensures.sink }

@@ -1,12 +1,7 @@
 -- The line is the constant of the program.
-use Rattle.std.proofs.Common.{inl, inr, refl}
 use Rattle.df_top.specs.Usage.{usage}
 use Rattle.df_top.proofs.engine.print_usage.Goals as goal
 
-pub returns-in-Ok-clause-usage : goal.returns-in-Ok-clause-usage
+pub returns-clause-usage : goal.returns-clause-usage
 unfolding usage
-returns-in-Ok-clause-usage g c = inl (refl, c.in-Ok.ensures.whole)
-
-pub returns-in-Err-clause-usage : goal.returns-in-Err-clause-usage
-unfolding usage
-returns-in-Err-clause-usage g c = inr (refl, c.in-Err.ensures.part)
+returns-clause-usage g c = c.end_with.ensures.writes

@@ -14,7 +14,7 @@ use Rattle.df_top.proofs.Modes.{one_mode}
 use Rattle.df_top.proofs.Reopens.{runs_over_history}
 use Rattle.df_top.proofs.Upgrades.{upgrades_over_hurt, upgrades_within}
 use Rattle.df_top.proofs.Within.{runs_within}
-use Rattle.df_top.proofs.Words.{makes_alone, makes_file, makes_none, opens_file, runnable, same_cluster_asked, same_layout_asked, upgrades_alone, upgrades_file}
+use Rattle.df_top.proofs.Words.{makes_alone, makes_file, makes_none, no_upgrade_asked, none_asked, opens_file, runnable, same_cluster_asked, same_layout_asked, upgrades_alone, upgrades_file}
 use Rattle.df_top.proofs.engine.run.Goals as goal
 
 -- ---- a word on a file
@@ -117,52 +117,28 @@ returns-in-Make-clause-made_within g c = λ layout cluster asks.
     (same_layout_asked (map string_bytes c.args.words.now) file.layout layout file.cluster cluster mine asks) c.make_file.ensures.within
 
 pub returns-in-Make-clause-runs : goal.returns-in-Make-clause-runs
-returns-in-Make-clause-runs g c = λ mode of asks.
-    let file = c.in-Make.file in
-    let mine = subst (Means (map string_bytes c.args.words.now)) (makes_file c.in-Some.mode file (sym c.task_of.ensures ∙ c.in-Make.is)) c.in-Some.ensures.found in
-    absurd (makes_alone (map string_bytes c.args.words.now) file.layout file.cluster mode mine asks of)
+returns-in-Make-clause-runs g c = λ mode of asks. absurd (none_asked (map string_bytes c.args.words.now) c.in-Some.mode c.in-Make.file (sym c.task_of.ensures ∙ c.in-Make.is) c.in-Some.ensures.found mode asks of)
 
 pub returns-in-Make-clause-inspects : goal.returns-in-Make-clause-inspects
-returns-in-Make-clause-inspects g c = λ asks.
-    let file = c.in-Make.file in
-    let mine = subst (Means (map string_bytes c.args.words.now)) (makes_file c.in-Some.mode file (sym c.task_of.ensures ∙ c.in-Make.is)) c.in-Some.ensures.found in
-    absurd (makes_alone (map string_bytes c.args.words.now) file.layout file.cluster Inspect mine asks tt)
+returns-in-Make-clause-inspects g c = λ asks. absurd (none_asked (map string_bytes c.args.words.now) c.in-Some.mode c.in-Make.file (sym c.task_of.ensures ∙ c.in-Make.is) c.in-Some.ensures.found Inspect asks tt)
 
 pub returns-in-Make-clause-within : goal.returns-in-Make-clause-within
-returns-in-Make-clause-within g c = λ mode of asks.
-    let file = c.in-Make.file in
-    let mine = subst (Means (map string_bytes c.args.words.now)) (makes_file c.in-Some.mode file (sym c.task_of.ensures ∙ c.in-Make.is)) c.in-Some.ensures.found in
-    absurd (makes_alone (map string_bytes c.args.words.now) file.layout file.cluster mode mine asks of)
+returns-in-Make-clause-within g c = λ mode of asks. absurd (none_asked (map string_bytes c.args.words.now) c.in-Some.mode c.in-Make.file (sym c.task_of.ensures ∙ c.in-Make.is) c.in-Some.ensures.found mode asks of)
 
 pub returns-in-Make-clause-hurt : goal.returns-in-Make-clause-hurt
-returns-in-Make-clause-hurt g c = λ mode of asks.
-    let file = c.in-Make.file in
-    let mine = subst (Means (map string_bytes c.args.words.now)) (makes_file c.in-Some.mode file (sym c.task_of.ensures ∙ c.in-Make.is)) c.in-Some.ensures.found in
-    absurd (makes_alone (map string_bytes c.args.words.now) file.layout file.cluster mode mine asks of)
+returns-in-Make-clause-hurt g c = λ mode of asks. absurd (none_asked (map string_bytes c.args.words.now) c.in-Some.mode c.in-Make.file (sym c.task_of.ensures ∙ c.in-Make.is) c.in-Some.ensures.found mode asks of)
 
 pub returns-in-Make-clause-lived : goal.returns-in-Make-clause-lived
-returns-in-Make-clause-lived g c = λ mode of asks.
-    let file = c.in-Make.file in
-    let mine = subst (Means (map string_bytes c.args.words.now)) (makes_file c.in-Some.mode file (sym c.task_of.ensures ∙ c.in-Make.is)) c.in-Some.ensures.found in
-    absurd (makes_alone (map string_bytes c.args.words.now) file.layout file.cluster mode mine asks of)
+returns-in-Make-clause-lived g c = λ mode of asks. absurd (none_asked (map string_bytes c.args.words.now) c.in-Some.mode c.in-Make.file (sym c.task_of.ensures ∙ c.in-Make.is) c.in-Some.ensures.found mode asks of)
 
 pub returns-in-Make-clause-upgrades : goal.returns-in-Make-clause-upgrades
-returns-in-Make-clause-upgrades g c = λ asks.
-    let file = c.in-Make.file in
-    let mine = subst (Means (map string_bytes c.args.words.now)) (makes_file c.in-Some.mode file (sym c.task_of.ensures ∙ c.in-Make.is)) c.in-Some.ensures.found in
-    absurd (makes_none (map string_bytes c.args.words.now) file.layout file.cluster mine asks)
+returns-in-Make-clause-upgrades g c = λ asks. absurd (no_upgrade_asked (map string_bytes c.args.words.now) c.in-Some.mode c.in-Make.file (sym c.task_of.ensures ∙ c.in-Make.is) c.in-Some.ensures.found asks)
 
 pub returns-in-Make-clause-upgraded_within : goal.returns-in-Make-clause-upgraded_within
-returns-in-Make-clause-upgraded_within g c = λ asks.
-    let file = c.in-Make.file in
-    let mine = subst (Means (map string_bytes c.args.words.now)) (makes_file c.in-Some.mode file (sym c.task_of.ensures ∙ c.in-Make.is)) c.in-Some.ensures.found in
-    absurd (makes_none (map string_bytes c.args.words.now) file.layout file.cluster mine asks)
+returns-in-Make-clause-upgraded_within g c = λ asks. absurd (no_upgrade_asked (map string_bytes c.args.words.now) c.in-Some.mode c.in-Make.file (sym c.task_of.ensures ∙ c.in-Make.is) c.in-Some.ensures.found asks)
 
 pub returns-in-Make-clause-upgraded_hurt : goal.returns-in-Make-clause-upgraded_hurt
-returns-in-Make-clause-upgraded_hurt g c = λ asks.
-    let file = c.in-Make.file in
-    let mine = subst (Means (map string_bytes c.args.words.now)) (makes_file c.in-Some.mode file (sym c.task_of.ensures ∙ c.in-Make.is)) c.in-Some.ensures.found in
-    absurd (makes_none (map string_bytes c.args.words.now) file.layout file.cluster mine asks)
+returns-in-Make-clause-upgraded_hurt g c = λ asks. absurd (no_upgrade_asked (map string_bytes c.args.words.now) c.in-Some.mode c.in-Make.file (sym c.task_of.ensures ∙ c.in-Make.is) c.in-Some.ensures.found asks)
 
 -- ---- words without a meaning
 

@@ -3,7 +3,7 @@ use Rattle.std.proofs.Common.{inr, refl}
 use Rattle.df_session.specs.Below.{State}
 use Rattle.df_top.specs.Outside.{Outside}
 use Rattle.df_top.specs.Reporting.{report_of, status_of}
-use Rattle.df_top.proofs.Causes.{calm_report, line_causes, never_printed, open_causes, refused_never}
+use Rattle.df_top.proofs.Causes.{calm_report, line_causes, never_printed, refused_causes, refused_never}
 use Rattle.df_top.proofs.Reported.{inspects, not_surveyed, syncs_part}
 use Rattle.df_top.proofs.reporting.inspect_file.Goals as goal
 
@@ -32,7 +32,7 @@ returns-in-Ok-clause-causes g c = λ source.
 
 pub returns-clause-causes : goal.returns-clause-causes
 returns-clause-causes g c = λ source.
-    open_causes (g.D.Disk.faults c.args.disk.now) (g.D.Disk.faults c.survey.new.disk) source (g.W.Sink.faults c.args.sink.now) (g.W.Sink.faults c.refuse_file.new.sink) (g.W.Sink.written c.args.sink.now) (g.W.Sink.written c.refuse_file.new.sink)
+    refused_causes (g.D.Disk.faults c.args.disk.now) (g.D.Disk.faults c.survey.new.disk) source (g.W.Sink.faults c.args.sink.now) (g.W.Sink.faults c.refuse_file.new.sink) (g.W.Sink.written c.args.sink.now) (g.W.Sink.written c.refuse_file.new.sink)
     c.refuse_file.result State c.in-Err.error c.in-Err.ensures.cause c.refuse_file.ensures.prints c.refuse_file.ensures.sink
 
 pub returns-in-Ok-clause-ends : goal.returns-in-Ok-clause-ends

@@ -8,7 +8,8 @@ use Rattle.df_top.specs.Outside.{Blames, Outside}
 use Rattle.df_top.specs.Scrubs.{ScrubsFile}
 use Rattle.df_top.specs.declared.mode.Mode.TheVariants.{Scrub}
 use Rattle.df_top.specs.declared.status.Status.TheVariants.{DiskFault, Memory, ReadFault, Words}
-use Rattle.df_top.proofs.Causes.{no_blame, open_causes, refused_never}
+use Rattle.df_telling.proofs.Laws.{no_blame}
+use Rattle.df_top.proofs.Causes.{refused_causes, refused_never}
 use Rattle.df_top.proofs.Reported.{scrubs}
 use Rattle.df_top.proofs.Served.{not_opened}
 use Rattle.df_top.proofs.Tours.{never_so}
@@ -34,7 +35,7 @@ returns-in-Ok-clause-causes g c = λ source. record {
 
 pub returns-clause-causes : goal.returns-clause-causes
 returns-clause-causes g c = λ source.
-    open_causes (g.D.Disk.faults c.args.disk.now) (g.D.Disk.faults c.open.new.disk) source (g.W.Sink.faults c.args.sink.now) (g.W.Sink.faults c.refuse_file.new.sink) (g.W.Sink.written c.args.sink.now) (g.W.Sink.written c.refuse_file.new.sink)
+    refused_causes (g.D.Disk.faults c.args.disk.now) (g.D.Disk.faults c.open.new.disk) source (g.W.Sink.faults c.args.sink.now) (g.W.Sink.faults c.refuse_file.new.sink) (g.W.Sink.written c.args.sink.now) (g.W.Sink.written c.refuse_file.new.sink)
     c.refuse_file.result State c.in-Err.error c.in-Err.ensures.cause c.refuse_file.ensures.prints c.refuse_file.ensures.sink
 
 pub returns-in-Ok-clause-ends : goal.returns-in-Ok-clause-ends

@@ -8,7 +8,7 @@ use Rattle.df_pace.specs.Beats.{started}
 use Rattle.df_top.specs.declared.session.Session.{Session}
 use Rattle.df_top.specs.declared.status.Status.TheVariants.{DiskFault}
 use Rattle.df_top.specs.Session.{state}
-use Rattle.df_top.proofs.Causes.{ended_never, open_causes, refused_never}
+use Rattle.df_top.proofs.Causes.{ended_never, refused_causes, refused_never}
 use Rattle.df_top.proofs.Served.{executed, from_start, not_executed, serves}
 use Rattle.df_top.proofs.serving.serve_file.Goals as goal
 
@@ -38,7 +38,7 @@ returns-in-Err-clause-serves g c = λ mode executes t told whole.
 
 pub returns-in-Err-clause-causes : goal.returns-in-Err-clause-causes
 returns-in-Err-clause-causes g c =
-    open_causes (g.D.Disk.faults c.args.disk.now) (g.D.Disk.faults c.open.new.disk) (g.S.Source.faults c.args.source.now) (g.W.Sink.faults c.args.sink.now) (g.W.Sink.faults c.refuse_file.new.sink) (g.W.Sink.written c.args.sink.now) (g.W.Sink.written c.refuse_file.new.sink)
+    refused_causes (g.D.Disk.faults c.args.disk.now) (g.D.Disk.faults c.open.new.disk) (g.S.Source.faults c.args.source.now) (g.W.Sink.faults c.args.sink.now) (g.W.Sink.faults c.refuse_file.new.sink) (g.W.Sink.written c.args.sink.now) (g.W.Sink.written c.refuse_file.new.sink)
     c.refuse_file.result State c.in-Err.error c.in-Err.ensures.cause c.refuse_file.ensures.prints c.refuse_file.ensures.sink
 
 pub returns-in-Ok-clause-causes : goal.returns-in-Ok-clause-causes

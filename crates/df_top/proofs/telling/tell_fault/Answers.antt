@@ -4,4 +4,4 @@ use Rattle.df_top.proofs.telling.tell_fault.Goals as goal
 
 pub returns-in-Damaged-clause-prints : goal.returns-in-Damaged-clause-prints
 returns-in-Damaged-clause-prints g c =
-    prints_damaged c.args.fault c.in-Damaged.place c.in-Damaged.class (g.W.Sink.written c.args.sink.now) (g.W.Sink.written c.print_answer.new.sink) c.print_answer.result c.ended.result c.in-Damaged.is c.print_answer.ensures.prints c.ended.ensures
+    prints_damaged c.args.fault c.in-Damaged.place c.in-Damaged.class (g.W.Sink.written c.args.sink.now) (g.W.Sink.written c.print_damaged.new.sink) c.print_damaged.result c.ended.result c.in-Damaged.is c.print_damaged.ensures.prints c.ended.ensures

@@ -1,10 +1,12 @@
 -- Each turn goes on with one line more and the work behind it, or ends the session.
-use Rattle.std.proofs.Common.{[], ◌++◌, refl, ◌∙◌, subst, ℕ}
+use Rattle.std.proofs.Common.{[], ◌++◌, refl, ◌∙◌, ap, subst, ℕ}
 use Rattle.df_pace.specs.declared.pace.Pace.{Pace}
-use Rattle.df_top.specs.Outside.{Outside}
+use Rattle.df_top.specs.Outside.{Outside, around}
 use Rattle.df_top.specs.Session.{State, state}
 use Rattle.df_top.specs.Step.{EndsIn, GoesOn}
-use Rattle.df_top.proofs.Progress.{executed_none}
+use Rattle.df_lines.specs.Room.{Room}
+use Rattle.df_top.proofs.Passed.{worked_ready}
+use Rattle.df_top.proofs.Progress.{executed_none, on_ends, on_more}
 use Rattle.df_top.proofs.turns.serve_script.Goals as goal
 
 pub loop-status-init : goal.loop-status-init
@@ -23,24 +25,43 @@ loop-status-init g c =
 
 pub loop-status-preserved : goal.loop-status-preserved
 loop-status-preserved g c =
-    let before : State = state (record { told = g.D.Disk.told c.loop-status.disk; left = g.S.Source.left c.loop-status.source; written = g.W.Sink.written c.loop-status.sink }) c.loop-status.session in
-    let after : State = state (record { told = g.D.Disk.told c.take_turn.new.disk; left = g.S.Source.left c.take_turn.new.source; written = g.W.Sink.written c.take_turn.new.sink }) c.take_turn.new.session in
-    let done = c.loop-status.invariant.so_far in
-    let more = subst (λ (p : Pace). GoesOn p c.args.session.now.lines.reading.bound before after) c.loop-status.invariant.pace (subst (λ (n : ℕ). GoesOn c.loop-status.session.pace n before after) c.loop-status.invariant.bound c.in-GoesOn.ensures.turns) _ done.0 done.1 in
+    let now = c.loop-status in
+    let bound = c.args.session.now.lines.reading.bound in
+    let before : State = state (around (g.D.Disk.told now.disk) (g.S.Source.left now.source) (g.W.Sink.written now.sink)) now.session in
+    let taken : State = state (around (g.D.Disk.told c.take_line.new.disk) (g.S.Source.left c.take_line.new.source) (g.W.Sink.written c.take_line.new.sink)) c.take_line.new.session in
+    let after : State = state (around (g.D.Disk.told c.work.new.disk) (g.S.Source.left c.take_line.new.source) (g.W.Sink.written c.work.new.sink)) c.work.new.session in
+    let line = subst (λ (p : Pace). GoesOn p bound before taken) now.invariant.pace (subst (λ (n : ℕ). GoesOn now.session.pace n before taken) now.invariant.bound c.in-GoesOn.ensures.turns) in
+    let work = subst (λ (p : Pace). GoesOn p bound taken after) (c.take_line.ensures.pace ∙ now.invariant.pace) (c.in-GoesOn-work.ensures.turns (g.S.Source.left c.take_line.new.source) bound) in
+    let done = now.invariant.so_far in
+    let more = on_more c.args.session.now.pace bound before taken after line work _ done.0 done.1 in
     record {
       so_far = (done.0 ++ more.0, more.1);
-      ready = c.in-GoesOn.ensures.ready;
-      idle = c.in-GoesOn.ensures.idle;
-      bound = c.in-GoesOn.ensures.bound ∙ c.loop-status.invariant.bound;
-      pace = c.in-GoesOn.ensures.pace ∙ c.loop-status.invariant.pace;
-      disk_faults = c.in-GoesOn.ensures.disk ∙ c.loop-status.invariant.disk_faults;
-      source_faults = c.in-GoesOn.ensures.source ∙ c.loop-status.invariant.source_faults;
-      sink_faults = c.in-GoesOn.ensures.sink ∙ c.loop-status.invariant.sink_faults;
+      ready = worked_ready c.in-GoesOn.ensures.ready c.work.ensures.leaves c.in-GoesOn-work.ensures.live;
+      idle = c.in-GoesOn-work.ensures.idle;
+      bound = ap (λ (r : Room). r.reading.bound) c.work.ensures.leaves.lines ∙ c.take_line.ensures.bound ∙ now.invariant.bound;
+      pace = c.work.ensures.leaves.pace ∙ c.take_line.ensures.pace ∙ now.invariant.pace;
+      disk_faults = c.in-GoesOn-work.ensures.disk ∙ c.in-GoesOn.ensures.disk ∙ now.invariant.disk_faults;
+      source_faults = c.in-GoesOn.ensures.source ∙ now.invariant.source_faults;
+      sink_faults = c.in-GoesOn-work.ensures.sink ∙ c.in-GoesOn.ensures.sink ∙ now.invariant.sink_faults;
     }
 
 pub returns-in-Ends-clause-session : goal.returns-in-Ends-clause-session
 returns-in-Ends-clause-session g c =
-    let before : State = state (record { told = g.D.Disk.told c.loop-status.disk; left = g.S.Source.left c.loop-status.source; written = g.W.Sink.written c.loop-status.sink }) c.loop-status.session in
-    let after : State = state (record { told = g.D.Disk.told c.take_turn.new.disk; left = g.S.Source.left c.take_turn.new.source; written = g.W.Sink.written c.take_turn.new.sink }) c.take_turn.new.session in
-    let done = c.loop-status.invariant.so_far in
-    subst (λ (p : Pace). EndsIn p c.args.session.now.lines.reading.bound before after c.in-Ends.status) c.loop-status.invariant.pace (subst (λ (n : ℕ). EndsIn c.loop-status.session.pace n before after c.in-Ends.status) c.loop-status.invariant.bound c.in-Ends.ensures.turns) _ done.0 done.1
+    let now = c.loop-status in
+    let before : State = state (around (g.D.Disk.told now.disk) (g.S.Source.left now.source) (g.W.Sink.written now.sink)) now.session in
+    let after : State = state (around (g.D.Disk.told c.take_line.new.disk) (g.S.Source.left c.take_line.new.source) (g.W.Sink.written c.take_line.new.sink)) c.take_line.new.session in
+    let done = now.invariant.so_far in
+    subst (λ (p : Pace). EndsIn p c.args.session.now.lines.reading.bound before after c.in-Ends.status) now.invariant.pace (subst (λ (n : ℕ). EndsIn now.session.pace n before after c.in-Ends.status) now.invariant.bound c.in-Ends.ensures.turns) _ done.0 done.1
+
+pub returns-in-Ends-work-clause-session : goal.returns-in-Ends-work-clause-session
+returns-in-Ends-work-clause-session g c =
+    let now = c.loop-status in
+    let bound = c.args.session.now.lines.reading.bound in
+    let status = c.in-Ends-work.status in
+    let before : State = state (around (g.D.Disk.told now.disk) (g.S.Source.left now.source) (g.W.Sink.written now.sink)) now.session in
+    let taken : State = state (around (g.D.Disk.told c.take_line.new.disk) (g.S.Source.left c.take_line.new.source) (g.W.Sink.written c.take_line.new.sink)) c.take_line.new.session in
+    let after : State = state (around (g.D.Disk.told c.work.new.disk) (g.S.Source.left c.take_line.new.source) (g.W.Sink.written c.work.new.sink)) c.work.new.session in
+    let line = subst (λ (p : Pace). GoesOn p bound before taken) now.invariant.pace (subst (λ (n : ℕ). GoesOn now.session.pace n before taken) now.invariant.bound c.in-GoesOn.ensures.turns) in
+    let work = subst (λ (p : Pace). EndsIn p bound taken after status) (c.take_line.ensures.pace ∙ now.invariant.pace) (c.in-Ends-work.ensures.turns (g.S.Source.left c.take_line.new.source) bound) in
+    let done = now.invariant.so_far in
+    on_ends c.args.session.now.pace bound before taken after status line work _ done.0 done.1

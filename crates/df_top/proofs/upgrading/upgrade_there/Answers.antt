@@ -3,7 +3,7 @@ use Rattle.std.proofs.Common.{inr, ℕ, refl}
 use Rattle.df_inspect.specs.Opening.{upgraded_text}
 use Rattle.df_top.specs.Outside.{Outside}
 use Rattle.df_top.specs.declared.status.Status.TheVariants.{Done}
-use Rattle.df_top.proofs.Causes.{calm_done, line_causes, never_printed, open_causes, refused_never}
+use Rattle.df_top.proofs.Causes.{calm_done, line_causes, never_printed, refused_causes, refused_never}
 use Rattle.df_top.proofs.Upgrades.{not_upgraded}
 use Rattle.df_top.proofs.upgrading.upgrade_there.Goals as goal
 
@@ -23,7 +23,7 @@ returns-in-Ok-clause-causes g c = λ source.
 
 pub returns-clause-causes : goal.returns-clause-causes
 returns-clause-causes g c = λ source.
-    open_causes (g.D.Disk.faults c.args.disk.now) (g.D.Disk.faults c.upgrade_file.new.disk) source (g.W.Sink.faults c.args.sink.now) (g.W.Sink.faults c.refuse_file.new.sink) (g.W.Sink.written c.args.sink.now) (g.W.Sink.written c.refuse_file.new.sink)
+    refused_causes (g.D.Disk.faults c.args.disk.now) (g.D.Disk.faults c.upgrade_file.new.disk) source (g.W.Sink.faults c.args.sink.now) (g.W.Sink.faults c.refuse_file.new.sink) (g.W.Sink.written c.args.sink.now) (g.W.Sink.written c.refuse_file.new.sink)
     c.refuse_file.result ℕ c.in-Err.error c.in-Err.ensures.cause c.refuse_file.ensures.prints c.refuse_file.ensures.sink
 
 pub returns-in-Ok-clause-ends : goal.returns-in-Ok-clause-ends

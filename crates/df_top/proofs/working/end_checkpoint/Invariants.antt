@@ -1,17 +1,16 @@
 -- The steps so far were taken, and nothing has failed.
-use Rattle.std.proofs.Common.{◌≡◌, true}
+use Rattle.std.proofs.Common.{◌≡◌}
 use Rattle.df_workload.specs.declared.state.Point.TheVariants.{Ending}
-use Rattle.df_top.specs.Works.{IsRunning, Works, steps_left}
+use Rattle.df_top.specs.Works.{CanGoOn, Works, steps_left}
 use Rattle.df_top.proofs.working.end_checkpoint.Given as goal
 
 abbrev pub invariant-loop-disk : goal.invariant-loop-disk
 invariant-loop-disk g l = record {
-  works : Works l.fn.generator l.fn.replica (g.D.Disk.told l.fn.disk) l.generator l.replica (g.D.Disk.told l.disk);
-  live : l.replica.live ≡ true;
-  runs : l.generator.running ≡ true → IsRunning l.replica;
-  ending : l.generator.point ≡ Ending;
+  works : Works l.fn.run.generator l.fn.run.replica (g.D.Disk.told l.fn.disk) l.run.generator l.run.replica (g.D.Disk.told l.disk);
+  ready : CanGoOn l.run.generator l.run.replica;
+  ending : l.run.generator.point ≡ Ending;
   disk_faults : g.D.Disk.faults l.disk ≡ g.D.Disk.faults l.fn.disk;
 }
 
 abbrev pub decreases-loop-disk : goal.decreases-loop-disk
-decreases-loop-disk g l = steps_left l.generator l.replica
+decreases-loop-disk g l = steps_left l.run.generator l.run.replica

@@ -2,7 +2,7 @@
 use Rattle.df_top.proofs.Runs.{comes_more}
 use Rattle.df_top.proofs.working.work.Goals as goal
 
-pub returns-in-Ok-clause-comes : goal.returns-in-Ok-clause-comes
-returns-in-Ok-clause-comes g c =
-    comes_more c.args.generator.now c.args.replica.now (g.D.Disk.told c.args.disk.now) c.go_through.new.generator c.go_through.new.replica (g.D.Disk.told c.go_through.new.disk) c.end_checkpoint.new.generator c.end_checkpoint.new.replica (g.D.Disk.told c.end_checkpoint.new.disk)
-    c.in-Ok.ensures.comes c.end_checkpoint.result c.end_checkpoint.ensures.comes
+pub returns-clause-comes : goal.returns-clause-comes
+returns-clause-comes g c =
+    comes_more c.args.run.now.generator c.args.run.now.replica (g.D.Disk.told c.args.disk.now) c.go_through.new.run.generator c.go_through.new.run.replica (g.D.Disk.told c.go_through.new.disk) c.end_checkpoint.new.run.generator c.end_checkpoint.new.run.replica (g.D.Disk.told c.end_checkpoint.new.disk)
+    c.in_ok-go_through.ensures.comes c.end_checkpoint.result c.end_checkpoint.ensures.comes

@@ -1,5 +1,5 @@
 -- The open answers of the file that the disk shows, and the run is carried out on what it found.
-use Rattle.std.proofs.Common.{◌≡◌, ℕ, inr, refl, subst, ◌∙◌, ap}
+use Rattle.std.proofs.Common.{◌≡◌, ℕ, true, false, inr, refl, sym, subst, ◌∙◌, ap}
 use Rattle.df_base.specs.Causes.{IsBlamed}
 use Rattle.df_layout.specs.declared.layout.Layout.{Layout}
 use Rattle.df_model.specs.declared.answers.Summary.{Summary}
@@ -10,11 +10,16 @@ use Rattle.df_top.specs.Outside.{Outside}
 use Rattle.df_session.specs.Endings.{is_disk}
 use Rattle.df_top.specs.Works.{Comes}
 use Rattle.df_top.specs.declared.mode.Mode.TheVariants.{Workload}
-use Rattle.df_top.proofs.Causes.{open_causes, refused_never}
+use Rattle.df_top.proofs.Causes.{refused_causes, refused_never}
 use Rattle.df_top.proofs.Runs.{ends_run}
 use Rattle.df_top.proofs.Served.{not_opened}
 use Rattle.df_top.proofs.WorksOn.{run_causes, run_never, works_through}
 use Rattle.df_top.proofs.working.workload_file.Goals as goal
+
+pub work-worked-requires : goal.work-worked-requires
+work-worked-requires g c = record {
+  ready = record { live = c.in-Ok.ensures.live; runs = λ set. absurd (let no : false ≡ true = sym (ap (λ (r : Run). r.running) c.new-generator.ensures) ∙ set in cc) };
+}
 
 pub returns-in-Ok-clause-works : goal.returns-in-Ok-clause-works
 returns-in-Ok-clause-works g c = λ left t told whole.
@@ -25,10 +30,10 @@ returns-in-Ok-clause-works g c = λ left t told whole.
     let new : Outside = record { told = g.D.Disk.told c.work-worked.new.disk; left = left; written = g.W.Sink.written c.tell.new.sink } in
     let clients : c.summary.result.layout.clients ≡ layout.clients = ap (λ (x : Summary). x.layout.clients) c.summary.ensures ∙ ap (λ (l : Layout). l.clients) c.in-Ok.ensures.kept in
     let begins : c.new-generator.result ≡ start c.args.seed c.args.count layout.clients = c.new-generator.ensures ∙ ap (λ (n : ℕ). start c.args.seed c.args.count n) clients in
-    let comes = subst (λ (r : Run). Comes r s (g.D.Disk.told c.open.new.disk) c.work-worked.new.generator c.work-worked.new.replica (g.D.Disk.told c.work-worked.new.disk) c.work-worked.result) begins c.work-worked.ensures.comes in (
+    let comes = subst (λ (r : Run). Comes r s (g.D.Disk.told c.open.new.disk) c.work-worked.new.run.generator c.work-worked.new.run.replica (g.D.Disk.told c.work-worked.new.disk) c.work-worked.result) begins c.work-worked.ensures.comes in (
       tt,
-      inr (inr (works_through c.args.seed c.args.count layout t old new status s (g.D.Disk.told c.open.new.disk) whole told refl c.in-Ok.ensures.live c.in-Ok.ensures.kept (c.in-Ok.ensures.opened t told) c.work-worked.new.generator c.work-worked.new.replica
-          (ends_run (start c.args.seed c.args.count layout.clients) s (g.D.Disk.told c.open.new.disk) c.work-worked.new.generator c.work-worked.new.replica (g.D.Disk.told c.work-worked.new.disk) (g.W.Sink.written c.args.sink.now) (g.W.Sink.written c.tell.new.sink) status c.work-worked.result comes
+      inr (inr (works_through c.args.seed c.args.count layout t old new status s (g.D.Disk.told c.open.new.disk) whole told refl c.in-Ok.ensures.live c.in-Ok.ensures.kept (c.in-Ok.ensures.opened t told) c.work-worked.new.run.generator c.work-worked.new.run.replica
+          (ends_run (start c.args.seed c.args.count layout.clients) s (g.D.Disk.told c.open.new.disk) c.work-worked.new.run.generator c.work-worked.new.run.replica (g.D.Disk.told c.work-worked.new.disk) (g.W.Sink.written c.args.sink.now) (g.W.Sink.written c.tell.new.sink) status c.work-worked.result comes
           c.work-worked.ensures.over c.tell.ensures.prints))),
     )
 
@@ -40,16 +45,16 @@ returns-clause-works g c = λ left t told whole.
 
 pub returns-in-Ok-clause-causes : goal.returns-in-Ok-clause-causes
 returns-in-Ok-clause-causes g c = λ source.
-    run_causes c.work-worked.new.generator c.work-worked.new.replica c.work-worked.result (g.D.Disk.faults c.args.disk.now) (g.D.Disk.faults c.work-worked.new.disk) source (g.W.Sink.faults c.args.sink.now) (g.W.Sink.faults c.tell.new.sink) (g.W.Sink.written c.args.sink.now) (g.W.Sink.written c.tell.new.sink)
+    run_causes c.work-worked.new.run.generator c.work-worked.new.run.replica c.work-worked.result (g.D.Disk.faults c.args.disk.now) (g.D.Disk.faults c.work-worked.new.disk) source (g.W.Sink.faults c.args.sink.now) (g.W.Sink.faults c.tell.new.sink) (g.W.Sink.written c.args.sink.now) (g.W.Sink.written c.tell.new.sink)
     c.tell.result c.tell.ensures.prints (subst (λ (n : ℕ). IsBlamed is_disk n (g.D.Disk.faults c.work-worked.new.disk) c.work-worked.result) c.in-Ok.ensures.cause c.work-worked.ensures.disk) c.tell.ensures.sink
 
 pub returns-clause-causes : goal.returns-clause-causes
 returns-clause-causes g c = λ source.
-    open_causes (g.D.Disk.faults c.args.disk.now) (g.D.Disk.faults c.open.new.disk) source (g.W.Sink.faults c.args.sink.now) (g.W.Sink.faults c.refuse_file.new.sink) (g.W.Sink.written c.args.sink.now) (g.W.Sink.written c.refuse_file.new.sink)
+    refused_causes (g.D.Disk.faults c.args.disk.now) (g.D.Disk.faults c.open.new.disk) source (g.W.Sink.faults c.args.sink.now) (g.W.Sink.faults c.refuse_file.new.sink) (g.W.Sink.written c.args.sink.now) (g.W.Sink.written c.refuse_file.new.sink)
     c.refuse_file.result State c.in-Err.error c.in-Err.ensures.cause c.refuse_file.ensures.prints c.refuse_file.ensures.sink
 
 pub returns-in-Ok-clause-ends : goal.returns-in-Ok-clause-ends
-returns-in-Ok-clause-ends g c = run_never c.work-worked.new.generator c.work-worked.new.replica c.work-worked.result (g.W.Sink.written c.args.sink.now) (g.W.Sink.written c.tell.new.sink) c.tell.result c.tell.ensures.prints
+returns-in-Ok-clause-ends g c = run_never c.work-worked.new.run.generator c.work-worked.new.run.replica c.work-worked.result (g.W.Sink.written c.args.sink.now) (g.W.Sink.written c.tell.new.sink) c.tell.result c.tell.ensures.prints
 
 pub returns-clause-ends : goal.returns-clause-ends
 returns-clause-ends g c = refused_never c.in-Err.error (g.W.Sink.written c.args.sink.now) (g.W.Sink.written c.refuse_file.new.sink) c.refuse_file.result c.refuse_file.ensures.prints

@@ -1,0 +1,64 @@
+-- Which disk an ending blames, and what is left where a call is Ok.
+use Rattle.std.proofs.Common.{◌≡◌, ◌∙◌, ℕ, Result, Ok, Err, refl, subst}
+use Rattle.std.specs.Prelude.{OnOk}
+use Rattle.df_base.specs.Causes.{Blamed, IsBlamed}
+use Rattle.df_model.specs.Faults.{is_lookup_fault, is_read_fault}
+use Rattle.df_model.specs.declared.reading.LookupError.{LookupError}
+use Rattle.df_model.specs.declared.reading.LookupError.TheVariants as lookup
+use Rattle.df_model.specs.declared.reading.ReadError.{ReadError}
+use Rattle.df_model.specs.declared.reading.ReadError.TheVariants as read
+use Rattle.df_copy.specs.declared.ending.Ending.{Ending}
+use Rattle.df_copy.specs.declared.ending.Ending.TheVariants.{BlockTooLong, Damaged, NotAtRest, NotBlank, ReplyTooLong, Source, Target, TooFewBlocks, TooFewClients}
+use Rattle.df_copy.specs.Acts.{Beside, Leaves}
+use Rattle.df_copy.specs.Statuses.{block_ending, is_source, is_target, reply_ending}
+
+pub on_ok : {T : Type 0} {P : Type 0} (r : Result T Ending) → P → OnOk r P
+on_ok (Ok x) p = p
+on_ok (Err e) p = tt
+
+-- what doesn't end by the source's disk blames it for nothing
+pub unblamed : {T : Type 0} (r : Result T Ending) (before now : ℕ) → (r ≡ Err Source → ⊥) → now ≡ before → IsBlamed is_source before now r
+unblamed (Ok x) before now other same = same
+unblamed (Err Source) before now other same = absurd (other refl)
+unblamed (Err Target) before now other same = same
+unblamed (Err (NotAtRest a b c)) before now other same = same
+unblamed (Err (TooFewClients a b)) before now other same = same
+unblamed (Err (TooFewBlocks a b)) before now other same = same
+unblamed (Err (NotBlank a)) before now other same = same
+unblamed (Err (ReplyTooLong a b)) before now other same = same
+unblamed (Err (BlockTooLong a b)) before now other same = same
+unblamed (Err (Damaged a b)) before now other same = same
+
+-- a read that fails blames it exactly where its disk failed, and never the target's
+module _ (before now : ℕ) where
+  pub block_blamed : (e : ReadError) → (e ≡ read.NotLive → ⊥) → Blamed (is_read_fault e) before now → Blamed (is_source (block_ending e)) before now
+  block_blamed read.DiskFault live blamed = blamed
+  block_blamed (read.Damaged at class) live blamed = blamed
+  block_blamed read.NotLive live blamed = absurd (live refl)
+
+  pub reply_blamed : (e : LookupError) → (e ≡ lookup.NoClient → ⊥) → ((op : ℕ) → e ≡ lookup.ReplyPending op → ⊥) → Blamed (is_lookup_fault e) before now → Blamed (is_source (reply_ending e)) before now
+  reply_blamed lookup.DiskFault known stored blamed = blamed
+  reply_blamed (lookup.Damaged at class) known stored blamed = blamed
+  reply_blamed lookup.NoClient known stored blamed = absurd (known refl)
+  reply_blamed (lookup.ReplyPending op) known stored blamed = absurd (stored op refl)
+
+pub block_spares : (e : ReadError) (count : ℕ) → Blamed (is_target (block_ending e)) count count
+block_spares read.DiskFault count = refl
+block_spares (read.Damaged at class) count = refl
+block_spares read.NotLive count = refl
+
+pub reply_spares : (e : LookupError) (count : ℕ) → Blamed (is_target (reply_ending e)) count count
+reply_spares lookup.DiskFault count = refl
+reply_spares (lookup.Damaged at class) count = refl
+reply_spares lookup.NoClient count = refl
+reply_spares (lookup.ReplyPending op) count = refl
+
+-- what one call leaves and then another, behind one that is Ok
+pub leaves_then : {T U : Type 0} (a b c : Beside) (x : U) (r : Result T Ending) → Leaves {T = U} a b (Ok x) → Leaves b c r → Leaves a c r
+leaves_then a b c x (Ok y) first behind = record { kept = behind.kept ∙ first.kept; same = behind.same ∙ first.same; blames_source = behind.blames_source ∙ first.blames_source; blames_target = behind.blames_target ∙ first.blames_target }
+leaves_then a b c x (Err e) first behind = record {
+  kept = tt;
+  same = behind.same ∙ first.same;
+  blames_source = subst (λ (n : ℕ). Blamed (is_source e) n c.faults) first.blames_source behind.blames_source;
+  blames_target = subst (λ (n : ℕ). Blamed (is_target e) n c.target_faults) first.blames_target behind.blames_target;
+}

@@ -1,0 +1,161 @@
+-- What the status of a copy blames, and what becomes of a source that isn't opened.
+use Rattle.std.proofs.Common.{◌≡◌, inl, inr, ℕ, ◌<◌, ◌≤◌, Bool, true, false, List, [], ◌∷◌, length, map, Option, Some, None, Err, refl, sym, ◌∙◌, ap, subst, arith}
+use Rattle.std.specs.Prelude.{IfNone, get_or}
+use Rattle.df_base.specs.Causes.{Blamed, IsBlamed, Rose}
+use Rattle.df_base.specs.Image.{IsImage}
+use Rattle.df_base.specs.Log.{Sync}
+use Rattle.df_disk.specs.Told.{Told, after}
+use Rattle.df_inspect.specs.Opening.{open_refusal}
+use Rattle.df_layout.specs.declared.layout.Layout.{Layout}
+use Rattle.df_model.specs.declared.errors.OpenError.{OpenError}
+use Rattle.df_model.specs.declared.errors.OpenError.TheVariants as opens
+use Rattle.df_model.specs.Faults.{is_open_fault}
+use Rattle.df_opening.specs.Below.{Refuses, TellsLayout}
+use Rattle.df_opening.specs.Opened.{StopsOpening}
+use Rattle.df_opening.specs.Surveying.{TellsSurvey}
+use Rattle.df_telling.specs.Telling.{Blames, PrintsError, Writes}
+use Rattle.df_telling.specs.Two.{Faults, HasCauses, Outside}
+use Rattle.df_telling.proofs.Laws.{open_fault, refusal_ends, text_ends}
+use Rattle.df_words.specs.Names.{NamesLayout, OneLayout}
+use Rattle.df_copy.specs.declared.ending.Ending.{Ending}
+use Rattle.df_copy.specs.declared.ending.Ending.TheVariants.{BlockTooLong, Damaged, NotAtRest, NotBlank, ReplyTooLong, Source, Target, TooFewBlocks, TooFewClients}
+use Rattle.df_copy.specs.declared.status.Status.{Status}
+use Rattle.df_copy.specs.declared.status.Status.TheVariants as ends
+use Rattle.df_copy.specs.Run.{Does, Means, MeansNothing, Outcome, Prints}
+use Rattle.df_copy.specs.Statuses.{EndsWithFiles, is_fault, is_source, is_target}
+use Rattle.df_copy.specs.Texts.{ending_text}
+
+-- ---- one of the two disks, or neither
+
+module _ (before now : Faults) (old new : Option (List ℕ)) (status : Status) (blame : Blames ends.WriteFault before.sink now.sink status) where
+  abbrev Causes : Type 0
+  Causes = HasCauses ends.DiskFault ends.WriteFault before now status
+
+  -- a text was printed
+  pub printed_causes : (text : List ℕ) (given : Status) → (given ≡ ends.DiskFault → ⊥) → now.first ≡ before.first → now.second ≡ before.second → Writes ends.WriteFault text given old new status → Causes
+  printed_causes text given other one two printed = record {
+    by_disks = record {
+      rose = λ is. absurd (text_ends ends.WriteFault text given ends.DiskFault old new status printed other (λ no. cc) is);
+      later = (omega (arith, one), omega (arith, two));
+      same = λ no. (one, two);
+    };
+    by_sink = blame;
+  }
+
+  -- the source's disk failed
+  pub first_causes : status ≡ ends.DiskFault → (before.first ≤ now.first) × Rose before.first now.first → now.second ≡ before.second → Causes
+  first_causes is rose two = record { by_disks = record { rose = λ yes. inl rose.1; later = (rose.0, omega (arith, two)); same = λ no. absurd (no is) }; by_sink = blame }
+
+  -- or the target's
+  second_causes : status ≡ ends.DiskFault → now.first ≡ before.first → (before.second ≤ now.second) × Rose before.second now.second → Causes
+  second_causes is one rose = record { by_disks = record { rose = λ yes. inr rose.1; later = (omega (arith, one), rose.0); same = λ no. absurd (no is) }; by_sink = blame }
+
+  -- a source isn't opened
+  pub open_causes : (T : Type 0) (e : OpenError) → IsBlamed {T = T} is_open_fault before.first now.first (Err e) → now.second ≡ before.second → PrintsError ends.Refused ends.DiskFault ends.WriteFault e old new status → Causes
+  open_causes T e blamed two prints = elim (open_fault e) [
+    | inl fault ↦ first_causes (prints.failing fault).0 (subst (λ (x : OpenError). Blamed (is_open_fault x) before.first now.first) fault blamed) two
+    | inr other ↦ printed_causes (open_refusal e) ends.Refused (λ no. cc) (subst (λ (b : Bool). Blamed b before.first now.first) other.1 blamed) two (prints.other other.0)
+  ]
+
+  -- no copy is made, or none whole
+  pub ending_causes : (e : Ending) → Blamed (is_source e) before.first now.first → Blamed (is_target e) before.second now.second → (is_fault e ≡ false → Writes ends.WriteFault (ending_text e) ends.Refused old new status)
+      → (is_fault e ≡ true → (status ≡ ends.DiskFault) × (new ≡ old)) → Causes
+  ending_causes Source one two refused fault = first_causes (fault refl).0 one two
+  ending_causes Target one two refused fault = second_causes (fault refl).0 one two
+  ending_causes (NotAtRest a b c) one two refused fault = printed_causes (ending_text (NotAtRest a b c)) ends.Refused (λ no. cc) one two (refused refl)
+  ending_causes (TooFewClients a b) one two refused fault = printed_causes (ending_text (TooFewClients a b)) ends.Refused (λ no. cc) one two (refused refl)
+  ending_causes (TooFewBlocks a b) one two refused fault = printed_causes (ending_text (TooFewBlocks a b)) ends.Refused (λ no. cc) one two (refused refl)
+  ending_causes (NotBlank a) one two refused fault = printed_causes (ending_text (NotBlank a)) ends.Refused (λ no. cc) one two (refused refl)
+  ending_causes (ReplyTooLong a b) one two refused fault = printed_causes (ending_text (ReplyTooLong a b)) ends.Refused (λ no. cc) one two (refused refl)
+  ending_causes (BlockTooLong a b) one two refused fault = printed_causes (ending_text (BlockTooLong a b)) ends.Refused (λ no. cc) one two (refused refl)
+  ending_causes (Damaged a b) one two refused fault = printed_causes (ending_text (Damaged a b)) ends.Refused (λ no. cc) one two (refused refl)
+
+-- ---- what is printed, and how it ends
+
+module _ (old new : Option (List ℕ)) (status : Status) where
+  -- of a copy that was made
+  pub copied_ends : (text : List ℕ) → Writes ends.WriteFault text ends.Done old new status → EndsWithFiles status
+  copied_ends text printed = (text_ends ends.WriteFault text ends.Done ends.Memory old new status printed (λ no. cc) (λ no. cc), text_ends ends.WriteFault text ends.Done ends.Words old new status printed (λ no. cc) (λ no. cc))
+
+  pub refused_ends : (e : OpenError) → PrintsError ends.Refused ends.DiskFault ends.WriteFault e old new status → EndsWithFiles status
+  refused_ends e prints = (
+    refusal_ends ends.Refused ends.DiskFault ends.WriteFault ends.Memory e old new status prints (λ no. cc) (λ no. cc) (λ no. cc),
+    refusal_ends ends.Refused ends.DiskFault ends.WriteFault ends.Words e old new status prints (λ no. cc) (λ no. cc) (λ no. cc),
+  )
+
+  -- and of one that wasn't
+  pub ending_prints : (T : Type 0) (layout : Layout) (e : Ending) → (is_fault e ≡ false → Writes ends.WriteFault (ending_text e) ends.Refused old new status) → (is_fault e ≡ true → (status ≡ ends.DiskFault) × (new ≡ old)) → Prints {T = T} layout (Err e) old new status
+  ending_prints T layout Source refused fault = fault refl
+  ending_prints T layout Target refused fault = fault refl
+  ending_prints T layout (NotAtRest a b c) refused fault = refused refl
+  ending_prints T layout (TooFewClients a b) refused fault = refused refl
+  ending_prints T layout (TooFewBlocks a b) refused fault = refused refl
+  ending_prints T layout (NotBlank a) refused fault = refused refl
+  ending_prints T layout (ReplyTooLong a b) refused fault = refused refl
+  ending_prints T layout (BlockTooLong a b) refused fault = refused refl
+  ending_prints T layout (Damaged a b) refused fault = refused refl
+
+  by_ending : (b : Bool) (text : List ℕ) → (b ≡ false → Writes ends.WriteFault text ends.Refused old new status) → (b ≡ true → (status ≡ ends.DiskFault) × (new ≡ old)) → EndsWithFiles status
+  by_ending true text refused fault = let is = (fault refl).0 in (λ memory. cc (is, memory), λ words. cc (is, words))
+  by_ending false text refused fault = (text_ends ends.WriteFault text ends.Refused ends.Memory old new status (refused refl) (λ no. cc) (λ no. cc), text_ends ends.WriteFault text ends.Refused ends.Words old new status (refused refl) (λ no. cc) (λ no. cc))
+
+  pub ending_ends : (e : Ending) → (is_fault e ≡ false → Writes ends.WriteFault (ending_text e) ends.Refused old new status) → (is_fault e ≡ true → (status ≡ ends.DiskFault) × (new ≡ old)) → EndsWithFiles status
+  ending_ends e refused fault = by_ending (is_fault e) (ending_text e) refused fault
+
+-- ---- a source that isn't opened
+
+pub not_opened : (layout own : Layout) (t : Told) (old new : Outside) (status : Status) (e : OpenError) → IsImage t.shown → old.first ≡ Some t → TellsSurvey own old.first (Err e) → new.second ≡ old.second → ((e ≡ opens.DiskFault → ⊥) → new.first ≡ after Sync old.first)
+    → (IsImage t.shown → e ≡ opens.DiskFault → StopsOpening own t new.first) → PrintsError ends.Refused ends.DiskFault ends.WriteFault e old.written new.written status → Does layout own t old new status
+not_opened layout own t old new status e whole told answer silent barrier stops prints = elim (open_fault e) [
+  | inl fault ↦ inr (inl (record { fault = (prints.failing fault).0; silent = record { second = silent; written = (prints.failing fault).1 }; disk = stops whole fault }))
+  | inr other ↦ inl (record {
+    error = e;
+    why = (subst (λ (o : Option Told). TellsSurvey own o (Err e)) told answer) whole;
+    other = other.0;
+    prints = prints.other other.0;
+    second = silent;
+    first = barrier other.0 ∙ ap (after Sync) told;
+  })
+]
+
+-- what a probe says of a refusal
+probe_refuses : (t : Told) (e : OpenError) → (e ≡ opens.DiskFault → ⊥) → TellsLayout (Some t) (Err e) → Refuses t.shown e
+probe_refuses t opens.DiskFault other tells = absurd (other refl)
+probe_refuses t opens.NotFormatted other tells = tells
+probe_refuses t (opens.NoQuorum a) other tells = tells
+probe_refuses t (opens.Version a) other tells = tells
+probe_refuses t (opens.BadField a b) other tells = tells
+probe_refuses t (opens.LayoutDiffers a b) other tells = absurd tells
+probe_refuses t (opens.Damaged a b) other tells = absurd tells
+probe_refuses t opens.BootSpent other tells = absurd tells
+
+pub not_probed : (layout : Layout) (t : Told) (old new : Outside) (status : Status) (e : OpenError) → old.first ≡ Some t → TellsLayout old.first (Err e) → new.first ≡ old.first → new.second ≡ old.second
+    → PrintsError ends.Refused ends.DiskFault ends.WriteFault e old.written new.written status → Outcome layout t old new status
+not_probed layout t old new status e told answer same silent prints = elim (open_fault e) [
+  | inl fault ↦ inl ((λ i. record { first = same i; second = silent i; written = (prints.failing fault).1 i }), inr (prints.failing fault).0)
+  | inr other ↦ inr (inl (record {
+    error = e;
+    why = probe_refuses t e other.0 (subst (λ (o : Option Told). TellsLayout o (Err e)) told answer);
+    other = other.0;
+    prints = prints.other other.0;
+    second = silent;
+    first = same;
+  }))
+]
+
+-- ---- words
+
+pub one_meaning : (words : List (List ℕ)) (layout other : Layout) → OneLayout → Means words layout → Means words other → layout ≡ other
+one_meaning words layout other one m n =
+    let same : m.0 ≡ n.0 = ap (λ (ws : List (List ℕ)). get_or ws 0 []) (sym m.1 ∙ n.1) in
+    one n.0 layout other (subst (λ (name : List ℕ). NamesLayout name layout) same m.2) n.2
+
+-- one word is the name
+pub one_name : {X : Type 0} (bytes : X → List ℕ) (words : List X) (word : X) (name : List ℕ) (r : Option Layout) → word ≡ get_or words 0 word → 1 ≤ length words → length words < 2 → name ≡ bytes word
+    → IfNone r ((layout : Layout) → NamesLayout name layout → ⊥) → IfNone r (MeansNothing (map bytes words))
+one_name bytes words word name (Some layout) at least below is none = tt
+one_name bytes [] word name None at least below is none = absurd (omega (arith, least))
+one_name bytes (w ∷ v ∷ words) word name None at least below is none = absurd (omega (arith, below))
+one_name bytes (w ∷ []) word name None at least below is none = λ layout means.
+    let same : means.0 ≡ name = ap (λ (ws : List (List ℕ)). get_or ws 0 []) (sym means.1) ∙ ap bytes (sym at) ∙ sym is in
+    none layout (subst (λ (n : List ℕ). NamesLayout n layout) same means.2)

@@ -1,0 +1,296 @@
+-- The parts of a copy, one behind the other: what is written in all, and which refusal it is.
+use Rattle.std.proofs.Common.{◌≡◌, ◌⊎◌, inl, inr, ℕ, List, [], ◌∷◌, ◌++◌, length, Option, Some, None, Result, Ok, Err, refl, sym, ◌∙◌, ap, subst, append_assoc}
+use Rattle.std.specs.Prelude.{IfErr}
+use Rattle.std.proofs.lemmas.List.{append-nil}
+use Rattle.df_base.specs.Image.{Image}
+use Rattle.df_base.specs.Log.{Event}
+use Rattle.df_disk.specs.Told.{Told}
+use Rattle.df_disk.specs.Adds.{AddsPart, after_all}
+use Rattle.df_disk.proofs.Laws.{after_append, all_then, part_then}
+use Rattle.df_layout.specs.declared.layout.Layout.{Layout}
+use Rattle.df_format.specs.Message.{Message}
+use Rattle.df_grid.specs.Writes.{made_events}
+use Rattle.df_model.specs.Refusals.{first_refusal}
+use Rattle.df_model.specs.Supply.{Shown}
+use Rattle.df_model.proofs.Laws.{behind_decides, first_refuses}
+use Rattle.df_opening.specs.Below.{State, memory}
+use Rattle.df_copy.specs.declared.ending.Ending.{Ending}
+use Rattle.df_copy.specs.declared.ending.Ending.TheVariants.{BlockTooLong, Damaged, NotAtRest, NotBlank, ReplyTooLong, Source, Target as TargetFails, TooFewBlocks, TooFewClients}
+use Rattle.df_copy.specs.declared.target.Target.{Target}
+use Rattle.df_copy.specs.Acts.{CopiesBlocks, CopiesReplies, FitBlocks, FitReplies}
+use Rattle.df_copy.specs.Copying.{BeginsTarget, Copied, CopiesInto, CopiesPlanned, CopiesUnits, Finishes, IsAll, IsJudged, Judges, OverTold, PassesTo, units_written}
+use Rattle.df_copy.specs.Targets.{IsTarget, KeepsGrid, copy_events, ring_events, superblock_events, trailer_of, unit_events}
+use Rattle.df_copy.specs.Tests.{blank_tests, block_tests, references, reply_tests, rest_tests, tests, unit_tests}
+use Rattle.df_copy.specs.Units.{OverShown, all_events, moved_from, reply_events}
+use Rattle.df_copy.proofs.Listed.{over_all, over_both, over_by}
+
+-- ---- replies and blocks
+
+module _ (layout : Layout) (s : State) (from : Option Told) where
+  no_blocks_fit : FitBlocks layout s from []
+  no_blocks_fit = record { are = record { each = λ i u at. absurd (cc) }; fit = λ i u at. absurd (cc) }
+
+  no_replies_fit : FitReplies layout s from []
+  no_replies_fit = record { are = record { each = λ i u at. absurd (cc) }; fit = λ i u at. absurd (cc) }
+
+  abbrev only_replies : (rs : List Message) → FitReplies layout s from rs → Copied layout s from
+  only_replies rs fit = record { replies = rs; blocks = []; are_replies = fit; are_blocks = no_blocks_fit; in_order = inl refl }
+
+  abbrev with_blocks : (rs bs : List Message) → FitReplies layout s from rs → length rs ≡ length s.table.sessions → FitBlocks layout s from bs → Copied layout s from
+  with_blocks rs bs fit all fits = record { replies = rs; blocks = bs; are_replies = fit; are_blocks = fits; in_order = inr all }
+
+  no_more : (rs : List Message) → units_written layout rs [] ≡ all_events (reply_events layout) rs
+  no_more rs = append-nil (all_events (reply_events layout) rs)
+
+  replies_only : (rs : List Message) (old new : Option Told) → new ≡ after_all (all_events (reply_events layout) rs) old → new ≡ after_all (units_written layout rs []) old
+  replies_only rs old new is = is ∙ ap (λ (l : List Event). after_all l old) (sym (no_more rs))
+
+  then_blocks : (rs bs : List Message) (old mid new : Option Told) → mid ≡ after_all (all_events (reply_events layout) rs) old → new ≡ after_all (all_events (made_events layout) (moved_from 1 bs)) mid → new ≡ after_all (units_written layout rs bs) old
+  then_blocks rs bs old mid new first second = second ∙ ap (after_all (all_events (made_events layout) (moved_from 1 bs))) first ∙ sym (after_append (all_events (reply_events layout) rs) (all_events (made_events layout) (moved_from 1 bs)) old)
+
+module _ (T : Type 0) (s : State) (t n : Target) (from old : Option Told) where
+  -- the copy ends in the replies
+  replies_refused : (e : Ending) (new : Option Told) → OverShown s.file from (λ shown. first_refusal (reply_tests t.layout shown (memory s)) ≡ Some e) × (rs : List Message) × FitReplies t.layout s from rs × (new ≡ after_all (all_events (reply_events t.layout) rs) old)
+      → OverShown s.file from (λ shown. first_refusal (unit_tests t.layout shown (memory s)) ≡ Some e) × (c : Copied t.layout s from) × (new ≡ after_all (units_written t.layout c.replies c.blocks) old)
+  replies_refused e new copies = (
+    over_by s.file from (λ shown. first_refusal (reply_tests t.layout shown (memory s)) ≡ Some e) (λ shown. first_refusal (unit_tests t.layout shown (memory s)) ≡ Some e) copies.0
+        (λ shown is. first_refuses (reply_tests t.layout shown (memory s)) (block_tests t.layout shown (memory s)) e is),
+    only_replies t.layout s from copies.1 copies.2,
+    replies_only t.layout s from copies.1 old new copies.3,
+  )
+
+  pub units_stop : (checks : List (List ℕ)) (new : Option Told) (e : Ending) → CopiesReplies {T = T} t.layout s checks from old new (Err e) → CopiesUnits {T = T} s t n from old new (Err e)
+  units_stop checks new TargetFails copies = (only_replies t.layout s from copies.0 copies.1, part_then (all_events (reply_events t.layout) copies.0) [] old new copies.2)
+  units_stop checks new Source copies = (only_replies t.layout s from copies.0 copies.1, replies_only t.layout s from copies.0 old new copies.2)
+  units_stop checks new (NotAtRest a b c) copies = replies_refused (NotAtRest a b c) new copies
+  units_stop checks new (TooFewClients a b) copies = replies_refused (TooFewClients a b) new copies
+  units_stop checks new (TooFewBlocks a b) copies = replies_refused (TooFewBlocks a b) new copies
+  units_stop checks new (NotBlank a) copies = replies_refused (NotBlank a) new copies
+  units_stop checks new (ReplyTooLong a b) copies = replies_refused (ReplyTooLong a b) new copies
+  units_stop checks new (BlockTooLong a b) copies = replies_refused (BlockTooLong a b) new copies
+  units_stop checks new (Damaged a b) copies = replies_refused (Damaged a b) new copies
+
+  -- or goes on with the blocks
+  module _ (mid : Option Told) (rs : List Message) (fit : FitReplies t.layout s from rs) (all : length rs ≡ length s.table.sessions) (first : mid ≡ after_all (all_events (reply_events t.layout) rs) old)
+      (none : OverShown s.file from (λ shown. first_refusal (reply_tests t.layout shown (memory s)) ≡ None)) where
+    blocks_refused : (e : Ending) (new : Option Told) → OverShown s.file from (λ shown. first_refusal (block_tests t.layout shown (memory s)) ≡ Some e) × (bs : List Message) × FitBlocks t.layout s from bs × (new ≡ after_all (all_events (made_events t.layout) (moved_from 1 bs)) mid)
+        → OverShown s.file from (λ shown. first_refusal (unit_tests t.layout shown (memory s)) ≡ Some e) × (c : Copied t.layout s from) × (new ≡ after_all (units_written t.layout c.replies c.blocks) old)
+    blocks_refused e new copies = (
+      over_both s.file from (λ shown. first_refusal (reply_tests t.layout shown (memory s)) ≡ None) (λ shown. first_refusal (block_tests t.layout shown (memory s)) ≡ Some e) (λ shown. first_refusal (unit_tests t.layout shown (memory s)) ≡ Some e) none copies.0
+          (λ shown passed is. behind_decides (reply_tests t.layout shown (memory s)) (block_tests t.layout shown (memory s)) passed ∙ is),
+      with_blocks t.layout s from rs copies.1 fit all copies.2,
+      then_blocks t.layout s from rs copies.1 old mid new first copies.3,
+    )
+
+    pub units_go : (new : Option Told) (r : Result T Ending) → CopiesBlocks t.layout s rs n from mid new r → CopiesUnits s t n from old new r
+    units_go new (Ok x) copies = (
+      with_blocks t.layout s from rs copies.0 fit all copies.1,
+      record { replies = all; blocks = copies.2 },
+      then_blocks t.layout s from rs copies.0 old mid new first copies.3,
+      copies.4,
+      over_both s.file from (λ shown. first_refusal (reply_tests t.layout shown (memory s)) ≡ None) (λ shown. first_refusal (block_tests t.layout shown (memory s)) ≡ None) (λ shown. first_refusal (unit_tests t.layout shown (memory s)) ≡ None) none copies.5
+          (λ shown passed is. behind_decides (reply_tests t.layout shown (memory s)) (block_tests t.layout shown (memory s)) passed ∙ is),
+    )
+    units_go new (Err TargetFails) copies =
+        (with_blocks t.layout s from rs copies.0 fit all copies.1, all_then (all_events (reply_events t.layout) rs) (all_events (made_events t.layout) (moved_from 1 copies.0)) old mid new first copies.2)
+    units_go new (Err Source) copies = (with_blocks t.layout s from rs copies.0 fit all copies.1, then_blocks t.layout s from rs copies.0 old mid new first copies.2)
+    units_go new (Err (NotAtRest a b c)) copies = blocks_refused (NotAtRest a b c) new copies
+    units_go new (Err (TooFewClients a b)) copies = blocks_refused (TooFewClients a b) new copies
+    units_go new (Err (TooFewBlocks a b)) copies = blocks_refused (TooFewBlocks a b) new copies
+    units_go new (Err (NotBlank a)) copies = blocks_refused (NotBlank a) new copies
+    units_go new (Err (ReplyTooLong a b)) copies = blocks_refused (ReplyTooLong a b) new copies
+    units_go new (Err (BlockTooLong a b)) copies = blocks_refused (BlockTooLong a b) new copies
+    units_go new (Err (Damaged a b)) copies = blocks_refused (Damaged a b) new copies
+
+-- the replies were copied, by calls that leave the source as it was
+pub units_join : {T U : Type 0} (s kept : State) (t mid n : Target) (from same old written new : Option Told) (x : U) (r : Result T Ending) → kept ≡ s → same ≡ from → KeepsGrid t mid → IsTarget t.layout s.file.cluster [] [] t
+    → CopiesReplies t.layout s mid.checks from old written (Ok x) → ((rs : List Message) → IsTarget mid.layout kept.file.cluster rs [] mid → CopiesBlocks mid.layout kept rs n same written new r) → CopiesUnits s t n from old new r
+units_join {T = T} s kept t mid n from same old written new x r state told keeps begun first blocks =
+    let rs : List Message = first.0 in
+    let onward : (rs : List Message) → IsTarget t.layout s.file.cluster rs [] mid → CopiesBlocks t.layout s rs n from written new r =
+    subst (λ (l : Layout). (rs : List Message) → IsTarget l s.file.cluster rs [] mid → CopiesBlocks l s rs n from written new r) keeps.layout_is
+    (subst (λ (q : State). (rs : List Message) → IsTarget mid.layout q.file.cluster rs [] mid → CopiesBlocks mid.layout q rs n from written new r) state
+    (subst (λ (f : Option Told). (rs : List Message) → IsTarget mid.layout kept.file.cluster rs [] mid → CopiesBlocks mid.layout kept rs n f written new r) told blocks)) in
+    let is : IsTarget t.layout s.file.cluster rs [] mid = record { layout_is = keeps.layout_is; grid = keeps.grid ∙ begun.grid; checks = first.4; copied = keeps.copied ∙ begun.copied } in
+    units_go T s t n from old written rs first.1 first.2 first.3 first.5 new r (onward rs is)
+
+-- ---- the ring before them, and the trailer and the superblock behind
+
+pub over_told : (told : Option Told) (P Q : Image → Type 0) → OverTold told P → ((image : Image) → P image → Q image) → OverTold told Q
+over_told None P Q is f = tt
+over_told (Some o) P Q is f = f o.shown is
+
+pub told_all : (told : Option Told) (P : Image → Type 0) → ((image : Image) → P image) → OverTold told P
+told_all None P f = tt
+told_all (Some o) P f = f o.shown
+
+module _ (T : Type 0) (layout : Layout) (s : State) (from old : Option Told) where
+  abbrev cluster : ℕ
+  cluster = s.file.cluster
+
+  -- both kinds of tests, behind each other
+  planned_refused : (e : Ending) → OverTold old (λ image. first_refusal (blank_tests image) ≡ None) → OverShown s.file from (λ shown. first_refusal (unit_tests layout shown (memory s)) ≡ Some e)
+      → OverTold old (λ image. OverShown s.file from (λ shown. first_refusal (blank_tests image ++ unit_tests layout shown (memory s)) ≡ Some e))
+  planned_refused e blank is =
+      over_told old (λ image. first_refusal (blank_tests image) ≡ None) (λ image. OverShown s.file from (λ shown. first_refusal (blank_tests image ++ unit_tests layout shown (memory s)) ≡ Some e)) blank
+      (λ image passed. over_by s.file from (λ shown. first_refusal (unit_tests layout shown (memory s)) ≡ Some e) (λ shown. first_refusal (blank_tests image ++ unit_tests layout shown (memory s)) ≡ Some e) is
+      (λ shown refused. behind_decides (blank_tests image) (unit_tests layout shown (memory s)) passed ∙ refused))
+
+  -- nothing is begun
+  begun_refused : (e : Ending) → OverTold old (λ image. first_refusal (blank_tests image) ≡ Some e) → OverTold old (λ image. OverShown s.file from (λ shown. first_refusal (blank_tests image ++ unit_tests layout shown (memory s)) ≡ Some e))
+  begun_refused e is =
+      over_told old (λ image. first_refusal (blank_tests image) ≡ Some e) (λ image. OverShown s.file from (λ shown. first_refusal (blank_tests image ++ unit_tests layout shown (memory s)) ≡ Some e)) is
+      (λ image refused. over_all s.file from (λ shown. first_refusal (blank_tests image ++ unit_tests layout shown (memory s)) ≡ Some e) (λ shown. first_refuses (blank_tests image) (unit_tests layout shown (memory s)) e refused))
+
+  abbrev nothing : Copied layout s from
+  nothing = record { replies = []; blocks = []; are_replies = no_replies_fit layout s from; are_blocks = no_blocks_fit layout s from; in_order = inl refl }
+
+  silent : OverTold old (λ image. OverShown s.file from (λ shown. Unit {0}))
+  silent = told_all old (λ image. OverShown s.file from (λ shown. Unit {0})) (λ image. over_all s.file from (λ shown. Unit {0}) (λ shown. tt))
+
+  pub planned_stop : (new : Option Told) (e : Ending) → BeginsTarget {T = T} layout cluster old new (Err e) → CopiesPlanned {T = T} layout s from old new (Err e)
+  planned_stop new TargetFails begins = record { writes = (nothing, inl (part_then (ring_events layout cluster) (units_written layout [] []) old new begins)); judged = silent }
+  planned_stop new Source begins = absurd begins
+  planned_stop new (NotAtRest a b c) begins = record { writes = inl begins.0; judged = begun_refused (NotAtRest a b c) begins.1 }
+  planned_stop new (TooFewClients a b) begins = record { writes = inl begins.0; judged = begun_refused (TooFewClients a b) begins.1 }
+  planned_stop new (TooFewBlocks a b) begins = record { writes = inl begins.0; judged = begun_refused (TooFewBlocks a b) begins.1 }
+  planned_stop new (NotBlank a) begins = record { writes = inl begins.0; judged = begun_refused (NotBlank a) begins.1 }
+  planned_stop new (ReplyTooLong a b) begins = record { writes = inl begins.0; judged = begun_refused (ReplyTooLong a b) begins.1 }
+  planned_stop new (BlockTooLong a b) begins = record { writes = inl begins.0; judged = begun_refused (BlockTooLong a b) begins.1 }
+  planned_stop new (Damaged a b) begins = record { writes = inl begins.0; judged = begun_refused (Damaged a b) begins.1 }
+
+  module _ (begun : Option Told) (ring : begun ≡ after_all (ring_events layout cluster) old) (blank : OverTold old (λ image. first_refusal (blank_tests image) ≡ None)) where
+    behind_ring : (rs bs : List Message) (new : Option Told) → new ≡ after_all (units_written layout rs bs) begun → new ≡ after_all (unit_events layout cluster rs bs) old
+    behind_ring rs bs new is = is ∙ ap (after_all (units_written layout rs bs)) ring ∙ sym (after_append (ring_events layout cluster) (units_written layout rs bs) old)
+
+    units_refused : (e : Ending) (new : Option Told) → OverShown s.file from (λ shown. first_refusal (unit_tests layout shown (memory s)) ≡ Some e) × (c : Copied layout s from) × (new ≡ after_all (units_written layout c.replies c.blocks) begun)
+        → ((new ≡ old) ⊎ ((c : Copied layout s from) × (new ≡ after_all (unit_events layout cluster c.replies c.blocks) old))) × OverTold old (λ image. OverShown s.file from (λ shown. first_refusal (blank_tests image ++ unit_tests layout shown (memory s)) ≡ Some e))
+    units_refused e new copies = (inr (copies.1, behind_ring copies.1.replies copies.1.blocks new copies.2), planned_refused e blank copies.0)
+
+    -- the units are of this layout
+    abbrev Stops : (new : Option Told) → Layout → Ending → Type 0
+    Stops new l TargetFails = (c : Copied l s from) × AddsPart (units_written l c.replies c.blocks) begun new
+    Stops new l Source = (c : Copied l s from) × (new ≡ after_all (units_written l c.replies c.blocks) begun)
+    Stops new l x = OverShown s.file from (λ shown. first_refusal (unit_tests l shown (memory s)) ≡ Some x) × (c : Copied l s from) × (new ≡ after_all (units_written l c.replies c.blocks) begun)
+
+    units_end : (new : Option Told) (e : Ending) → Stops new layout e → CopiesPlanned {T = T} layout s from old new (Err e)
+    units_end new TargetFails stops = record { writes = (stops.0, inl (all_then (ring_events layout cluster) (units_written layout stops.0.replies stops.0.blocks) old begun new ring stops.1)); judged = silent }
+    units_end new Source stops = record { writes = inr (stops.0, behind_ring stops.0.replies stops.0.blocks new stops.1); judged = silent }
+    units_end new (NotAtRest a b c) stops = let both = units_refused (NotAtRest a b c) new stops in record { writes = both.0; judged = both.1 }
+    units_end new (TooFewClients a b) stops = let both = units_refused (TooFewClients a b) new stops in record { writes = both.0; judged = both.1 }
+    units_end new (TooFewBlocks a b) stops = let both = units_refused (TooFewBlocks a b) new stops in record { writes = both.0; judged = both.1 }
+    units_end new (NotBlank a) stops = let both = units_refused (NotBlank a) new stops in record { writes = both.0; judged = both.1 }
+    units_end new (ReplyTooLong a b) stops = let both = units_refused (ReplyTooLong a b) new stops in record { writes = both.0; judged = both.1 }
+    units_end new (BlockTooLong a b) stops = let both = units_refused (BlockTooLong a b) new stops in record { writes = both.0; judged = both.1 }
+    units_end new (Damaged a b) stops = let both = units_refused (Damaged a b) new stops in record { writes = both.0; judged = both.1 }
+
+    pub planned_units : (t n : Target) (new : Option Told) (e : Ending) → t.layout ≡ layout → CopiesUnits {T = T} s t n from begun new (Err e) → CopiesPlanned {T = T} layout s from old new (Err e)
+    planned_units t n new e same units = units_end new e (subst (λ (l : Layout). Stops new l e) same (stops e units))
+      where
+        -- it is CopiesUnits, over the layout alone
+        stops : (x : Ending) → CopiesUnits {T = T} s t n from begun new (Err x) → Stops new t.layout x
+        stops TargetFails it = it
+        stops Source it = it
+        stops (NotAtRest a b c) it = it
+        stops (TooFewClients a b) it = it
+        stops (TooFewBlocks a b) it = it
+        stops (NotBlank a) it = it
+        stops (ReplyTooLong a b) it = it
+        stops (BlockTooLong a b) it = it
+        stops (Damaged a b) it = it
+
+    -- all units are written, and the trailer and the superblock follow
+    module _ (c : Copied layout s from) (all : IsAll c) (mid : Option Told) (units : mid ≡ after_all (units_written layout c.replies c.blocks) begun) (none : OverShown s.file from (λ shown. first_refusal (unit_tests layout shown (memory s)) ≡ None)) where
+      abbrev trailer : List Event
+      trailer = all_events (made_events layout) (trailer_of layout s (moved_from 1 c.blocks))
+
+      abbrev ends : List Event
+      ends = superblock_events layout s c.replies c.blocks
+
+      abbrev front : List Event
+      front = unit_events layout cluster c.replies c.blocks
+
+      in_one : copy_events layout s c.replies c.blocks ≡ front ++ (trailer ++ ends)
+      in_one = append_assoc front trailer ends
+
+      passed : OverTold old (λ image. OverShown s.file from (λ shown. first_refusal (blank_tests image ++ unit_tests layout shown (memory s)) ≡ None))
+      passed =
+          over_told old (λ image. first_refusal (blank_tests image) ≡ None) (λ image. OverShown s.file from (λ shown. first_refusal (blank_tests image ++ unit_tests layout shown (memory s)) ≡ None)) blank
+          (λ image pass. over_by s.file from (λ shown. first_refusal (unit_tests layout shown (memory s)) ≡ None) (λ shown. first_refusal (blank_tests image ++ unit_tests layout shown (memory s)) ≡ None) none
+          (λ shown more. behind_decides (blank_tests image) (unit_tests layout shown (memory s)) pass ∙ more))
+
+      pub planned_done : (new : Option Told) (x : T) → Finishes {T = T} layout s c.replies c.blocks mid new (Ok x) → CopiesPlanned {T = T} layout s from old new (Ok x)
+      planned_done new x finishes = record {
+        writes = (c, all, finishes ∙ ap (after_all (trailer ++ ends)) (behind_ring c.replies c.blocks mid units) ∙ sym (after_append front (trailer ++ ends) old) ∙ ap (λ (l : List Event). after_all l old) (sym in_one));
+        judged = passed;
+      }
+
+      pub planned_fails : (new : Option Told) → Finishes {T = T} layout s c.replies c.blocks mid new (Err TargetFails) → CopiesPlanned {T = T} layout s from old new (Err TargetFails)
+      planned_fails new finishes = record {
+        writes = (c, inr (all, subst (λ (l : List Event). AddsPart l old new) (sym in_one) (all_then front (trailer ++ ends) old mid new (behind_ring c.replies c.blocks mid units) finishes)));
+        judged = silent;
+      }
+
+      -- however the trailer and the superblock end
+      pub planned_ends : (new : Option Told) (r : Result T Ending) → IfErr r (λ e. e ≡ TargetFails) → Finishes {T = T} layout s c.replies c.blocks mid new r → CopiesPlanned {T = T} layout s from old new r
+      planned_ends new (Ok x) only finishes = planned_done new x finishes
+      planned_ends new (Err e) only finishes = subst (λ (q : Ending). CopiesPlanned {T = T} layout s from old new (Err q)) (sym only) (planned_fails new finishes)
+
+    -- by calls that leave the source as it was
+    abbrev AllCopied : Layout → Option Told → Target → Type 0
+    AllCopied l mid n = (c : Copied l s from) × IsAll c × (mid ≡ after_all (units_written l c.replies c.blocks) begun) × IsTarget l s.file.cluster c.replies c.blocks n × OverShown s.file from (λ shown. first_refusal (unit_tests l shown (memory s)) ≡ None)
+
+    pub planned_join : {U : Type 0} (kept : State) (t n : Target) (mid new : Option Told) (x : U) (r : Result T Ending) → kept ≡ s → t.layout ≡ layout → n.layout ≡ layout → CopiesUnits {T = U} s t n from begun mid (Ok x)
+        → ((rs bs : List Message) → IsTarget n.layout kept.file.cluster rs bs n → length bs ≡ length (references (memory kept)) → Finishes {T = T} n.layout kept rs bs mid new r) → IfErr r (λ e. e ≡ TargetFails) → CopiesPlanned {T = T} layout s from old new r
+    planned_join kept t n mid new x r state same last units finishes only =
+        let all : AllCopied layout mid n = subst (λ (l : Layout). AllCopied l mid n) same units in
+        let onward : (rs bs : List Message) → IsTarget layout s.file.cluster rs bs n → length bs ≡ length (references (memory s)) → Finishes {T = T} layout s rs bs mid new r =
+        subst (λ (l : Layout). (rs bs : List Message) → IsTarget l s.file.cluster rs bs n → length bs ≡ length (references (memory s)) → Finishes {T = T} l s rs bs mid new r) last
+        (subst (λ (q : State). (rs bs : List Message) → IsTarget n.layout q.file.cluster rs bs n → length bs ≡ length (references (memory q)) → Finishes {T = T} n.layout q rs bs mid new r) state finishes) in
+        planned_ends all.0 all.1 mid all.2 all.4 new r only (onward all.0.replies all.0.blocks all.3 all.1.blocks)
+
+  -- ---- the tests that read nothing
+
+  no_test : (new : Option Told) → new ≡ old → (e : Ending) → first_refusal (rest_tests layout (memory s)) ≡ Some e → OverTold old (λ image. OverShown s.file from (λ shown. first_refusal (tests layout shown (memory s) image) ≡ Some e))
+  no_test new same e is =
+      told_all old (λ image. OverShown s.file from (λ shown. first_refusal (tests layout shown (memory s) image) ≡ Some e))
+      (λ image. over_all s.file from (λ shown. first_refusal (tests layout shown (memory s) image) ≡ Some e) (λ shown. first_refuses (rest_tests layout (memory s)) (blank_tests image ++ unit_tests layout shown (memory s)) e is))
+
+  pub into_refused : (new : Option Told) → new ≡ old → (e : Ending) → first_refusal (rest_tests layout (memory s)) ≡ Some e → CopiesInto {T = T} layout s from old new (Err e)
+  into_refused new same TargetFails is = record { writes = (nothing, inl (part_none (unit_events layout cluster [] []) same)); judged = silent }
+    where
+      part_none : (es : List Event) → new ≡ old → AddsPart es old new
+      part_none [] it = it
+      part_none (e ∷ es) it = inl it
+  into_refused new same Source is = record { writes = inl same; judged = silent }
+  into_refused new same (NotAtRest a b c) is = record { writes = inl same; judged = no_test new same (NotAtRest a b c) is }
+  into_refused new same (TooFewClients a b) is = record { writes = inl same; judged = no_test new same (TooFewClients a b) is }
+  into_refused new same (TooFewBlocks a b) is = record { writes = inl same; judged = no_test new same (TooFewBlocks a b) is }
+  into_refused new same (NotBlank a) is = record { writes = inl same; judged = no_test new same (NotBlank a) is }
+  into_refused new same (ReplyTooLong a b) is = record { writes = inl same; judged = no_test new same (ReplyTooLong a b) is }
+  into_refused new same (BlockTooLong a b) is = record { writes = inl same; judged = no_test new same (BlockTooLong a b) is }
+  into_refused new same (Damaged a b) is = record { writes = inl same; judged = no_test new same (Damaged a b) is }
+
+  -- they pass, and the others decide
+  pub into_planned : (new : Option Told) (r : Result T Ending) → first_refusal (rest_tests layout (memory s)) ≡ None → CopiesPlanned layout s from old new r → CopiesInto layout s from old new r
+  into_planned new r none planned = record { writes = planned.writes; judged = judged r planned.judged }
+    where
+      joined : (image : Image) (shown : Shown) → first_refusal (tests layout shown (memory s) image) ≡ first_refusal (blank_tests image ++ unit_tests layout shown (memory s))
+      joined image shown = behind_decides (rest_tests layout (memory s)) (blank_tests image ++ unit_tests layout shown (memory s)) none
+
+      decides : (q : Result T Ending) (image : Image) (shown : Shown) → PassesTo layout s shown image q → Judges layout s shown image q
+      decides (Ok x) image shown passes = joined image shown ∙ passes
+      decides (Err Source) image shown passes = tt
+      decides (Err TargetFails) image shown passes = tt
+      decides (Err (NotAtRest a b c)) image shown passes = joined image shown ∙ passes
+      decides (Err (TooFewClients a b)) image shown passes = joined image shown ∙ passes
+      decides (Err (TooFewBlocks a b)) image shown passes = joined image shown ∙ passes
+      decides (Err (NotBlank a)) image shown passes = joined image shown ∙ passes
+      decides (Err (ReplyTooLong a b)) image shown passes = joined image shown ∙ passes
+      decides (Err (BlockTooLong a b)) image shown passes = joined image shown ∙ passes
+      decides (Err (Damaged a b)) image shown passes = joined image shown ∙ passes
+
+      judged : (q : Result T Ending) → OverTold old (λ image. OverShown s.file from (λ shown. PassesTo layout s shown image q)) → IsJudged layout s from old q
+      judged q is =
+          over_told old (λ image. OverShown s.file from (λ shown. PassesTo layout s shown image q)) (λ image. OverShown s.file from (λ shown. Judges layout s shown image q)) is
+          (λ image over. over_by s.file from (λ shown. PassesTo layout s shown image q) (λ shown. Judges layout s shown image q) over (λ shown passes. decides q image shown passes))

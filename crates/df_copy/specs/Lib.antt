@@ -1,0 +1,11 @@
+pub mod Statuses
+pub mod Texts
+pub mod Tests
+pub mod Units
+pub mod Targets
+pub mod Planning
+pub mod Acts
+pub mod Trailers
+pub mod Copying
+pub mod Views
+pub mod Run

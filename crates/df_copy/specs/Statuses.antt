@@ -1,0 +1,58 @@
+-- How a copy ends: the numbers of the statuses, and what each ending blames and prints.
+use Rattle.std.specs.Prelude.{◌≡◌, ℕ, Bool, true, false, ◌||◌}
+use Rattle.df_model.specs.declared.errors.FormatError.{FormatError}
+use Rattle.df_model.specs.declared.errors.FormatError.TheVariants as formats
+use Rattle.df_model.specs.declared.reading.LookupError.{LookupError}
+use Rattle.df_model.specs.declared.reading.LookupError.TheVariants as lookup
+use Rattle.df_model.specs.declared.reading.ReadError.{ReadError}
+use Rattle.df_model.specs.declared.reading.ReadError.TheVariants as read
+use Rattle.df_copy.specs.declared.ending.Ending.{Ending}
+use Rattle.df_copy.specs.declared.ending.Ending.TheVariants.{Damaged, NotBlank, Source, Target}
+use Rattle.df_copy.specs.declared.status.Status.{Status}
+use Rattle.df_copy.specs.declared.status.Status.TheVariants as ends
+
+-- those of `datafile` that come
+abbrev pub number_of : Status → ℕ
+number_of ends.Done = 0
+number_of ends.Words = 2
+number_of ends.Refused = 4
+number_of ends.DiskFault = 5
+number_of ends.WriteFault = 7
+number_of ends.Memory = 8
+
+-- the source's disk failed
+abbrev pub is_source : Ending → Bool
+is_source Source = true
+is_source e = false
+
+-- it ended by what it did with the files: neither for want of memory nor for its words
+abbrev pub EndsWithFiles : Status → Type 0
+EndsWithFiles status = (status ≡ ends.Memory → ⊥) × (status ≡ ends.Words → ⊥)
+
+-- the target's disk failed
+abbrev pub is_target : Ending → Bool
+is_target Target = true
+is_target e = false
+
+-- one of the two did
+abbrev pub is_fault : Ending → Bool
+is_fault e = is_source e || is_target e
+
+-- why the target isn't begun; its cluster is never refused, since a file has one
+abbrev pub blank_ending : FormatError → Ending
+blank_ending (formats.NotBlank copy) = NotBlank copy
+blank_ending formats.DiskFault = Target
+blank_ending formats.ClusterZero = Target
+
+-- why a stored reply isn't read; at rest each session's is stored
+abbrev pub reply_ending : LookupError → Ending
+reply_ending (lookup.Damaged place class) = Damaged place class
+reply_ending lookup.DiskFault = Source
+reply_ending lookup.NoClient = Source
+reply_ending (lookup.ReplyPending op) = Source
+
+-- why a live block isn't read
+abbrev pub block_ending : ReadError → Ending
+block_ending (read.Damaged place class) = Damaged place class
+block_ending read.DiskFault = Source
+block_ending read.NotLive = Source

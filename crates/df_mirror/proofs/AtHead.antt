@@ -1,0 +1,243 @@
+-- The sessions at the superblock's head, as a table: whose replies are known, and the walk over their places.
+use Rattle.std.proofs.Common.{◌≡◌, ℕ, zero, suc, ◌+◌, ◌-◌, ◌==◌, ◌<◌, ◌≤◌, if◌then◌else◌, List, [], ◌∷◌, length, get_or, map, take, drop, Option, Some, None, refl, sym, ◌∙◌, ap, subst, arith, inl, inr, length-drop, length-take}
+use Rattle.std.proofs.lemmas.List.{get_or-drop, get_or_past, length-map}
+use Rattle.std.proofs.lemmas.List.Elements.{All-get_or}
+use Rattle.std.specs.List.{slice_get}
+use Rattle.std.specs.Prelude.{Result, Ok, Err, option_map, slice_index}
+use Rattle.std.proofs.lemmas.Bool.{cases_eq, cases_lt}
+use Rattle.std.proofs.lemmas.Option.{same_Some, slice_get-get_or, slice_get-map, slice_get_within}
+use Rattle.df_base.specs.Image.{IsImage}
+use Rattle.df_disk.specs.Told.{Told}
+use Rattle.df_format.specs.declared.kind.Kind.TheVariants.{Reply}
+use Rattle.df_format.specs.declared.superblock.SuperFields.{SuperFields}
+use Rattle.df_format.specs.Spelling.{IsCheck, no_checksum}
+use Rattle.df_format.specs.SuperRules.{IsUsable}
+use Rattle.df_journal.specs.Scan.{Scan}
+use Rattle.df_journal.specs.Shows.{ShowsHeader, ShowsPrepare, TellsRings}
+use Rattle.df_sessions.specs.declared.session.Session.{Session}
+use Rattle.df_sessions.specs.Requests.{session_of, sessions_of}
+use Rattle.df_sessions.specs.Table.{Table}
+use Rattle.df_theory.specs.Sessions.{sessions_after}
+use Rattle.df_theory.specs.Units.{AnyUnit, BlockPlace, HeaderPlace, Message, Parts, Place, PreparePlace, PrepareUnit, ReplyPlace, ReplyUnit, Units}
+use Rattle.df_theory.specs.Units as units
+use Rattle.df_units.specs.Meaning.{number_of}
+use Rattle.df_units.proofs.Laws.{no_number, one_number, zeros_check}
+use Rattle.df_buffers.specs.declared.slots.SlotSeen.{SlotSeen}
+use Rattle.df_opening.specs.Below.{shape}
+use Rattle.df_mirror.specs.declared.ending.Ending.{Ending}
+use Rattle.df_mirror.specs.declared.superblock.Superblock.{Superblock}
+use Rattle.df_mirror.specs.Known.{AreShown, HasSessions, IsKnown, IsRecorded, IsShownAs}
+use Rattle.df_mirror.specs.Mends.{Answers, AreAt, AreOfKind, Mend}
+use Rattle.df_mirror.specs.Outside.{Outside, Tell}
+use Rattle.df_mirror.specs.Walks.{HasHead, HasLater, HasNewer, MendsRecorded, MendsReply, ShowsReplies, content_of, units_of}
+use Rattle.df_mirror.proofs.Frames.{other_place}
+use Rattle.df_mirror.proofs.Joined.{answers_with, kind_at, none_came}
+use Rattle.df_mirror.proofs.Logs.{same_known}
+use Rattle.df_mirror.proofs.Named.{ring_there}
+use Rattle.df_mirror.proofs.Ones.{one_trailer, trailer_there}
+use Rattle.df_mirror.proofs.Recorded.{recorded_sum}
+use Rattle.df_mirror.proofs.Referenced.{shown_there}
+
+-- what stands among the first so many stands there
+front_get : (n : ℕ) (ss : List units.Session) (k : ℕ) (s : units.Session) → slice_get (take n ss) k ≡ Some s → slice_get ss k ≡ Some s
+front_get zero ss k s at = absurd (let none : None ≡ Some s = at in cc)
+front_get (suc n) [] k s at = absurd (let none : None ≡ Some s = at in cc)
+front_get (suc n) (x ∷ ss) zero s at = at
+front_get (suc n) (x ∷ ss) (suc k) s at = front_get n ss k s at
+
+-- an image has one list of sessions at the head
+one_head : (b : Superblock) (image : Units) (ss others : List units.Session) → HasSessions (shape b.file) image (content_of b) ss → HasSessions (shape b.file) image (content_of b) others → ss ≡ others
+one_head b image ss others one two =
+    let parts = one_trailer (shape b.file) image (content_of b) one.says two.says in
+    let named = same_known b.file.layout.slots image (b.content.op + 1) (content_of b).pin_checksum one.named two.named one.known two.known (omega (arith, one.count, two.count)) in
+    one.sessions_are ∙ ap (λ (p : Parts). sessions_after p.sessions one.named) parts ∙ ap (λ (l : List Message). sessions_after two.says.parts.sessions l) named ∙ sym two.sessions_are
+
+-- ---- where replies alone differ
+
+-- the images show the same but for one reply
+abbrev pub AreAlike : ℕ → Units → Units → Type 0
+AreAlike k image other = (place : Place) → (place ≡ ReplyPlace k → ⊥) → other place ≡ image place
+
+module _ (b : Superblock) (k : ℕ) (image other : Units) (alike : AreAlike k image other) where
+  same_slot : (s : ℕ) → other (PreparePlace s) ≡ image (PreparePlace s)
+  same_slot s = alike (PreparePlace s) (λ (same : PreparePlace s ≡ ReplyPlace k). cc)
+
+  sessions_there : (ss : List units.Session) → HasSessions (shape b.file) image (content_of b) ss → HasSessions (shape b.file) other (content_of b) ss
+  sessions_there ss has = record {
+    says = trailer_there (shape b.file) image other (content_of b) has.says (λ a x at. alike (BlockPlace a) (λ (same : BlockPlace a ≡ ReplyPlace k). cc));
+    named = has.named;
+    known = ring_there b.file.layout.slots image other (b.content.op + 1) (content_of b).pin_checksum has.named has.known (λ o low high. same_slot _);
+    count = has.count;
+    sessions_are = has.sessions_are;
+  }
+
+  head_there : (slots : Scan) (table : Table) → HasHead b image slots table → HasHead b other slots table
+  head_there slots table head = record {
+    tells = record {
+      table = head.tells.table;
+      shows = record {
+        each = λ s seen at. let it = head.tells.shows.each s seen at in record {
+          header = subst (λ (x : Option AnyUnit). ShowsHeader x seen.header) (sym (alike (HeaderPlace s) (λ (same : HeaderPlace s ≡ ReplyPlace k). cc))) it.header;
+          prepare = subst (λ (x : Option AnyUnit). ShowsPrepare x seen.prepare) (sym (same_slot s)) it.prepare;
+        };
+        no_header = λ s past. alike (HeaderPlace s) (λ (same : HeaderPlace s ≡ ReplyPlace k). cc) ∙ head.tells.shows.no_header s past;
+        no_prepare = λ s past. same_slot s ∙ head.tells.shows.no_prepare s past;
+      };
+    };
+    sessions = head.sessions;
+    has = sessions_there head.sessions head.has;
+    places = head.places;
+    table_is = head.table_is;
+  }
+
+  -- another reply that is recorded is so in either
+  recorded_there : (j sum : ℕ) → (j ≡ k → ⊥) → IsRecorded (shape b.file) image (content_of b) j sum → IsRecorded (shape b.file) other (content_of b) j sum
+  recorded_there j sum apart is = record {
+    sessions = is.sessions;
+    has = sessions_there is.sessions is.has;
+    session = is.session;
+    at = is.at;
+    sum_is = is.sum_is;
+    some = is.some;
+    no_reply = λ r shown boot. is.no_reply r (sym (alike (ReplyPlace j) (λ (same : ReplyPlace j ≡ ReplyPlace k). apart (cc))) ∙ shown) boot;
+    no_prepare = λ s p shown boot above client. is.no_prepare s p (sym (same_slot s) ∙ shown) boot above client;
+  }
+
+-- ---- which are recorded
+
+module _ (b : Superblock) (image : Units) (slots : Scan) (table : Table) (k : ℕ) (head : HasHead b image slots table) where
+  module _ (s : Session) (at : slice_get table.sessions k ≡ Some s) where
+    session_there : slice_get head.sessions k ≡ Some (session_of s)
+    session_there =
+        let here : slice_get (sessions_of table.sessions) k ≡ Some (session_of s) = slice_get-map session_of table.sessions k ∙ ap (option_map session_of) at in
+        front_get b.file.layout.clients head.sessions k (session_of s) (ap (λ (l : List units.Session). slice_get l k) (sym head.table_is) ∙ here)
+
+    -- it is known, where nothing newer is shown
+    pub is_recorded : (check : List ℕ) → slice_get b.content.reply_checksums k ≡ Some check → IsCheck check → (check ≡ no_checksum → ⊥) → (HasLater b image s.client → ⊥) → (HasNewer b image k → ⊥) → IsRecorded (shape b.file) image (content_of b) k (number_of check)
+    is_recorded check sum fits some no_later no_newer = record {
+      sessions = head.sessions;
+      has = head.has;
+      session = session_of s;
+      at = session_there;
+      sum_is = sym (recorded_sum b k check sum);
+      some = elim (cases_lt 0 (number_of check)) [ inl above ↦ above | inr none ↦ absurd (some (one_number check no_checksum fits zeros_check (omega (arith, none, no_number)))) ];
+      no_reply = λ r shown boot. elim (cases_lt (content_of b).replies r.header.op) [ inl above ↦ absurd (no_newer (r, shown, boot, above)) | inr within ↦ within ];
+      no_prepare = λ n p shown boot above client. no_later (n, p, shown, record { boot = boot; above = above; of_client = client });
+    }
+
+    -- it isn't, where a later request of its client is shown
+    pub not_behind : HasLater b image s.client → (sum : ℕ) → IsRecorded (shape b.file) image (content_of b) k sum → ⊥
+    not_behind later sum is =
+        let both : Some is.session ≡ Some (session_of s) = sym is.at ∙ ap (λ (l : List units.Session). slice_get l k) (one_head b image is.sessions head.sessions is.has head.has) ∙ session_there in
+        let session : is.session ≡ session_of s = same_Some _ _ both in
+        is.no_prepare later.0 later.1 later.2 later.3.boot later.3.above (later.3.of_client ∙ ap (λ (x : units.Session). x.client) (sym session))
+
+  -- nor where none is recorded
+  pub not_named : (check : List ℕ) → slice_get b.content.reply_checksums k ≡ Some check → check ≡ no_checksum → (sum : ℕ) → IsRecorded (shape b.file) image (content_of b) k sum → ⊥
+  not_named check sum none n is =
+      let zero : number_of check ≡ 0 = ap number_of none ∙ no_number in
+      omega (arith, is.some, is.sum_is ∙ recorded_sum b k check sum, zero)
+
+-- ---- one place further
+
+module _ (b : Superblock) (slots : Scan) (table : Table) (k : ℕ) (t o : Told) (old new : Outside) (tell : Tell t o old) (shows : ShowsReplies b (units_of b t.shown) slots table k) where
+  -- no reply is known there
+  pub reply_none : {T : Type 0} (room : T) → new.first ≡ old.first → new.written ≡ old.written → ((sum : ℕ) → IsRecorded (shape b.file) (units_of b t.shown) (content_of b) k sum → ⊥) → MendsReply b slots table k t o old new (Ok (room, 0))
+  reply_none room same silent none = record {
+    answers = none_came b.file (content_of b) (AreOfKind Reply) tt t o new.first old.written new.written (same ∙ tell.first) silent (λ ms n. 0 ≡ length ms) refl;
+    shown = λ u is.
+        let one : t ≡ u = same_Some _ _ (sym (same ∙ tell.first) ∙ is) in
+        subst (λ (x : Told). ShowsReplies b (units_of b x.shown) slots table (k + 1)) one (record {
+          has = shows.has;
+          shown = λ j sum below known. elim (cases_eq j k) [
+            | inl here ↦ absurd (none sum (subst (λ (n : ℕ). IsRecorded (shape b.file) (units_of b t.shown) (content_of b) n sum) here known))
+            | inr other ↦ shows.shown j sum (omega (arith, below, other)) known
+          ];
+        });
+  }
+
+  module _ (check : List ℕ) (sum_at : slice_get b.content.reply_checksums k ≡ Some check) (known : (HasNewer b (units_of b t.shown) k → ⊥) → IsRecorded (shape b.file) (units_of b t.shown) (content_of b) k (number_of check)) where
+    reply_failed : {T : Type 0} (e : Ending) → MendsRecorded b k check {T = T} t o old new (Err e) → MendsReply b slots table k {T = T} t o old new (Err e)
+    reply_failed e mends = record { answers = answers_with b.file (content_of b) _ (AreOfKind Reply) t o new.first old.written new.written (Err e) (kind_at Reply (ReplyPlace k)) (mends.answers known); shown = λ u is. tt }
+
+    reply_mended : {T : Type 0} (done : T × ℕ) → MendsRecorded b k check t o old new (Ok done) → MendsReply b slots table k t o old new (Ok done)
+    reply_mended done mends = record {
+      answers = answers_with b.file (content_of b) _ (AreOfKind Reply) t o new.first old.written new.written (Ok done.1) (kind_at Reply (ReplyPlace k)) (mends.answers known);
+      shown = λ u is.
+          let alike : AreAlike k (units_of b t.shown) (units_of b u.shown) = λ place apart. other_place b.file (content_of b) t o u new.first old.written new.written tell.whole is place Reply (ReplyPlace k) done.1 (mends.answers known) (λ same. apart (sym same)) in
+          let back : AreAlike k (units_of b u.shown) (units_of b t.shown) = λ place apart. sym (alike place apart) in
+          record {
+            has = head_there b k (units_of b t.shown) (units_of b u.shown) alike slots table shows.has;
+            shown = λ j sum below recorded. elim (cases_eq j k) [
+              | inl here ↦ elim (mends.shown u is) [
+                | inl newer ↦ absurd (let most = recorded.no_reply newer.0 (ap (λ (n : ℕ). units_of b u.shown (ReplyPlace n)) here ∙ newer.1) newer.2 in omega (arith, most, newer.3))
+                | inr seen ↦
+                    let same : number_of check ≡ sum = sym (recorded_sum b k check sum_at) ∙ ap (λ (n : ℕ). slice_index (content_of b).reply_checksums n) (sym here) ∙ sym recorded.sum_is in
+                    subst (λ (n : ℕ). IsShownAs (units_of b u.shown) Reply (ReplyPlace n) sum) (sym here) (subst (λ (n : ℕ). IsShownAs (units_of b u.shown) Reply (ReplyPlace k) n) same seen)
+              ]
+              | inr other ↦ shown_there (units_of b t.shown) (units_of b u.shown) Reply (ReplyPlace j) sum (alike (ReplyPlace j) (λ (same : ReplyPlace j ≡ ReplyPlace k). other (cc)))
+                  (shows.shown j sum (omega (arith, below, other)) (recorded_there b k (units_of b u.shown) (units_of b t.shown) back j sum other recorded))
+            ];
+          };
+    }
+
+    pub reply_done : {T : Type 0} (result : Result (T × ℕ) Ending) → MendsRecorded b k check t o old new result → MendsReply b slots table k t o old new result
+    reply_done (Ok done) mends = reply_mended done mends
+    reply_done (Err e) mends = reply_failed e mends
+
+-- ---- all of them
+
+pub none_yet : (b : Superblock) (image : Units) (slots : Scan) (table : Table) → HasHead b image slots table → ShowsReplies b image slots table 0
+none_yet b image slots table head = record { has = head; shown = λ k sum below known. absurd (omega (arith, below)) }
+
+-- past the sessions that a file may have none is recorded
+abbrev checks_of : Superblock → List (List ℕ)
+checks_of b = b.content.reply_checksums
+
+none_past : (b : Superblock) (k : ℕ) → b.content.clients ≤ k → slice_index (content_of b).reply_checksums k ≡ 0
+none_past b k past = elim (cases_lt k (length (checks_of b))) [
+  | inl within ↦
+      let at : slice_get (checks_of b) k ≡ Some (get_or (checks_of b) k no_checksum) = slice_get-get_or (checks_of b) k no_checksum within in
+      let place : b.content.clients + (k - b.content.clients) ≡ k = omega (arith, past) in
+      let here : get_or (drop b.content.clients (checks_of b)) (k - b.content.clients) no_checksum ≡ no_checksum =
+      All-get_or (λ (check : List ℕ). check ≡ no_checksum) (drop b.content.clients (checks_of b)) (k - b.content.clients) no_checksum (omega (arith, within, past, length-drop b.content.clients (checks_of b))) b.spare in
+      let none : get_or (checks_of b) k no_checksum ≡ no_checksum = ap (λ (n : ℕ). get_or (checks_of b) n no_checksum) (sym place) ∙ sym (get_or-drop b.content.clients (checks_of b) (k - b.content.clients) no_checksum) ∙ here in
+      recorded_sum b k (get_or (checks_of b) k no_checksum) at ∙ ap number_of none ∙ no_number
+  | inr beyond ↦
+      ap (λ (v : ℕ). slice_index (if v == 2 then map number_of (checks_of b) else []) k) b.second ∙ get_or_past (map number_of (checks_of b)) k 0 (omega (arith, beyond, length-map (checks_of b) number_of))
+]
+
+pub all_replies : (b : Superblock) (image : Units) (slots : Scan) (table : Table) → ShowsReplies b image slots table (length table.sessions) → AreShown (shape b.file) image (content_of b) Reply
+all_replies b image slots table shows place sum known = by place known
+  where
+    among : (k : ℕ) → IsRecorded (shape b.file) image (content_of b) k sum → k < length table.sessions
+    among k is = elim (cases_lt k (length table.sessions)) [
+      | inl within ↦ within
+      | inr past ↦
+          let head : k < length shows.has.sessions = subst (λ (l : List units.Session). k < length l) (one_head b image is.sessions shows.has.sessions is.has shows.has.has) (slice_get_within is.sessions k is.session is.at) in
+          let size : length table.sessions ≡ length (take b.file.layout.clients shows.has.sessions) = sym (length-map table.sessions session_of) ∙ ap length shows.has.table_is in
+          let clients : b.content.clients ≤ k = omega (arith, past, head, size, length-take b.file.layout.clients shows.has.sessions, b.fields.clients) in
+          absurd (omega (arith, is.some, is.sum_is, none_past b k clients))
+    ]
+
+    by : (place : Place) → IsKnown (shape b.file) image (content_of b) Reply place sum → IsShownAs image Reply place sum
+    by (ReplyPlace k) is = shows.shown k sum (among k is) is
+    by place is = absurd is
+
+-- ---- what is recorded at a place
+
+module _ (f g : SuperFields) (k : ℕ) (d : List ℕ) (same : f ≡ g) (below : k < 64) (usable : IsUsable g) where
+  within : k < length g.reply_checksums
+  within = omega (arith, below, usable.fits.reply_checksums.size)
+
+  pub sum_there : slice_get g.reply_checksums k ≡ Some (get_or f.reply_checksums k d)
+  sum_there = subst (λ (x : SuperFields). slice_get g.reply_checksums k ≡ Some (get_or x.reply_checksums k d)) (sym same) (slice_get-get_or g.reply_checksums k d within)
+
+  pub check_there : IsCheck (get_or f.reply_checksums k d)
+  check_there = subst (λ (x : SuperFields). IsCheck (get_or x.reply_checksums k d)) (sym same) (All-get_or IsCheck g.reply_checksums k d within usable.fits.reply_checksums.each)
+
+-- there is a session at each place
+pub no_session : (xs : List Session) (k : ℕ) → k < length xs → slice_get xs k ≡ None → ⊥
+no_session [] k within none = omega (arith, within)
+no_session (x ∷ xs) zero within none = cc
+no_session (x ∷ xs) (suc k) within none = no_session xs k (omega (arith, within)) none

@@ -1,0 +1,145 @@
+-- The chain: what was read of it is shown, no block of it is written over, and each link takes the walk one block further.
+use Rattle.std.proofs.Common.{◌≡◌, ℕ, suc, ◌+◌, ◌-◌, ◌<◌, ◌≤◌, ◌==◌, ◌||◌, Bool, true, false, List, [], ◌∷◌, ◌++◌, length, map, Option, Some, None, refl, sym, ◌∙◌, ap, subst, arith, inl, inr, eq-eqb, eqb-true}
+use Rattle.std.specs.Prelude.{Result, Ok, Err}
+use Rattle.std.specs.List.{list_any}
+use Rattle.df_base.specs.Image.{IsImage}
+use Rattle.df_layout.specs.declared.damage.Class.{Class}
+use Rattle.df_layout.specs.declared.damage.Class.TheVariants.{Stale}
+use Rattle.df_format.specs.declared.kind.Kind.{Kind}
+use Rattle.df_format.specs.declared.kind.Kind.TheVariants.{Block as AsBlock, Prepare, Reply, Trailer}
+use Rattle.df_theory.specs.Opens.{AreLinks, Arrives, IsLink, IsShown, ReadsTo}
+use Rattle.df_theory.specs.Shape.{Shape}
+use Rattle.df_theory.specs.Trailer.{InChain, IsCount}
+use Rattle.df_theory.specs.Units.{AnyUnit, Block, BlockPlace, BlockUnit, Content, CopyUnit, HeaderUnit, Place, PreparePlace, PrepareUnit, ReplyPlace, ReplyUnit, Units}
+use Rattle.df_theory.proofs.Laws.{arrives_more, links_more}
+use Rattle.df_model.proofs.Laws.{count_le}
+use Rattle.df_model.specs.Supply.{Shown, block_given, class_at as class_in, given_if}
+use Rattle.df_units.specs.Wanted.{IsOfKind, checksum_of}
+use Rattle.df_grid.specs.Reads.{trailer_alone}
+use Rattle.df_checkpoint.specs.Chain.{asked}
+use Rattle.df_checkpoint.specs.Reads.{IsWhole}
+use Rattle.df_checkpoint.proofs.Laws.{whole_shown}
+use Rattle.df_mirror.specs.Known.{AreShown, IsKnown, IsShownAs, IsSpare, ShowsTrailer}
+use Rattle.df_mirror.proofs.Frames.{known_place}
+
+-- ---- shown as a block of the trailer
+
+pub block_shown : (image : Units) (a k : ℕ) → IsShownAs image Trailer (BlockPlace a) k → IsShown image a k
+block_shown image a k is = by is.unit is.shown is.of_kind is.sum_is
+  where
+    by : (x : AnyUnit) → image (BlockPlace a) ≡ Some x → IsOfKind Trailer x → checksum_of x ≡ k → IsShown image a k
+    by (BlockUnit b) shown kind sum = (b, shown, sum, kind)
+    by (CopyUnit c) shown kind sum = absurd kind
+    by (HeaderUnit h) shown kind sum = absurd kind
+    by (PrepareUnit p) shown kind sum = absurd kind
+    by (ReplyUnit r) shown kind sum = absurd kind
+
+pub shown_block : (image : Units) (a k : ℕ) → IsShown image a k → IsShownAs image Trailer (BlockPlace a) k
+shown_block image a k is = record { unit = BlockUnit is.0; shown = is.1; of_kind = is.3; sum_is = is.2 }
+
+-- a trailer that is shown whole shows each block that is wanted of it
+pub all_of_it : (sh : Shape) (image : Units) (c : Content) → ShowsTrailer sh image c → (a k : ℕ) → ReadsTo sh image c a k → IsShown image a k
+all_of_it sh image c says =
+    let shown : Shown = record { units = image; damage = λ place. Stale } in
+    whole_shown sh shown c says.chain (record { links = says.trailer.links; count = says.trailer.count; inside = says.trailer.inside; size = says.trailer.size; shows = says.shown })
+
+-- ---- walks down one chain
+
+-- two blocks at one address are one
+one_block : (image : Units) (a : ℕ) (x y : Block) → image (BlockPlace a) ≡ Some (BlockUnit x) → image (BlockPlace a) ≡ Some (BlockUnit y) → y ≡ x
+one_block image a x y one two = let both : Some (BlockUnit y) ≡ Some (BlockUnit x) = sym two ∙ one in cc
+
+-- a block that is wanted and shown is one that was read, where this one isn't shown
+was_read : (image : Units) (xs ys : List (ℕ × Block)) (address sum a k e m : ℕ) → Arrives image xs address sum a k → Arrives image ys address sum e m → (IsShown image a k → ⊥) → IsShown image e m → (b : Block) × InChain e b xs
+was_read image [] [] address sum a k e m one two lacks shown =
+    absurd (lacks (subst (λ (n : ℕ). IsShown image a n) (two.1 ∙ sym one.1) (subst (λ (n : ℕ). IsShown image n m) (two.0 ∙ sym one.0) shown)))
+was_read image [] (y ∷ ys) address sum a k e m one two lacks shown =
+    absurd (lacks (y.1, ap (λ (n : ℕ). image (BlockPlace n)) one.0 ∙ two.3, two.2 ∙ sym one.1, two.4))
+was_read image (x ∷ xs) [] address sum a k e m one two lacks shown = (x.1, inl (two.0 ∙ sym one.1, refl))
+was_read image (x ∷ xs) (y ∷ ys) address sum a k e m one two lacks shown =
+    let same : y.1 ≡ x.1 = one_block image address x.1 y.1 one.3 two.3 in
+    let rest = was_read image xs ys x.1.before x.1.before_checksum a k e m one.5 (subst (λ (b : Block). Arrives image ys b.before b.before_checksum e m) same two.5) lacks shown in
+    (rest.0, inr rest.1)
+
+-- a walk that is longer has shown what a shorter one wants
+shown_before : (image : Units) (xs ys : List (ℕ × Block)) (address sum a k e m : ℕ) → Arrives image xs address sum a k → Arrives image ys address sum e m → length ys < length xs → IsShown image e m
+shown_before image [] ys address sum a k e m one two less = absurd (omega (arith, less))
+shown_before image (x ∷ xs) [] address sum a k e m one two less = (x.1, ap (λ (n : ℕ). image (BlockPlace n)) two.0 ∙ one.3, one.2 ∙ sym two.1, one.4)
+shown_before image (x ∷ xs) (y ∷ ys) address sum a k e m one two less =
+    let same : y.1 ≡ x.1 = one_block image address x.1 y.1 one.3 two.3 in
+    shown_before image xs ys x.1.before x.1.before_checksum a k e m one.5 (subst (λ (b : Block). Arrives image ys b.before b.before_checksum e m) same two.5) (omega (arith, less))
+
+-- an address that isn't among those that were read is none of theirs
+pub not_among : (chain : List (ℕ × Block)) (a e : ℕ) (b : Block) → list_any (λ other. other == a) (map (λ x. x.0) chain) ≡ false → InChain e b chain → e ≡ a → ⊥
+not_among [] a e b none at same = absurd at
+not_among (x ∷ xs) a e b none at same = by (x.0 == a) refl none (λ later none_later. not_among xs a e b none_later later same) at
+  where
+    by : (t : Bool) → (x.0 == a) ≡ t → (t || list_any (λ other. other == a) (map (λ y. y.0) xs)) ≡ false → (InChain e b xs → list_any (λ other. other == a) (map (λ y. y.0) xs) ≡ false → ⊥) → InChain e b (x ∷ xs) → ⊥
+    by true test all rest at = cc
+    by false test all rest (inl here) = let yes : (x.0 == a) ≡ true = eq-eqb x.0 a (sym here.0 ∙ same) in cc
+    by false test all rest (inr later) = rest later all
+
+-- and one that is among them is one of theirs
+pub among : (chain : List (ℕ × Block)) (a : ℕ) → list_any (λ other. other == a) (map (λ x. x.0) chain) ≡ true → (b : Block) × InChain a b chain
+among [] a some = absurd (cc)
+among (x ∷ xs) a some = by (x.0 == a) refl some (λ later. among xs a later)
+  where
+    by : (t : Bool) → (x.0 == a) ≡ t → (t || list_any (λ other. other == a) (map (λ y. y.0) xs)) ≡ true → (list_any (λ other. other == a) (map (λ y. y.0) xs) ≡ true → (b : Block) × InChain a b xs) → (b : Block) × InChain a b (x ∷ xs)
+    by true test all rest = (x.1, inl (sym (eqb-true x.0 a test), refl))
+    by false test all rest = let there = rest all in (there.0, inr there.1)
+
+-- what was read is read of another image that shows these blocks
+pub arrives_there : (image other : Units) (xs : List (ℕ × Block)) (address sum a k : ℕ) → Arrives image xs address sum a k → ((e : ℕ) (b : Block) → InChain e b xs → other (BlockPlace e) ≡ image (BlockPlace e)) → Arrives other xs address sum a k
+arrives_there image other [] address sum a k arrives same = arrives
+arrives_there image other (x ∷ xs) address sum a k arrives same = (
+  arrives.0,
+  arrives.1,
+  arrives.2,
+  ap (λ (n : ℕ). other (BlockPlace n)) (sym arrives.1) ∙ same x.0 x.1 (inl (refl, refl)) ∙ ap (λ (n : ℕ). image (BlockPlace n)) arrives.1 ∙ arrives.3,
+  arrives.4,
+  arrives_there image other xs x.1.before x.1.before_checksum a k arrives.5 (λ e b at. same e b (inr at)),
+)
+
+-- ---- the next block
+
+module _ (sh : Shape) (image : Units) (c : Content) (n : ℕ) (chain : List (ℕ × Block)) (a k : ℕ) (counts : IsCount (sh.layout.block_size - 256) c.trailer_size n) (arrives : Arrives image chain c.trailer c.trailer_checksum a k) (links : AreLinks sh c n chain) where
+  pub reads : length chain < n → ReadsTo sh image c a k
+  reads less = record { count = n; read = chain; counts = counts; arrives = arrives; links = links; more = less }
+
+  -- where it isn't shown, no known unit that is shown stands at its place
+  pub chain_spare : length chain < n → ((e : ℕ) (b : Block) → InChain e b chain → e ≡ a → ⊥) → (IsShownAs image Trailer (BlockPlace a) k → ⊥) → IsSpare sh image c (BlockPlace a)
+  unfolding reads
+  chain_spare less new lacks = at_kind
+    where
+      missing : IsShown image a k → ⊥
+      missing shown = lacks (shown_block image a k shown)
+
+      at_kind : (kind : Kind) (at : Place) (sum : ℕ) → IsKnown sh image c kind at sum → IsShownAs image kind at sum → at ≡ BlockPlace a → ⊥
+      at_kind Trailer (BlockPlace e) sum known shown same =
+          let of : ReadsTo sh image c e sum = known in
+          let there = was_read image chain of.read c.trailer c.trailer_checksum a k e sum arrives of.arrives missing (block_shown image e sum shown) in
+          new e there.0 there.1 (cc)
+      at_kind AsBlock (BlockPlace e) sum known shown same = missing (all_of_it sh image c known.says a k (reads less))
+      at_kind Prepare (PreparePlace s) sum known shown same = cc
+      at_kind Reply (ReplyPlace p) sum known shown same = cc
+      at_kind kind at sum known shown same = absurd known
+
+  -- all blocks were read: each one that is wanted is shown
+  pub walk_ends : length chain ≡ n → AreShown sh image c Trailer
+  walk_ends all place sum known = by place sum known
+    where
+      by : (place : Place) (sum : ℕ) → IsKnown sh image c Trailer place sum → IsShownAs image Trailer place sum
+      by (BlockPlace e) sum known =
+          let of : ReadsTo sh image c e sum = known in
+          let most = count_le (sh.layout.block_size - 256) c.trailer_size of.count n of.counts counts in
+          shown_block image e sum (shown_before image chain of.read c.trailer c.trailer_checksum a k e sum arrives of.arrives (omega (arith, of.more, most, all)))
+      by place sum known = absurd known
+
+-- ---- a block that is no link
+
+pub asked_shown : (shown : Shown) (a k : ℕ) (b : Block) → shown.units (BlockPlace a) ≡ Some (BlockUnit b) → b.checksum ≡ k → b.kind ≡ 0 → asked shown a k ≡ Ok b
+asked_shown shown a k b is sum kind =
+    let class = class_in shown (BlockPlace a) in
+    ap (λ (o : Option AnyUnit). trailer_alone (block_given (Some k) o class)) is
+    ∙ ap (λ (t : Bool). trailer_alone (given_if t b class)) (eq-eqb b.checksum k sum)
+    ∙ ap (λ (t : Bool). given_if t b Stale) (eq-eqb b.kind 0 kind)

@@ -1,0 +1,216 @@
+-- What the end of a mending says, and whom it blames.
+use Rattle.std.proofs.Common.{◌≡◌, ◌⊎◌, ◌==◌, inl, inr, ℕ, ◌≤◌, Bool, true, false, List, Option, None, Some, refl, sym, ◌∙◌, ap, subst, arith, eqb-true}
+use Rattle.std.specs.Prelude.{Result, Ok, Err, if◌then◌else◌}
+use Rattle.df_base.specs.Causes.{Blamed, IsBlamed, Rose}
+use Rattle.df_base.specs.Image.{Image}
+use Rattle.df_base.specs.Log.{Sync}
+use Rattle.df_disk.specs.Told.{Told, after, did}
+use Rattle.df_inspect.specs.Opening.{open_refusal}
+use Rattle.df_model.specs.declared.errors.OpenError.{OpenError}
+use Rattle.df_model.specs.declared.errors.OpenError.TheVariants as opens
+use Rattle.df_model.specs.Faults.{is_open_fault}
+use Rattle.df_damage.specs.Surveys.{HasFile}
+use Rattle.df_format.specs.SuperRules.{fault_of}
+use Rattle.df_format.specs.declared.superblock.SuperFields.{SuperFields}
+use Rattle.df_format.specs.declared.superblock.SuperFault.TheVariants.{Version as OtherVersion}
+use Rattle.df_opening.specs.Below.{Refuses}
+use Rattle.df_damage.specs.Found.{Syncs, TellsFoundAs}
+use Rattle.df_damage.specs.Opening.{HasSuperAs}
+use Rattle.df_telling.specs.Telling.{Blames, PrintsError, Writes}
+use Rattle.df_telling.specs.Two.{Faults, HasCauses, Outside}
+use Rattle.df_telling.proofs.Laws.{its_blame, no_blame, open_fault, refusal_ends, text_ends}
+use Rattle.df_mirror.specs.declared.ending.Ending.{Ending}
+use Rattle.df_mirror.specs.declared.ending.Ending.TheVariants.{First, Neither, Second, Sink, Unopened}
+use Rattle.df_mirror.specs.declared.status.Status.{Status}
+use Rattle.df_mirror.specs.declared.status.Status.TheVariants as ends
+use Rattle.df_mirror.specs.Outside.{ended}
+use Rattle.df_mirror.specs.declared.superblock.Superblock.{Superblock}
+use Rattle.df_mirror.specs.Mends.{Answers, AreInOrder}
+use Rattle.df_mirror.specs.Run.{DidNothing, Mirrored, Mirrors, RefusesSuperblock, Tells}
+use Rattle.df_mirror.specs.Statuses.{is_first, is_second, is_sink}
+use Rattle.df_mirror.specs.Texts.{count_text, neither_text}
+use Rattle.df_mirror.specs.Walks.{content_of}
+
+-- no status is two of these
+done_or_found : (b : Bool) (other : Status) → (ends.Done ≡ other → ⊥) → (ends.Found ≡ other → ⊥) → (if b then ends.Done else ends.Found) ≡ other → ⊥
+done_or_found true other one two = one
+done_or_found false other one two = two
+
+ended_not : (count : ℕ) (other : Status) → (ends.Done ≡ other → ⊥) → (ends.Found ≡ other → ⊥) → ended count ≡ other → ⊥
+ended_not count other = done_or_found (count == 0) other
+
+pub memory_or : (s : Status) → (s ≡ ends.Memory) ⊎ (s ≡ ends.Memory → ⊥)
+memory_or ends.Memory = inl refl
+memory_or ends.Done = inr (λ no. cc)
+memory_or ends.Found = inr (λ no. cc)
+memory_or ends.Words = inr (λ no. cc)
+memory_or ends.Refused = inr (λ no. cc)
+memory_or ends.DiskFault = inr (λ no. cc)
+memory_or ends.WriteFault = inr (λ no. cc)
+
+-- ---- the statuses that don't come
+
+-- neither Memory nor Words
+abbrev pub EndsOtherwise : Status → Type 0
+EndsOtherwise status = (status ≡ ends.Memory → ⊥) × (status ≡ ends.Words → ⊥)
+
+pub refusal_otherwise : (e : OpenError) (old new : Option (List ℕ)) (status : Status) → PrintsError ends.Refused ends.DiskFault ends.WriteFault e old new status → EndsOtherwise status
+refusal_otherwise e old new status prints = (
+  refusal_ends ends.Refused ends.DiskFault ends.WriteFault ends.Memory e old new status prints (λ no. cc) (λ no. cc) (λ no. cc),
+  refusal_ends ends.Refused ends.DiskFault ends.WriteFault ends.Words e old new status prints (λ no. cc) (λ no. cc) (λ no. cc),
+)
+
+pub tells_otherwise : (result : Result ℕ Ending) (old new : Option (List ℕ)) (status : Status) → Tells result old new status → EndsOtherwise status
+tells_otherwise (Ok count) old new status tells = (
+  text_ends ends.WriteFault (count_text count) (ended count) ends.Memory old new status tells (ended_not count ends.Memory (λ no. cc) (λ no. cc)) (λ no. cc),
+  text_ends ends.WriteFault (count_text count) (ended count) ends.Words old new status tells (ended_not count ends.Words (λ no. cc) (λ no. cc)) (λ no. cc),
+)
+tells_otherwise (Err (Neither place class)) old new status tells = (
+  text_ends ends.WriteFault (neither_text place class) ends.Refused ends.Memory old new status tells (λ no. cc) (λ no. cc),
+  text_ends ends.WriteFault (neither_text place class) ends.Refused ends.Words old new status tells (λ no. cc) (λ no. cc),
+)
+tells_otherwise (Err (Unopened e)) old new status tells = refusal_otherwise e old new status tells
+tells_otherwise (Err First) old new status tells = let is = tells.0 in (λ memory. cc (is, memory), λ words. cc (is, words))
+tells_otherwise (Err Second) old new status tells = let is = tells.0 in (λ memory. cc (is, memory), λ words. cc (is, words))
+tells_otherwise (Err Sink) old new status tells = let is = tells.0 in (λ memory. cc (is, memory), λ words. cc (is, words))
+
+-- ---- causes
+
+-- nothing failed
+pub nothing_causes : (before now : Faults) (status : Status) → now.first ≡ before.first → now.second ≡ before.second → now.sink ≡ before.sink → (status ≡ ends.DiskFault → ⊥) → (status ≡ ends.WriteFault → ⊥) → HasCauses ends.DiskFault ends.WriteFault before now status
+nothing_causes before now status one two three disk sink = record {
+  by_disks = record { rose = λ is. absurd (disk is); later = (omega (arith, one), omega (arith, two)); same = λ no. (one, two) };
+  by_sink = no_blame ends.WriteFault before.sink now.sink status three sink;
+}
+
+first_open : (e : OpenError) → is_first (Unopened e) ≡ is_open_fault e
+first_open opens.DiskFault = refl
+first_open opens.NotFormatted = refl
+first_open (opens.NoQuorum a) = refl
+first_open (opens.Version a) = refl
+first_open (opens.BadField a b) = refl
+first_open (opens.LayoutDiffers a b) = refl
+first_open (opens.Damaged a b) = refl
+first_open opens.BootSpent = refl
+
+module _ (before now : Faults) (old new : Option (List ℕ)) (status : Status) where
+  abbrev Causes : Type 0
+  Causes = HasCauses ends.DiskFault ends.WriteFault before now status
+
+  printed_causes : (text : List ℕ) (given : Status) → (given ≡ ends.DiskFault → ⊥) → now.first ≡ before.first → now.second ≡ before.second → Blames ends.WriteFault before.sink now.sink status → Writes ends.WriteFault text given old new status → Causes
+  printed_causes text given other one two blame printed = record {
+    by_disks = record {
+      rose = λ is. absurd (text_ends ends.WriteFault text given ends.DiskFault old new status printed other (λ no. cc) is);
+      later = (omega (arith, one), omega (arith, two));
+      same = λ no. (one, two);
+    };
+    by_sink = blame;
+  }
+
+  first_causes : status ≡ ends.DiskFault → (before.first ≤ now.first) × Rose before.first now.first → now.second ≡ before.second → Blames ends.WriteFault before.sink now.sink status → Causes
+  first_causes is rose two blame = record { by_disks = record { rose = λ yes. inl rose.1; later = (rose.0, omega (arith, two)); same = λ no. absurd (no is) }; by_sink = blame }
+
+  second_causes : status ≡ ends.DiskFault → now.first ≡ before.first → (before.second ≤ now.second) × Rose before.second now.second → Blames ends.WriteFault before.sink now.sink status → Causes
+  second_causes is one rose blame = record { by_disks = record { rose = λ yes. inr rose.1; later = (omega (arith, one), rose.0); same = λ no. absurd (no is) }; by_sink = blame }
+
+  -- a file isn't opened
+  pub open_causes : (T : Type 0) (e : OpenError) → IsBlamed {T = T} is_open_fault before.first now.first (Err e) → now.second ≡ before.second → Blames ends.WriteFault before.sink now.sink status → PrintsError ends.Refused ends.DiskFault ends.WriteFault e old new status → Causes
+  open_causes T e blamed two blame prints = elim (open_fault e) [
+    | inl fault ↦ first_causes (prints.failing fault).0 (subst (λ (x : OpenError). Blamed (is_open_fault x) before.first now.first) fault blamed) two blame
+    | inr other ↦ printed_causes (open_refusal e) ends.Refused (λ no. cc) (subst (λ (b : Bool). Blamed b before.first now.first) other.1 blamed) two blame (prints.other other.0)
+  ]
+
+  -- a mending ended so; the sink's count in between is this
+  pub mended_causes : (mid : ℕ) (result : Result ℕ Ending) → IsBlamed is_first before.first now.first result → IsBlamed is_second before.second now.second result → IsBlamed is_sink before.sink mid result
+      → ((result ≡ Err Sink → ⊥) → Blames ends.WriteFault mid now.sink status) → (result ≡ Err Sink → now.sink ≡ mid) → Tells result old new status → Causes
+  mended_causes mid (Ok count) one two three blame failed tells =
+      printed_causes (count_text count) (ended count) (ended_not count ends.DiskFault (λ no. cc) (λ no. cc)) one two (subst (λ (n : ℕ). Blames ends.WriteFault n now.sink status) three (blame (λ no. cc))) tells
+  mended_causes mid (Err (Neither place class)) one two three blame failed tells =
+      printed_causes (neither_text place class) ends.Refused (λ no. cc) one two (subst (λ (n : ℕ). Blames ends.WriteFault n now.sink status) three (blame (λ no. cc))) tells
+  mended_causes mid (Err (Unopened e)) one two three blame failed tells =
+      open_causes ℕ e (subst (λ (b : Bool). Blamed b before.first now.first) (first_open e) one) two (subst (λ (n : ℕ). Blames ends.WriteFault n now.sink status) three (blame (λ no. cc))) tells
+  mended_causes mid (Err First) one two three blame failed tells = first_causes tells.0 one two (subst (λ (n : ℕ). Blames ends.WriteFault n now.sink status) three (blame (λ no. cc)))
+  mended_causes mid (Err Second) one two three blame failed tells = second_causes tells.0 one two (subst (λ (n : ℕ). Blames ends.WriteFault n now.sink status) three (blame (λ no. cc)))
+  mended_causes mid (Err Sink) one two three blame failed tells =
+      let is : status ≡ ends.WriteFault = tells.0 in
+      let same : now.sink ≡ mid = failed refl in
+      record {
+        by_disks = record { rose = λ no. absurd (cc (is, no)); later = (omega (arith, one), omega (arith, two)); same = λ no. (one, two) };
+        by_sink = its_blame ends.WriteFault before.sink now.sink status is (subst (λ (n : ℕ). Rose before.sink n) (sym same) three.1);
+      }
+
+-- ---- the barrier
+
+synced : (T : Type 0) (old new : Option Told) (e : OpenError) → (e ≡ opens.DiskFault → ⊥) → Syncs {T = T} old new (Err e) → new ≡ after Sync old
+synced T old new opens.DiskFault other is = absurd (other refl)
+synced T old new opens.NotFormatted other is = is
+synced T old new (opens.NoQuorum a) other is = is
+synced T old new (opens.Version a) other is = is
+synced T old new (opens.BadField a b) other is = is
+synced T old new (opens.LayoutDiffers a b) other is = is
+synced T old new (opens.Damaged a b) other is = is
+synced T old new opens.BootSpent other is = is
+
+syncs_part : (T : Type 0) (old new : Option Told) (e : OpenError) → e ≡ opens.DiskFault → Syncs {T = T} old new (Err e) → (new ≡ old) ⊎ (new ≡ after Sync old)
+syncs_part T old new e fault is = subst (λ (x : OpenError). Syncs {T = T} old new (Err x)) fault is
+
+refused_of : (t : Told) (e : OpenError) → (e ≡ opens.DiskFault → ⊥) → TellsFoundAs 2 (Some t) (Err e) → Refuses t.shown e
+refused_of t opens.DiskFault other tells = absurd (other refl)
+refused_of t opens.NotFormatted other tells = tells
+refused_of t (opens.NoQuorum a) other tells = tells
+refused_of t (opens.Version a) other tells = tells
+refused_of t (opens.BadField a b) other tells = tells
+refused_of t (opens.LayoutDiffers a b) other tells = absurd tells
+refused_of t (opens.Damaged a b) other tells = absurd tells
+refused_of t opens.BootSpent other tells = absurd tells
+
+-- ---- the superblock can't be used
+
+module _ (T : Type 0) (e : OpenError) (old new : Outside) (status : Status) (barrier : Syncs {T = T} old.first new.first (Err e)) (prints : PrintsError ends.Refused ends.DiskFault ends.WriteFault e old.written new.written status) where
+  pub not_found : (t : Told) → old.first ≡ Some t → TellsFoundAs 2 old.first (Err e) → DidNothing old new status ⊎ RefusesSuperblock t old new status
+  not_found t told answer = elim (open_fault e) [
+    | inl fault ↦ inl (record { undone = record { written = (prints.failing fault).1; told = syncs_part T old.first new.first e fault barrier }; why = inr (prints.failing fault).0 })
+    | inr other ↦ inr (record {
+      error = e;
+      is = refused_of t e other.0 (subst (λ (o : Option Told). TellsFoundAs 2 o (Err e)) told answer);
+      prints = prints.other other.0;
+      barrier = synced T old.first new.first e other.0 barrier ∙ ap (after Sync) told;
+    })
+  ]
+
+-- ---- it can
+
+-- a survey for version 2 finds no other one
+of_version : (t : Bool) (f : SuperFields) → (f.version == 2) ≡ t → (if t then fault_of f else Some (OtherVersion f.version)) ≡ None → f.version ≡ 2
+of_version true f test usable = eqb-true f.version 2 test
+of_version false f test usable = absurd (let no : Some (OtherVersion f.version) ≡ None = usable in cc)
+
+pub version_found : (image : Image) (f : SuperFields) → HasSuperAs 2 image f → f.version ≡ 2
+version_found image f super = of_version (f.version == 2) f refl super.usable
+
+pub has_file : (b : Superblock) (image : Image) (f : SuperFields) → HasSuperAs 2 image f → b.content ≡ f → HasFile image b.file b.content
+has_file b image f super same = record {
+  super = subst (λ (n : ℕ). HasSuperAs n image b.content) (sym b.version) (subst (HasSuperAs 2 image) (sym same) super);
+  layout = record { slots = sym b.fields.slots; message_size = sym b.fields.message_size; clients = sym b.fields.clients; block_size = sym b.fields.block_size; blocks = sym b.fields.blocks };
+  cluster = b.fields.cluster_is;
+}
+
+-- the mending of it began behind the barrier
+pub mirrored_then : (b : Superblock) (t o : Told) (old mid new : Outside) (status : Status) → HasFile t.shown b.file b.content → mid.first ≡ Some (did Sync t) → mid.written ≡ old.written → (status ≡ ends.Memory → (new.first ≡ mid.first) × (new.written ≡ mid.written))
+    → ((status ≡ ends.Memory → ⊥) → Mirrored b (did Sync t) o mid new status) → old.first ≡ Some t → DidNothing old new status ⊎ RefusesSuperblock t old new status ⊎ Mirrors t o old new status
+mirrored_then b t o old mid new status has barrier silent memory mirrors told = elim (memory_or status) [
+  | inl is ↦ inl (record { undone = record { written = (memory is).1 ∙ silent; told = inr ((memory is).0 ∙ barrier ∙ ap (after Sync) (sym told)) }; why = inl is })
+  | inr other ↦
+      let m = mirrors other in
+      inr (inr (record {
+        base = b;
+        has = has;
+        mirrored = record {
+          text = m.text;
+          result = m.result;
+          answers = subst (λ (x : Option (List ℕ)). Answers b.file (content_of b) AreInOrder (did Sync t) o new.first x m.text m.result) silent m.answers;
+          shown = m.shown;
+          tells = m.tells;
+        };
+      }))
+]

@@ -1,0 +1,146 @@
+-- Mends one list after the other, and the answers of walks one after the other.
+use Rattle.std.proofs.Common.{◌≡◌, ℕ, ◌+◌, List, [], ◌∷◌, ◌++◌, length, Option, Some, refl, sym, ◌∙◌, ap, subst, arith, length-append, append_assoc}
+use Rattle.std.proofs.lemmas.Option.{same_Some}
+use Rattle.std.specs.Prelude.{Result, Ok, Err}
+use Rattle.df_base.specs.Image.{Image, IsImage}
+use Rattle.df_base.specs.Log.{Event, Sync, Write}
+use Rattle.df_base.specs.Streams.{Appends, AppendsPart}
+use Rattle.df_base.proofs.Laws.{appends_more, appends_none, appends_part, written_is_image}
+use Rattle.df_disk.specs.Adds.{AddsPart, after_all}
+use Rattle.df_disk.specs.Told.{Told, did}
+use Rattle.df_disk.proofs.Laws.{all_then}
+use Rattle.df_format.specs.declared.kind.Kind.{Kind}
+use Rattle.df_theory.specs.Units.{Content, Place}
+use Rattle.df_units.specs.Bytes.{first_at}
+use Rattle.df_units.specs.Meaning.{place_of}
+use Rattle.df_damage.specs.Anew.{told_after}
+use Rattle.df_opening.specs.Below.{DataFile}
+use Rattle.df_mirror.specs.declared.ending.Ending.{Ending}
+use Rattle.df_mirror.specs.declared.ending.Ending.TheVariants.{First, Neither, Second, Sink, Unopened}
+use Rattle.df_mirror.specs.Laws.{MendsGoOn}
+use Rattle.df_mirror.specs.Mends.{Answers, AreAt, AreMends, AreOfKind, Came, Failed, Mend, Mends, events_of, lines_of}
+use Rattle.df_mirror.specs.Texts.{mended_text}
+
+-- ---- lists
+
+told_append : (es fs : List Event) (t : Told) → told_after (es ++ fs) t ≡ told_after fs (told_after es t)
+told_append [] fs t = refl
+told_append (e ∷ es) fs t = told_append es fs (did e t)
+
+events_append : (file : DataFile) (ms ls : List Mend) → events_of file (ms ++ ls) ≡ events_of file ms ++ events_of file ls
+events_append file [] ls = refl
+events_append file (m ∷ ms) ls = ap (λ (es : List Event). Write (first_at file.layout m.place) m.bytes ∷ Sync ∷ es) (events_append file ms ls)
+
+lines_append : (ms ls : List Mend) → lines_of (ms ++ ls) ≡ lines_of ms ++ lines_of ls
+lines_append [] ls = refl
+lines_append (m ∷ ms) ls = ap (λ (rest : List ℕ). mended_text (place_of m.place) ++ rest) (lines_append ms ls) ∙ sym (append_assoc (mended_text (place_of m.place)) (lines_of ms) (lines_of ls))
+
+pub told_behind : (file : DataFile) (ms ls : List Mend) (t : Told) → told_after (events_of file (ms ++ ls)) t ≡ told_after (events_of file ls) (told_after (events_of file ms) t)
+told_behind file ms ls t = ap (λ (es : List Event). told_after es t) (events_append file ms ls) ∙ told_append (events_of file ms) (events_of file ls) t
+
+pub mends_go_on : MendsGoOn
+mends_go_on file c second t [] later are then = then
+mends_go_on file c second t (m ∷ ms) later are then = (are.0, mends_go_on file c second (told_after (events_of file (m ∷ [])) t) ms later are.1 then)
+
+pub after_told : (es : List Event) (t : Told) → after_all es (Some t) ≡ Some (told_after es t)
+after_told [] t = refl
+after_told (e ∷ es) t = after_told es (did e t)
+
+-- sectors stay whole
+pub image_after : (file : DataFile) (c : Content) (second : Image) (t : Told) (ms : List Mend) → IsImage t.shown → AreMends file c second t ms → IsImage (told_after (events_of file ms) t).shown
+image_after file c second t [] whole are = whole
+image_after file c second t (m ∷ ms) whole are =
+    image_after file c second (told_after (events_of file (m ∷ [])) t) ms (written_is_image (first_at file.layout m.place) m.bytes t.shown are.0.puts.piece whole) are.1
+
+pub kinds_append : (kind : Kind) (ms ls : List Mend) → AreOfKind kind ms → AreOfKind kind ls → AreOfKind kind (ms ++ ls)
+kinds_append kind [] ls one two = two
+kinds_append kind (m ∷ ms) ls one two = (one.0, kinds_append kind ms ls one.1 two)
+
+pub kind_at : (kind : Kind) (place : Place) (ms : List Mend) → AreAt kind place ms → AreOfKind kind ms
+kind_at kind place [] are = tt
+kind_at kind place (m ∷ ms) are = (are.0, kind_at kind place ms are.2)
+
+-- ---- answers
+
+module _ (file : DataFile) (c : Content) (Of : List Mend → Type 0) (none : Of []) (t o : Told) (new : Option Told) (old text : Option (List ℕ)) (same : new ≡ Some t) (silent : text ≡ old) where
+  nothing : Appends old text []
+  nothing = subst (λ (x : Option (List ℕ)). Appends old x []) (sym silent) (appends_none old)
+
+  pub none_came : (Last : List Mend → Told → Type 0) → Last [] t → Came file c Of t o new old text Last
+  none_came Last last = record { mends = []; after = t; after_is = same; are_of = none; does = record { are = tt; told = refl; printed = nothing }; last = last }
+
+  pub none_failed : Failed file c Of t o new old text
+  none_failed = record { mends = []; are_of = none; does = record { are = tt; told = same; printed = (0, omega arith, nothing) } }
+
+-- what comes last is another fact
+pub came_with : (file : DataFile) (c : Content) (Of Also : List Mend → Type 0) (t o : Told) (new : Option Told) (old text : Option (List ℕ)) (One Other : List Mend → Told → Type 0) → ((ms : List Mend) → Of ms → Also ms)
+    → ((ms : List Mend) (n : Told) → new ≡ Some n → One ms n → Other ms n) → Came file c Of t o new old text One → Came file c Also t o new old text Other
+came_with file c Of Also t o new old text One Other of last came = record { mends = came.mends; after = came.after; after_is = came.after_is; are_of = of came.mends came.are_of; does = came.does; last = last came.mends came.after came.after_is came.last }
+
+failed_with : (file : DataFile) (c : Content) (Of Also : List Mend → Type 0) (t o : Told) (new : Option Told) (old text : Option (List ℕ)) → ((ms : List Mend) → Of ms → Also ms) → Failed file c Of t o new old text → Failed file c Also t o new old text
+failed_with file c Of Also t o new old text of failed = record { mends = failed.mends; are_of = of failed.mends failed.are_of; does = failed.does }
+
+pub answers_with : (file : DataFile) (c : Content) (Of Also : List Mend → Type 0) (t o : Told) (new : Option Told) (old text : Option (List ℕ)) (result : Result ℕ Ending) → ((ms : List Mend) → Of ms → Also ms) → Answers file c Of t o new old text result
+    → Answers file c Also t o new old text result
+answers_with file c Of Also t o new old text (Ok n) of is = came_with file c Of Also t o new old text _ _ of (λ ms n same last. last) is
+answers_with file c Of Also t o new old text (Err (Neither place class)) of is = came_with file c Of Also t o new old text _ _ of (λ ms n same last. last) is
+answers_with file c Of Also t o new old text (Err (Unopened e)) of is = came_with file c Of Also t o new old text _ _ of (λ ms n same last. last) is
+answers_with file c Of Also t o new old text (Err First) of is = failed_with file c Of Also t o new old text of is
+answers_with file c Of Also t o new old text (Err Second) of is = failed_with file c Of Also t o new old text of is
+answers_with file c Of Also t o new old text (Err Sink) of is = failed_with file c Of Also t o new old text of is
+
+-- so many more were mended
+abbrev pub more : ℕ → Result ℕ Ending → Result ℕ Ending
+more a (Ok b) = Ok (a + b)
+more a (Err e) = Err e
+
+module _ (file : DataFile) (c : Content) (Of Then All : List Mend → Type 0) (closed : (ms ls : List Mend) → Of ms → Then ls → All (ms ++ ls)) (t o : Told) (ms : List Mend) (of : Of ms) (old text : Option (List ℕ)) (does : Mends file c t o (told_after (events_of file ms) t) old text ms) where
+  abbrev Mid : Told
+  Mid = told_after (events_of file ms) t
+
+  join : (new : Option Told) (later : Option (List ℕ)) (One Other : List Mend → Told → Type 0) → ((ls : List Mend) (n : Told) → One ls n → Other (ms ++ ls) n) → Came file c Then Mid o new text later One → Came file c All t o new old later Other
+  join new later One Other last came = record {
+    mends = ms ++ came.mends;
+    after = came.after;
+    after_is = came.after_is;
+    are_of = closed ms came.mends of came.are_of;
+    does = record {
+      are = mends_go_on file c o.shown t ms came.mends does.are came.does.are;
+      told = came.does.told ∙ sym (told_behind file ms came.mends t);
+      printed = subst (λ (p : List ℕ). Appends old later p) (sym (lines_append ms came.mends)) (appends_more old text later (lines_of ms) (lines_of came.mends) does.printed came.does.printed);
+    };
+    last = last came.mends came.after came.last;
+  }
+
+  join_failed : (new : Option Told) (later : Option (List ℕ)) → Failed file c Then Mid o new text later → Failed file c All t o new old later
+  join_failed new later failed = record {
+    mends = ms ++ failed.mends;
+    are_of = closed ms failed.mends of failed.are_of;
+    does = record {
+      are = mends_go_on file c o.shown t ms failed.mends does.are failed.does.are;
+      told = subst (λ (es : List Event). AddsPart es (Some t) new) (sym (events_append file ms failed.mends)) (all_then (events_of file ms) (events_of file failed.mends) (Some t) (Some Mid) new (sym (after_told (events_of file ms) t)) failed.does.told);
+      printed = subst (λ (p : List ℕ). AppendsPart old later p) (sym (lines_append ms failed.mends)) (appends_part old text later (lines_of ms) (lines_of failed.mends) does.printed failed.does.printed);
+    };
+  }
+
+  pub joined : (a : ℕ) → a ≡ length ms → (new : Option Told) (later : Option (List ℕ)) (result : Result ℕ Ending) → Answers file c Then Mid o new text later result → Answers file c All t o new old later (more a result)
+  joined a size new later (Ok b) is = join new later (λ ls n. b ≡ length ls) (λ ls n. a + b ≡ length ls) (λ ls n count. omega (arith, size, count, length-append ms ls)) is
+  joined a size new later (Err (Neither place class)) is = join new later _ _ (λ ls n last. last) is
+  joined a size new later (Err (Unopened e)) is = join new later _ _ (λ ls n last. last) is
+  joined a size new later (Err First) is = join_failed new later is
+  joined a size new later (Err Second) is = join_failed new later is
+  joined a size new later (Err Sink) is = join_failed new later is
+
+-- what one walk mended, and what the next one does
+pub answers_then : (file : DataFile) (c : Content) (Of Then All : List Mend → Type 0) → ((ms ls : List Mend) → Of ms → Then ls → All (ms ++ ls)) → (t o m : Told) (mid new : Option Told) (old text later : Option (List ℕ)) (a : ℕ) (result : Result ℕ Ending)
+    → Answers file c Of t o mid old text (Ok a) → mid ≡ Some m → Answers file c Then m o new text later result → Answers file c All t o new old later (more a result)
+answers_then file c Of Then All closed t o m mid new old text later a result came is rest =
+    let same : m ≡ told_after (events_of file came.mends) t = sym (same_Some _ _ (sym came.after_is ∙ is)) ∙ came.does.told in
+    let does : Mends file c t o (told_after (events_of file came.mends) t) old text came.mends = record { are = came.does.are; told = refl; printed = came.does.printed } in
+    joined file c Of Then All closed t o came.mends came.are_of old text does a came.last new later result (subst (λ (x : Told). Answers file c Then x o new text later result) same rest)
+
+-- what is told behind a walk is whole
+pub told_is_whole : (file : DataFile) (c : Content) (Of : List Mend → Type 0) (t o m : Told) (mid : Option Told) (old text : Option (List ℕ)) (a : ℕ) → IsImage t.shown → Answers file c Of t o mid old text (Ok a) → mid ≡ Some m → IsImage m.shown
+told_is_whole file c Of t o m mid old text a whole came is =
+    let same : m ≡ told_after (events_of file came.mends) t = sym (same_Some _ _ (sym came.after_is ∙ is)) ∙ came.does.told in
+    subst (λ (x : Told). IsImage x.shown) (sym same) (image_after file c o.shown t came.mends whole came.does.are)

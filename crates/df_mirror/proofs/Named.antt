@@ -1,0 +1,115 @@
+-- The prepares that the superblock names: each is due where those above it are shown, and the walk goes one prepare further down.
+use Rattle.std.proofs.Common.{◌≡◌, ℕ, ◌+◌, ◌-◌, ◌%◌, ◌==◌, ◌<◌, ◌≤◌, if◌then◌else◌, List, [], ◌∷◌, length, Option, Some, refl, sym, ◌∙◌, ap, subst, arith, inl, inr}
+use Rattle.std.proofs.lemmas.Bool.{cases_lt}
+use Rattle.std.proofs.lemmas.Option.{same_Some}
+use Rattle.std.specs.Prelude.{Ok}
+use Rattle.df_base.specs.Image.{IsImage}
+use Rattle.df_disk.specs.Told.{Told}
+use Rattle.df_format.specs.declared.kind.Kind.{Kind}
+use Rattle.df_format.specs.declared.kind.Kind.TheVariants.{Block as AsBlock, Prepare, Reply, Trailer}
+use Rattle.df_format.specs.Message as format
+use Rattle.df_format.specs.SuperRules.{IsUsable}
+use Rattle.df_theory.specs.Opens.{AreKnown, named_by}
+use Rattle.df_theory.specs.Units.{AnyUnit, BlockPlace, Message, Place, PreparePlace, PrepareUnit, ReplyPlace, Units}
+use Rattle.df_theory.proofs.Laws.{mod_apart}
+use Rattle.df_units.specs.Meaning.{message_of, number_of}
+use Rattle.df_units.specs.Wanted.{checksum_of}
+use Rattle.df_opening.specs.Below.{shape}
+use Rattle.df_mirror.specs.declared.superblock.Superblock.{Superblock}
+use Rattle.df_mirror.specs.Known.{IsDue, IsKnown, IsShownAs, IsSpare}
+use Rattle.df_mirror.specs.Mends.{Answers, AreAt}
+use Rattle.df_mirror.specs.Taking.{ShowsUnit}
+use Rattle.df_mirror.specs.Walks.{NamesFrom, ShowsNamed, content_of, units_of}
+use Rattle.df_mirror.proofs.Frames.{other_place}
+use Rattle.df_mirror.proofs.Logs.{same_known}
+
+-- known prepares are known in an image whose ring shows them, too
+pub ring_there : (n : ℕ) (image other : Units) (op sum : ℕ) (ps : List Message) → AreKnown n image op sum ps → ((o : ℕ) → op ≤ o → o < op + length ps → other (PreparePlace (o % n)) ≡ image (PreparePlace (o % n))) → AreKnown n other op sum ps
+ring_there n image other op sum [] known same = tt
+ring_there n image other op sum (p ∷ ps) known same = (
+  same op (omega arith) (omega arith) ∙ known.0,
+  known.1,
+  ring_there n image other (op + 1) sum ps known.2 (λ o low high. same o (omega arith) (omega arith)),
+)
+
+-- no two ops within one turn of the ring have one slot
+one_slot : (n low o q : ℕ) → 0 < n → low < o → o ≤ low + n → low < q → q ≤ low + n → o % n ≡ q % n → o ≡ q
+one_slot n low o q some above within above' within' same = elim (cases_lt o q) [
+  | inl less ↦ absurd (mod_apart n o q some less (omega arith) same)
+  | inr more ↦ elim (cases_lt q o) [
+    | inl less ↦ absurd (mod_apart n q o some less (omega arith) (sym same))
+    | inr less ↦ omega (arith, more, less)
+  ]
+]
+
+module _ (b : Superblock) where
+  pub pin_is : (content_of b).pin ≡ b.content.head
+  pin_is = ap (λ (v : ℕ). if v == 2 then b.content.head else b.content.op) b.second
+
+  pin_checksum_is : (content_of b).pin_checksum ≡ number_of b.content.head_checksum
+  pin_checksum_is = ap (λ (v : ℕ). number_of (if v == 2 then b.content.head_checksum else b.content.op_checksum)) b.second
+
+  -- at the head none is above
+  pub names_head : (image : Units) → NamesFrom b image b.content.head (number_of b.content.head_checksum)
+  names_head image = record { later = []; known = tt; count = omega (arith, pin_is); sum_is = sym pin_checksum_is }
+
+  -- and at the checkpoint all are
+  pub names_all : (image : Units) (op sum : ℕ) → NamesFrom b image op sum → op ≡ b.content.op → ShowsNamed b image
+  names_all image op sum from is = record {
+    named = from.later;
+    known = subst (λ (o : ℕ). AreKnown b.file.layout.slots image (o + 1) (content_of b).pin_checksum from.later) is from.known;
+    count = subst (λ (o : ℕ). o + length from.later ≡ (content_of b).pin) is from.count;
+  }
+
+  -- the prepares that are named are within one turn of the ring
+  within : IsUsable b.content → (content_of b).pin ≤ b.content.op + b.file.layout.slots
+  within usable = omega (arith, usable.rules.head, b.fields.slots, pin_is)
+
+  some : 0 < b.file.layout.slots
+  some = (shape b.file).some
+
+  module _ (usable : IsUsable b.content) (t : Told) (op sum : ℕ) (above : b.content.op < op) (from : NamesFrom b (units_of b t.shown) op sum) where
+    up_to_pin : op ≤ (content_of b).pin
+    up_to_pin = omega (arith, from.count)
+
+    spare : (IsShownAs (units_of b t.shown) Prepare (PreparePlace (op % b.file.layout.slots)) sum → ⊥) → IsSpare (shape b.file) (units_of b t.shown) (content_of b) (PreparePlace (op % b.file.layout.slots))
+    spare lacks = at_kind
+      where
+        at_kind : (kind : Kind) (at : Place) (k : ℕ) → IsKnown (shape b.file) (units_of b t.shown) (content_of b) kind at k → IsShownAs (units_of b t.shown) kind at k → at ≡ PreparePlace (op % b.file.layout.slots) → ⊥
+        at_kind Prepare (PreparePlace s) k known shown same =
+            let slot : s ≡ op % b.file.layout.slots = cc in
+            let high : known.op ≤ (content_of b).pin = omega (arith, known.count) in
+            let one : known.op ≡ op = one_slot b.file.layout.slots b.content.op known.op op some known.above (omega (arith, high, within usable)) above (omega (arith, up_to_pin, within usable)) (sym known.slot_is ∙ slot) in
+            let there : AreKnown b.file.layout.slots (units_of b t.shown) (op + 1) (content_of b).pin_checksum known.later = subst (λ (o : ℕ). AreKnown b.file.layout.slots (units_of b t.shown) (o + 1) (content_of b).pin_checksum known.later) one known.known in
+            let later : known.later ≡ from.later = same_known b.file.layout.slots (units_of b t.shown) (op + 1) (content_of b).pin_checksum known.later from.later there from.known (omega (arith, known.count, from.count, one)) in
+            let sums : k ≡ sum = known.sum_is ∙ ap (λ (l : List Message). named_by (content_of b).pin_checksum l) later ∙ sym from.sum_is in
+            lacks (subst (λ (n : ℕ). IsShownAs (units_of b t.shown) Prepare (PreparePlace (op % b.file.layout.slots)) n) sums (subst (λ (p : Place). IsShownAs (units_of b t.shown) Prepare p k) same shown))
+        at_kind Trailer (BlockPlace a) k known shown same = cc
+        at_kind AsBlock (BlockPlace a) k known shown same = cc
+        at_kind Reply (ReplyPlace p) k known shown same = cc
+        at_kind kind at k known shown same = absurd known
+
+    pub named_due : IsDue (shape b.file) (units_of b t.shown) (content_of b) Prepare (PreparePlace (op % b.file.layout.slots)) sum
+    named_due = record { known = record { op = op; above = above; slot_is = refl; later = from.later; known = from.known; count = from.count; sum_is = from.sum_is }; spare = spare }
+
+  -- one that is mended is shown, and names the one before it
+  pub names_on : IsUsable b.content → (t o m : Told) (op : ℕ) (check : List ℕ) (new : Option Told) (written text : Option (List ℕ)) (u : format.Message) (more : ℕ) → IsImage t.shown → b.content.op < op → NamesFrom b (units_of b t.shown) op (number_of check)
+      → Answers b.file (content_of b) (AreAt Prepare (PreparePlace (op % b.file.layout.slots))) t o new written text (Ok more) → new ≡ Some m → ShowsUnit b.file Prepare (PreparePlace (op % b.file.layout.slots)) check m.shown u
+      → NamesFrom b (units_of b m.shown) (op - 1) (number_of u.header.parent)
+  names_on usable t o m op check new written text u more whole above from mends is shows =
+      let n = b.file.layout.slots in
+      let image = units_of b m.shown in
+      let pin = (content_of b).pin_checksum in
+      let same : shows.unit ≡ PrepareUnit (message_of u) = same_Some _ _ (sym shows.unit_is) in
+      let there : image (PreparePlace (op % n)) ≡ Some (PrepareUnit (message_of u)) = shows.shown ∙ sym shows.unit_is in
+      let sum : (message_of u).header.checksum ≡ named_by pin from.later = sym (ap checksum_of same) ∙ shows.sum_is ∙ from.sum_is in
+      let later : AreKnown n image (op + 1) pin from.later = ring_there n (units_of b t.shown) image (op + 1) pin from.later from.known
+      (λ q low high. other_place b.file (content_of b) t o m new written text whole is (PreparePlace (q % n)) Prepare (PreparePlace (op % n)) more mends
+      (λ (one : PreparePlace (op % n) ≡ PreparePlace (q % n)). mod_apart n op q some (omega (arith, low)) (omega (arith, high, from.count, within usable, above)) (cc))) in
+      let one : op ≡ (op - 1) + 1 = omega (arith, above) in
+      record {
+        later = message_of u ∷ from.later;
+        known = subst (λ (k : ℕ). AreKnown n image k pin (message_of u ∷ from.later)) one (there, sum, later);
+        count = omega (arith, from.count, above);
+        sum_is = refl;
+      }

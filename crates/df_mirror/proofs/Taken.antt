@@ -1,0 +1,171 @@
+-- One unit is mended, or isn't: as a list of mends.
+use Rattle.std.proofs.Common.{◌≡◌, ℕ, ◌≤◌, List, [], ◌∷◌, ◌++◌, length, take, Option, Some, None, refl, sym, ◌∙◌, ap, subst, arith, inl, inr}
+use Rattle.std.proofs.lemmas.List.{append-nil}
+use Rattle.std.proofs.lemmas.Option.{same_Some}
+use Rattle.std.specs.Prelude.{Result, Ok, Err, IfOk}
+use Rattle.df_base.specs.Image.{IsImage}
+use Rattle.df_base.specs.Log.{Sync, Write}
+use Rattle.df_base.specs.Streams.{Appends, AppendsPart}
+use Rattle.df_base.proofs.Laws.{appends_none}
+use Rattle.df_disk.specs.Adds.{AddsPart, after_all}
+use Rattle.df_disk.specs.Told.{Told, did}
+use Rattle.df_disk.proofs.Laws.{all_is_part}
+use Rattle.df_layout.specs.declared.damage.Class.{Class}
+use Rattle.df_layout.specs.declared.layout.Layout.{Layout}
+use Rattle.df_layout.specs.declared.places.Place.{Place as FilePlace}
+use Rattle.df_format.specs.declared.kind.Kind.{Kind}
+use Rattle.df_format.specs.Message.{sectors_end}
+use Rattle.df_buffers.specs.declared.identity.Identity.{Identity}
+use Rattle.df_buffers.specs.Sounds.{Holding}
+use Rattle.df_places.specs.Shelves.{IsFound, shown_at}
+use Rattle.df_places.specs.Units.{unit_events}
+use Rattle.df_theory.specs.Device.{IsPut}
+use Rattle.df_theory.specs.UnitLog.{put_one}
+use Rattle.df_theory.specs.Units.{AnyUnit, Content, Place, Units, or_else}
+use Rattle.df_theory.proofs.Laws.{put_one_law}
+use Rattle.df_units.specs.Bytes.{first_at}
+use Rattle.df_units.specs.Format.{format_of}
+use Rattle.df_units.specs.Meaning.{number_of, place_of, unit_of}
+use Rattle.df_units.specs.Wanted.{checksum_of}
+use Rattle.df_opening.specs.Below.{DataFile, shape}
+use Rattle.df_mirror.specs.declared.ending.Ending.{Ending}
+use Rattle.df_mirror.specs.declared.ending.Ending.TheVariants.{First, Neither, Second, Sink, Unopened}
+use Rattle.df_mirror.specs.Known.{IsDue, IsKnown, IsShownAs}
+use Rattle.df_mirror.specs.Mends.{Answers, AreAt, Came, Failed, IsMend, IsNeither, Mend, units_in}
+use Rattle.df_mirror.specs.Outside.{Outside}
+use Rattle.df_mirror.specs.Taking.{IsFor, IsSame, LacksIt, PutsUnit, ShowsIt, ShowsUnit, Takes, TakesUnit, WritesUnit, count_in}
+use Rattle.df_mirror.specs.Texts.{mended_text}
+use Rattle.df_mirror.proofs.Joined.{none_came, none_failed}
+use Rattle.df_mirror.proofs.Loaded.{IsUnitOf, class_is, found_unit, lacks_unit, shows_unit}
+
+-- ---- one
+
+-- what was written of the second file's unit
+pub takes_all : (kind : Kind) (identity : Identity) (class : Class) (old new : Outside) (held : Holding) (result : Result Holding Ending) → IsFound kind identity held.unit → ShowsIt identity old.second held.unit → PutsUnit identity.layout identity.place held
+    → WritesUnit identity.layout identity.place held old.first new.first old.written new.written result → IfOk result (λ back. back ≡ held) → TakesUnit kind identity class old new result
+takes_all kind identity class old new held (Ok back) found shown puts writes same =
+    subst (λ (h : Holding). Takes kind identity old new h (Ok tt)) (sym same) (record { found = found; shown = shown; puts = puts; writes = writes })
+takes_all kind identity class old new held (Err First) found shown puts writes same = (held, record { found = found; shown = shown; puts = puts; writes = writes })
+takes_all kind identity class old new held (Err Sink) found shown puts writes same = (held, record { found = found; shown = shown; puts = puts; writes = writes })
+takes_all kind identity class old new held (Err Second) found shown puts writes same = absurd writes
+takes_all kind identity class old new held (Err (Unopened e)) found shown puts writes same = absurd writes
+takes_all kind identity class old new held (Err (Neither place other)) found shown puts writes same = absurd writes
+
+abbrev bytes_of : Holding → List ℕ
+bytes_of held = take (sectors_end held.unit.header.size) held.bytes
+
+module _ (file : DataFile) (kind : Kind) (at : Place) (check : List ℕ) (identity : Identity) (for : IsFor file kind at check identity) (held : Holding) (found : IsFound kind identity held.unit) (puts : PutsUnit identity.layout identity.place held) where
+  there : IsUnitOf kind at check held.unit
+  there = found_unit file kind at check identity for held.unit found
+
+  put : IsPut (format_of file.layout file.cluster) (first_at file.layout at) (bytes_of held) (put_one at there.unit)
+  put =
+      let steps : PutsUnit file.layout (place_of at) held = subst (λ (i : Identity). PutsUnit i.layout i.place held) for.is puts in
+      let owner : held.unit.header.cluster ≡ file.cluster = found.is.owner ∙ ap (λ (i : Identity). i.cluster) for.is in
+      subst (λ (k : ℕ). IsPut (format_of file.layout k) (first_at file.layout at) (bytes_of held) (put_one at there.unit)) owner (steps at there.unit refl there.unit_is).0
+
+  the_mend : Mend
+  the_mend = record { kind = kind; place = at; unit = there.unit; bytes = bytes_of held }
+
+  -- what the write tells, in the file's own places
+  own_place : {T : Type 0} (result : Result T Ending) (first new : Option Told) (old text : Option (List ℕ)) → WritesUnit identity.layout identity.place held first new old text result → WritesUnit file.layout (place_of at) held first new old text result
+  own_place result first new old text writes = subst (λ (i : Identity). WritesUnit i.layout i.place held first new old text result) for.is writes
+
+  -- a unit that was written is shown
+  pub written_is_shown : (t n : Told) (new : Option Told) (old text : Option (List ℕ)) → IsImage t.shown → WritesUnit identity.layout identity.place held (Some t) new old text {T = Unit {0}} (Ok tt) → new ≡ Some n → ShowsUnit file kind at check n.shown held.unit
+  written_is_shown t n new old text seen writes is =
+      let own = own_place {T = Unit {0}} (Ok tt) (Some t) new old text writes in
+      let same : n ≡ did Sync (did (Write (first_at file.layout at) (bytes_of held)) t) = same_Some _ _ (sym is ∙ own.0) in
+      record {
+        unit = there.unit;
+        unit_is = there.unit_is;
+        shown = ap (λ (m : Told). units_in file m.shown at) same ∙ put.shows t.shown at seen ∙ ap (λ (y : Option AnyUnit). or_else y (units_in file t.shown at)) (put_one_law at there.unit).at;
+        of_kind = there.of_kind;
+        sum_is = there.sum_is;
+      }
+
+  module _ (c : Content) (t o : Told) (shown : shown_at identity o.shown ≡ Some held.unit) (due : IsDue (shape file) (units_in file t.shown) c kind at (number_of check)) (lacks : IsShownAs (units_in file t.shown) kind at (number_of check) → ⊥) where
+    is_mend : IsMend file c t.shown o.shown the_mend
+    unfolding the_mend there
+    is_mend =
+        let from = shows_unit file kind at check identity for o.shown held.unit shown found in
+        let sum = sym there.sum_is in
+        record {
+          known = subst (λ (n : ℕ). IsKnown (shape file) (units_in file t.shown) c kind at n) sum due.known;
+          lacks = subst (λ (n : ℕ). IsShownAs (units_in file t.shown) kind at n → ⊥) sum lacks;
+          spare = due.spare lacks;
+          of_kind = there.of_kind;
+          from = from.shown ∙ sym from.unit_is ∙ there.unit_is;
+          puts = put;
+        }
+
+    pub one_mended : (new : Option Told) (old text : Option (List ℕ)) → WritesUnit identity.layout identity.place held (Some t) new old text {T = Unit {0}} (Ok tt) → Came file c (AreAt kind at) t o new old text (λ ms n. 1 ≡ length ms)
+    unfolding the_mend
+    one_mended new old text writes =
+        let own = own_place {T = Unit {0}} (Ok tt) (Some t) new old text writes in
+        record {
+          mends = the_mend ∷ [];
+          after = _;
+          after_is = own.0;
+          are_of = (refl, refl, tt);
+          does = record { are = (is_mend, tt); told = refl; printed = subst (λ (p : List ℕ). Appends old text p) (sym (append-nil (mended_text (place_of at)))) own.1 };
+          last = refl;
+        }
+
+    pub one_unwritten : (new : Option Told) (old text : Option (List ℕ)) → WritesUnit identity.layout identity.place held (Some t) new old text {T = Unit {0}} (Err First) → Failed file c (AreAt kind at) t o new old text
+    unfolding the_mend
+    one_unwritten new old text writes =
+        let own = own_place {T = Unit {0}} (Err First) (Some t) new old text writes in
+        record { mends = the_mend ∷ []; are_of = (refl, refl, tt); does = record { are = (is_mend, tt); told = own.0; printed = (0, omega arith, subst (λ (x : Option (List ℕ)). Appends old x []) (sym own.1) (appends_none old)) } }
+
+    pub one_unprinted : (new : Option Told) (old text : Option (List ℕ)) → WritesUnit identity.layout identity.place held (Some t) new old text {T = Unit {0}} (Err Sink) → Failed file c (AreAt kind at) t o new old text
+    unfolding the_mend
+    one_unprinted new old text writes =
+        let own = own_place {T = Unit {0}} (Err Sink) (Some t) new old text writes in
+        record {
+          mends = the_mend ∷ [];
+          are_of = (refl, refl, tt);
+          does = record { are = (is_mend, tt); told = all_is_part (unit_events file.layout (place_of at) held) (Some t) new own.0; printed = subst (λ (p : List ℕ). AppendsPart old text p) (sym (append-nil (mended_text (place_of at)))) own.1 };
+        }
+
+module _ (file : DataFile) (c : Content) (kind : Kind) (at : Place) (check : List ℕ) (identity : Identity) (for : IsFor file kind at check identity) (t o : Told) (due : IsDue (shape file) (units_in file t.shown) c kind at (number_of check))
+    (lacks : IsShownAs (units_in file t.shown) kind at (number_of check) → ⊥) where
+  -- ---- whatever the second file shows
+
+  abbrev From : Option (List ℕ) → Outside
+  From old = record { first = Some t; second = Some o; written = old }
+
+  -- how many were written, where the unit came from the second file
+  abbrev pub one_in : Result Holding Ending → Result ℕ Ending
+  one_in (Ok held) = Ok 1
+  one_in (Err e) = Err e
+
+  neither : (class other : Class) (place : FilePlace) → IsImage o.shown → place ≡ identity.place → LacksIt kind identity (Some t) class → LacksIt kind identity (Some o) other → IsNeither file c t.shown o.shown place class
+  neither class other place whole is first second = record {
+    kind = kind;
+    at = at;
+    sum = number_of check;
+    place_is = is ∙ ap (λ (i : Identity). i.place) for.is;
+    known = due.known;
+    lacks = lacks;
+    other = lacks_unit file kind at check identity for o.shown whole second.0;
+    class_is = class_is file kind at check identity for t.shown class first.1;
+  }
+
+  pub taken : (class : Class) (old : Option (List ℕ)) (new : Outside) (result : Result Holding Ending) → IsImage o.shown → LacksIt kind identity (Some t) class → TakesUnit kind identity class (From old) new result
+      → Answers file c (AreAt kind at) t o new.first old new.written (one_in result)
+  taken class old new (Ok held) whole first takes = one_mended file kind at check identity for held takes.found takes.puts c t o takes.shown due lacks new.first old new.written takes.writes
+  taken class old new (Err First) whole first takes = let h = takes.0 in let by = takes.1 in one_unwritten file kind at check identity for h by.found by.puts c t o by.shown due lacks new.first old new.written by.writes
+  taken class old new (Err Sink) whole first takes = let h = takes.0 in let by = takes.1 in one_unprinted file kind at check identity for h by.found by.puts c t o by.shown due lacks new.first old new.written by.writes
+  taken class old new (Err Second) whole first takes = none_failed file c (AreAt kind at) tt t o new.first old new.written takes.0 takes.1
+  taken class old new (Err (Unopened e)) whole first takes = absurd takes
+  taken class old new (Err (Neither place other)) whole first takes =
+      none_came file c (AreAt kind at) tt t o new.first old new.written takes.2.0 takes.2.1 (λ ms n. IsNeither file c n.shown o.shown place other)
+      (neither other takes.3.0 place whole takes.0 (subst (λ (k : Class). LacksIt kind identity (Some t) k) (sym takes.1) first) takes.3.1)
+
+-- the outside as it is told
+pub told_from : (kind : Kind) (identity : Identity) (class : Class) (old new : Outside) (result : Result Holding Ending) (t o : Told) → old.first ≡ Some t → old.second ≡ Some o → TakesUnit kind identity class old new result
+    → TakesUnit kind identity class (record { first = Some t; second = Some o; written = old.written }) new result
+told_from kind identity class old new result t o first second takes =
+    subst (λ (s : Option Told). TakesUnit kind identity class (record { first = Some t; second = s; written = old.written }) new result) second
+    (subst (λ (f : Option Told). TakesUnit kind identity class (record { first = f; second = old.second; written = old.written }) new result) first takes)

@@ -1,0 +1,200 @@
+-- What is read of the trailer, in the theory's words.
+use Rattle.std.proofs.Common.{◌≡◌, ◌≢◌, inl, inr, ℕ, zero, suc, ◌+◌, ◌-◌, ◌<◌, ◌≤◌, ◌==◌, ◌||◌, Bool, true, false, List, [], ◌∷◌, map, Option, Some, None, refl, sym, ◌∙◌, ap, subst, arith, eq-eqb, eqb-true}
+use Rattle.std.specs.Prelude.{◌^◌, min, Result, Ok, Err, slice_get}
+use Rattle.arrayvec.specs.ArrayVec.{ArrayVec}
+use Rattle.df_base.specs.Fields.{AreBytes}
+use Rattle.df_base.specs.Image.{Image, IsImage}
+use Rattle.df_disk.specs.Told.{Told}
+use Rattle.df_layout.specs.declared.fields.Field.TheVariants.{Pending}
+use Rattle.df_layout.specs.declared.layout.Layout.{Layout}
+use Rattle.df_format.specs.declared.kind.Kind.TheVariants.{Trailer}
+use Rattle.df_format.specs.SuperRules.{IsSuper}
+use Rattle.df_format.specs.declared.superblock.SuperFields.{SuperFields}
+use Rattle.df_model.specs.Blocks.{Blocks, addresses, entries, sum_at}
+use Rattle.df_model.specs.declared.errors.OpenError.TheVariants.{BadField, BootSpent, Damaged, DiskFault, LayoutDiffers, NoQuorum, NotFormatted, Version}
+use Rattle.df_model.specs.Supply.{Shown}
+use Rattle.df_model.proofs.Laws.{entry_at, entry_in}
+use Rattle.df_theory.specs.Sessions.{Has}
+use Rattle.df_theory.specs.Trailer.{InChain, IsReference, IsTrailer, no_parts, text_of}
+use Rattle.df_theory.specs.Units as model
+use Rattle.df_theory.specs.Units.{Block, BlockPlace, BlockUnit, Parts, Units}
+use Rattle.df_theory.proofs.Laws.{text_bytes}
+use Rattle.df_units.specs.Meaning.{layout_of}
+use Rattle.df_units.proofs.Laws.{of_places}
+use Rattle.df_sessions.specs.declared.session.Session.{Session}
+use Rattle.df_sessions.specs.Requests.{session_of, sessions_of}
+use Rattle.df_trailer.specs.Reading.{HasRead}
+use Rattle.df_trailer.specs.Rooms.{AreParts, without_reply}
+use Rattle.df_trailer.specs.Text.{parse_of, parts_of}
+use Rattle.df_trailer.specs.declared.parts.Parts as rooms
+use Rattle.df_trailer.specs.declared.reader.Reader.{Reader}
+use Rattle.df_trailer.proofs.Laws.{text_read}
+use Rattle.df_grid.specs.Grid.{GridState}
+use Rattle.df_grid.specs.Reads.{shown_of}
+use Rattle.df_grid.specs.Table.{no_blocks}
+use Rattle.df_checkpoint.specs.Chain.{OfTold, asked}
+use Rattle.df_checkpoint.specs.Reads.{ChainAnswer, IsAdopted, IsComplete}
+use Rattle.df_checkpoint.specs.Waiting.{IsPending, has_op}
+use Rattle.df_checkpoint.specs.declared.fault.TrailerFault.{TrailerFault}
+use Rattle.df_checkpoint.specs.declared.fault.TrailerFault.TheVariants as trailer
+use Rattle.df_checkpoint.proofs.Laws.{its_text, some_chain}
+use Rattle.df_opening.specs.Below.{shape}
+use Rattle.df_mirror.specs.declared.ending.Ending.{Ending}
+use Rattle.df_mirror.specs.declared.ending.Ending.TheVariants.{First, Neither, Second, Sink, Unopened}
+use Rattle.df_mirror.specs.declared.superblock.Superblock.{Superblock}
+use Rattle.df_mirror.specs.Known.{AreShown, ShowsTrailer}
+use Rattle.df_mirror.specs.Refusals.{RefusesTrailer}
+use Rattle.df_mirror.specs.Trailers.{ReadsNamed, empty_grid, ending_of, pending_ending}
+use Rattle.df_mirror.specs.Walks.{HasText, ReadsText, content_of, units_of}
+use Rattle.df_mirror.proofs.Chains.{asked_shown, block_shown}
+use Rattle.df_mirror.proofs.Counts.{reference}
+
+-- ---- sessions
+
+sessions_back : (ss : List model.Session) → sessions_of (map without_reply ss) ≡ ss
+sessions_back [] = refl
+sessions_back (s ∷ ss) = ap (λ (l : List model.Session). s ∷ l) (sessions_back ss)
+
+-- an op of a session of the table is one of the list's
+op_there : (op : ℕ) (ss : List Session) → has_op op ss ≡ true → Has (sessions_of ss) op
+op_there op [] is = absurd (cc)
+op_there op (s ∷ ss) is = by (s.op == op) refl is (λ later. op_there op ss later)
+  where
+    by : (t : Bool) → (s.op == op) ≡ t → (t || has_op op ss) ≡ true → (has_op op ss ≡ true → Has (sessions_of ss) op) → Has (sessions_of (s ∷ ss)) op
+    by true test all rest = (0, session_of s, refl, eqb-true s.op op test)
+    by false test all rest = let there = rest all in (suc there.0, there.1, there.2, there.3)
+
+op_missing : (op : ℕ) (ss : List Session) → has_op op ss ≡ false → Has (sessions_of ss) op → ⊥
+op_missing op [] none (k, s, at, same) = let no : None ≡ Some s = at in cc
+op_missing op (t ∷ ss) none (k, s, at, same) = by k at (t.op == op) refl none (λ j there later. op_missing op ss later (j, s, there, same))
+  where
+    by : (k : ℕ) → slice_get (sessions_of (t ∷ ss)) k ≡ Some s → (b : Bool) → (t.op == op) ≡ b → (b || has_op op ss) ≡ false → ((j : ℕ) → slice_get (sessions_of ss) j ≡ Some s → has_op op ss ≡ false → ⊥) → ⊥
+    by k there true test all rest = cc
+    by zero there false test all rest =
+        let one : session_of t ≡ s = (let both : Some (session_of t) ≡ Some s = there in cc) in
+        let yes : (t.op == op) ≡ true = eq-eqb t.op op (ap (λ (x : model.Session). x.op) one ∙ same) in
+        cc
+    by (suc j) there false test all rest = rest j there all
+
+not_zero : (n : ℕ) → n ≢ 0 → 0 < n
+not_zero zero other = absurd (other refl)
+not_zero (suc n) other = omega arith
+
+-- ---- what the reader gives
+
+abbrev pub GivesParts : Reader → rooms.Parts → Type 0
+GivesParts reader parts = (layout : Layout) (op : ℕ) (text : List ℕ) → HasRead layout op reader text → AreParts (layout_of layout) parts (parts_of (layout_of layout) text)
+
+-- a reader that has read a whole text gives this of it
+pub of_complete : (P : Layout → ℕ → Type 0) (g : GridState) (op : ℕ) (reader : Reader) (layout : Layout) → IsComplete g op reader → g.layout ≡ layout → ((l : Layout) (o : ℕ) (text : List ℕ) → HasRead l o reader text → P l o) → P layout op
+of_complete P g op reader layout complete same gives = subst (λ (l : Layout). P l op) same (gives g.layout op complete.text complete.has)
+
+module _ (b : Superblock) (usable : IsSuper b.content) (t : Told) (whole : IsImage t.shown) (g : GridState) (reader : Reader) (parts : rooms.Parts) (named : b.content.trailer_address ≢ 0)
+    (adopted : IsAdopted (shape b.file) (shown_of b.file.layout b.file.cluster t.shown) (content_of b) g reader) (same : g.layout ≡ b.file.layout) (gives : GivesParts reader parts) where
+  said : AreParts (layout_of b.file.layout) parts adopted.parts
+  said = subst (AreParts (layout_of b.file.layout) parts) (sym adopted.parts_are) (gives b.file.layout b.content.op (text_of adopted.chain) (subst (λ (l : Layout). HasRead l b.content.op reader (text_of adopted.chain)) same adopted.has))
+
+  bytes : AreBytes (text_of adopted.chain)
+  bytes = text_bytes (shape b.file) (units_of b t.shown) adopted.chain (of_places b.file.layout b.file.cluster b.file.named (parse_of (layout_of b.file.layout)) t.shown whole) adopted.shows
+
+  -- a reference is one to a block of the grid
+  inside : (a c : ℕ) → adopted.parts.references a ≡ Some c → (0 < a) × (a ≤ b.file.layout.blocks)
+  inside a c is =
+      let l = layout_of b.file.layout in
+      let text = text_of adopted.chain in
+      let parsed = its_text (shape b.file) b.content.op adopted.chain adopted.parts (some_chain (b.file.layout.block_size - 256) (content_of b) adopted.chain (not_zero b.content.trailer_address named) adopted.trailer.links) adopted.trailer.says in
+      let read = text_read l (min b.content.op (2 ^ 62)) text adopted.parts (omega arith) bytes parsed in
+      (read.lawful.references a c is).0
+
+  live : (a : ℕ) → sum_at a g.blocks.live ≡ adopted.parts.references a
+  live a = ap (λ (x : List (ℕ × ℕ)). sum_at a x) (ap (λ (x : Blocks). x.live) adopted.blocks) ∙ by (adopted.parts.references a) refl (sum_at a (entries adopted.parts.references (addresses (layout_of b.file.layout)))) refl
+    where
+      by : (f : Option ℕ) → adopted.parts.references a ≡ f → (s : Option ℕ) → sum_at a (entries adopted.parts.references (addresses (layout_of b.file.layout))) ≡ s → sum_at a (entries adopted.parts.references (addresses (layout_of b.file.layout))) ≡ adopted.parts.references a
+      by (Some c) is s at = let in_grid = inside a c is in entry_at adopted.parts.references 1 b.file.layout.blocks a in_grid.0 (omega (arith, in_grid.1))
+      by None is (Some c) at = at ∙ sym (entry_in adopted.parts.references (addresses (layout_of b.file.layout)) a c at)
+      by None is None at = at ∙ sym is
+
+  pub named_text : HasText b (units_of b t.shown) g parts.sessions.items
+  named_text = record {
+    says = record { chain = adopted.chain; parts = adopted.parts; trailer = adopted.trailer; shown = adopted.shows };
+    inside = inside;
+    live = live;
+    sessions_are = sym (ap sessions_of said.sessions ∙ sessions_back adopted.parts.sessions);
+  }
+
+-- ---- why it isn't read
+
+pub named_refused : (b : Superblock) (image : Image) (g h : GridState) (reader : Reader) (e : TrailerFault) → ChainAnswer (shape b.file) (shown_of b.file.layout b.file.cluster image) (content_of b) g reader (Err e) → ReadsNamed b image h (Err (ending_of e))
+named_refused b image g h reader (trailer.Damaged address class) answer = (address, answer)
+named_refused b image g h reader (trailer.BadField field value) (inl broken) = inl (inl broken)
+named_refused b image g h reader (trailer.BadField field value) (inr (inl text)) = inl (inr (inl text))
+named_refused b image g h reader (trailer.BadField field value) (inr (inr referenced)) = inl (inr (inr (inl referenced)))
+named_refused b image g h reader trailer.DiskFault answer = tt
+
+-- where each block that is wanted is shown, none is refused as damaged
+pub text_refused : (b : Superblock) (image : Image) (g : GridState) (e : Ending) → AreShown (shape b.file) (units_of b image) (content_of b) Trailer → ReadsNamed b image g (Err e) → ReadsText b image (Err e)
+text_refused b image g (Unopened (Damaged place class)) shown (a, lacking) =
+    let there = block_shown (units_of b image) a lacking.sum (shown (BlockPlace a) lacking.sum lacking.reads) in
+    let ok = asked_shown (shown_of b.file.layout b.file.cluster image) a lacking.sum there.0 there.1 there.2 there.3 in
+    let both : Ok there.0 ≡ Err class = sym ok ∙ lacking.is in
+    absurd (cc)
+text_refused b image g (Unopened (BadField field value)) shown is = is
+text_refused b image g (Unopened NotFormatted) shown is = is
+text_refused b image g (Unopened (NoQuorum classes)) shown is = is
+text_refused b image g (Unopened (Version found)) shown is = is
+text_refused b image g (Unopened (LayoutDiffers reserved found)) shown is = is
+text_refused b image g (Unopened DiskFault) shown is = is
+text_refused b image g (Unopened BootSpent) shown is = is
+text_refused b image g First shown is = tt
+text_refused b image g Second shown is = is
+text_refused b image g Sink shown is = is
+text_refused b image g (Neither place class) shown is = is
+
+-- what is answered of a disk that is told
+pub told_answer : (b : Superblock) (h g : GridState) (reader : Reader) (result : Result (Unit {0}) TrailerFault) (told : Option Told) → h ≡ empty_grid b
+    → OfTold h told (λ shown. ChainAnswer (shape b.file) shown (content_of b) g reader result) → (t : Told) → told ≡ Some t → ChainAnswer (shape b.file) (shown_of b.file.layout b.file.cluster t.shown) (content_of b) g reader result
+told_answer b h g reader result told same answer t is =
+    subst (λ (x : GridState). ChainAnswer (shape b.file) (shown_of x.layout x.cluster t.shown) (content_of b) g reader result) same (subst (λ (o : Option Told). OfTold h o (λ shown. ChainAnswer (shape b.file) shown (content_of b) g reader result)) is answer)
+
+-- ---- the ops that wait
+
+-- of copies of the sessions and of the superblock
+pub pending_of : (lent ss : List Session) (fields f : SuperFields) (o : Option ℕ) → lent ≡ ss → fields ≡ f → IsPending lent fields.replies fields.op o → IsPending ss f.replies f.op o
+pending_of lent ss fields f o same one pending = subst (λ (l : List Session). IsPending l f.replies f.op o) same (subst (λ (x : SuperFields). IsPending lent x.replies x.op o) one pending)
+
+pub text_untracked : (b : Superblock) (image : Image) (g : GridState) (ss : List Session) (n : ℕ) → b.content.trailer_address ≢ 0 → HasText b (units_of b image) g ss → IsPending ss b.content.replies b.content.op (Some n) → RefusesTrailer b.file image (content_of b) (BadField Pending n)
+text_untracked b image g ss n named text lacking = inl (inr (inr (inr (
+  refl,
+  record {
+    chain = text.says.chain;
+    whole = record { links = text.says.trailer.links; count = text.says.trailer.count; inside = text.says.trailer.inside; size = text.says.trailer.size; shows = text.says.shown };
+    parts = text.says.parts;
+    says = its_text (shape b.file) b.content.op text.says.chain text.says.parts (some_chain (b.file.layout.block_size - 256) (content_of b) text.says.chain (not_zero b.content.trailer_address named) text.says.trailer.links) text.says.trailer.says;
+    spare = text.says.trailer.spare;
+    above = lacking.above;
+    reached = lacking.reached;
+    lacks = λ has. op_missing n ss lacking.lacks (subst (λ (l : List model.Session). Has l n) text.sessions_are has);
+    least = λ m above less. subst (λ (l : List model.Session). Has l m) (sym text.sessions_are) (op_there m ss (lacking.least m above less));
+  },
+))))
+
+-- ---- no trailer
+
+pub grid_is : (b : Superblock) (g : GridState) (l : Layout) → g ≡ record { layout = l; cluster = b.file.cluster; boot = 0; blocks = no_blocks } → l ≡ b.file.layout → g ≡ empty_grid b
+grid_is b g l is same = subst (λ (x : Layout). g ≡ record { layout = x; cluster = b.file.cluster; boot = 0; blocks = no_blocks }) same is
+
+pub no_text : (b : Superblock) (image : Units) → IsSuper b.content → b.content.trailer_address ≡ 0 → HasText b image (empty_grid b) []
+no_text b image usable none =
+    let is = reference b usable in
+    let zero : b.content.trailer_size ≡ 0 = (is.none none).1 in
+    record {
+      says = record {
+        chain = [];
+        parts = no_parts;
+        trailer = record { reference = is; links = none; count = record { holds = omega (arith, zero); needed = λ some. absurd (omega arith) }; inside = λ a x no. absurd no; size = sym zero; says = refl; spare = λ a x no. refl };
+        shown = λ a x no. absurd no;
+      };
+      inside = λ a sum is. cc;
+      live = λ a. refl;
+      sessions_are = refl;
+    }

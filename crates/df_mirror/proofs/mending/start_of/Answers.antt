@@ -1,0 +1,1 @@
+-- The head that a superblock names is far below the greatest number.

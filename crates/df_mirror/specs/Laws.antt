@@ -1,0 +1,79 @@
+-- What a list of mends leaves true of the first file, whatever it is and wherever a stop falls.
+use Rattle.std.specs.Prelude.{◌≡◌, ◌⊎◌, ◌<◌, ◌++◌, ℕ, true, List, [], ◌∷◌, Some}
+use Rattle.df_base.specs.Image.{Image, IsImage}
+use Rattle.df_base.specs.Log.{IsLeft, Log, Sync, add, now}
+use Rattle.df_base.specs.Moments.{EachMoment}
+use Rattle.df_disk.specs.Told.{IsHonest, Told, did}
+use Rattle.df_format.specs.declared.kind.Kind.{Kind}
+use Rattle.df_theory.specs.Chance.{InPool}
+use Rattle.df_theory.specs.Copies.{IsChosen}
+use Rattle.df_theory.specs.Device.{units_log}
+use Rattle.df_theory.specs.Found.{IsFound}
+use Rattle.df_theory.specs.Units.{Content, Message, Place, ReplyPlace, ReplyUnit}
+use Rattle.df_theory.specs.View.{View}
+use Rattle.df_units.specs.Bytes.{has}
+use Rattle.df_units.specs.Format.{format_of}
+use Rattle.df_damage.specs.Anew.{IsStill, told_after}
+use Rattle.df_damage.specs.Histories.{HasRaised, MayReopen}
+use Rattle.df_damage.specs.Hurt.{IsUnhurt}
+use Rattle.df_damage.specs.Unrefused.{IsNotRefused}
+use Rattle.df_damage.specs.Versions.{IsUnspent}
+use Rattle.df_opening.specs.Below.{DataFile, shape}
+use Rattle.df_mirror.specs.Known.{AllShown, IsKnown, IsShownAs}
+use Rattle.df_mirror.specs.Mends.{AreMends, Mend, events_of, units_in}
+
+-- mends of what mends left go on with them
+abbrev pub MendsGoOn : Type 0
+MendsGoOn =
+    (file : DataFile) (c : Content) (second : Image) (t : Told) (ms later : List Mend) → AreMends file c second t ms → AreMends file c second (told_after (events_of file ms) t) later
+    → AreMends file c second t (ms ++ later)
+
+-- each known unit that an image shows is shown by the other one
+abbrev pub KeepsShown : DataFile → Content → (image other : Image) → Type 0
+KeepsShown file c image other =
+    (kind : Kind) (place : Place) (sum : ℕ) → IsKnown (shape file) (units_in file image) c kind place sum → IsShownAs (units_in file image) kind place sum → IsShownAs (units_in file other) kind place sum
+
+-- each image that a stop may leave at this moment shows them
+abbrev pub LeavesShown : DataFile → Content → Image → Log → Type 0
+LeavesShown file c image log = (left : Image) → IsLeft log left → KeepsShown file c image left
+
+-- At every moment each known unit that was shown is still shown, in what the disk shows and in whatever a stop leaves: those that are known and shown behind some of the mends are shown through all that come later. The log is any over which the disk is
+-- honest and of which nothing is loose, as the one that is begun anew behind the barrier.
+abbrev pub KnownStays : Type 0
+KnownStays =
+    (file : DataFile) (c : Content) (second : Image) (t u : Told) (ms later : List Mend) → IsHonest t → IsStill t.log → IsImage t.shown → AreMends file c second t (ms ++ later) → u ≡ told_after (events_of file ms) t
+    → EachMoment u.log (told_after (events_of file later) u).log (LeavesShown file c u.shown)
+
+-- ---- what an open finds then
+
+-- the sector is one of a place at which a unit is known
+pub record IsOfKnown (file : DataFile) (c : Content) (image : Image) (sector : ℕ) : Type 0 where
+  pub kind : Kind
+  pub place : Place
+  pub sum : ℕ
+  pub known : IsKnown (shape file) (units_in file image) c kind place sum
+  pub has_it : has file.layout place sector ≡ true
+
+-- whatever is hurt is a sector of the superblock, or of a unit that is known of what the log leaves
+abbrev pub IsHurtKnown : DataFile → Content → Told → Type 0
+IsHurtKnown file c t = (sector : ℕ) → IsUnhurt t sector ⊎ ((sector < 4) ⊎ IsOfKnown file c (now t.log) sector)
+
+-- the newest log of a history is its first one, or its boot was raised since it began: so it is wherever the last open came to its end
+abbrev pub HasWoken : DataFile → Log → List Log → Type 0
+HasWoken file log [] = Unit {0}
+HasWoken file log (before ∷ logs) = HasRaised file log before logs
+
+-- no reply of the superblock's boot is shown that comes from before the newest log began
+abbrev pub AreOwnReplies : DataFile → Content → Log → Image → Type 0
+AreOwnReplies file c log image = (k : ℕ) (r : Message) → units_in file image (ReplyPlace k) ≡ Some (ReplyUnit r) → r.header.boot ≡ c.boot → InPool (units_log (format_of file.layout file.cluster) (add Sync log)) (ReplyPlace k) (ReplyUnit r)
+
+-- Over a lived history nothing was hurt but the sectors of known units and what of the superblock an open may miss, and no unit of what is shown at the end came about by chance. Then the next open, with rooms of the file's layout, finds the view that the log
+-- left, and isn't refused. The last open had come to its end. Where it was stopped before it raised the boot, no reply of that boot may come back from before it: in a hurt slot such a reply, which that open hadn't found, hides the recorded one, and it
+-- says that a prepare was lost; so nothing is written over it, and the next open refuses.
+abbrev pub MirroredIsOpened : Type 0
+MirroredIsOpened =
+    (file : DataFile) (view : View) (c : Content) (second : Image) (t n : Told) (logs : List Log) (ms : List Mend)
+    → IsFound (shape file) (units_in file (now t.log)) view → IsUnspent 2 view → IsHurtKnown file view.checkpoint.content t → MayReopen file t.log logs n.shown
+    → HasWoken file t.log logs ⊎ AreOwnReplies file view.checkpoint.content t.log n.shown
+    → IsImage t.shown → IsChosen (units_in file t.shown) c → AreMends file c second (did Sync t) ms → n ≡ told_after (events_of file ms) (did Sync t) → AllShown (shape file) (units_in file n.shown) c
+    → IsFound (shape file) (units_in file n.shown) view × IsNotRefused file n.shown

@@ -1,0 +1,11 @@
+pub mod Known
+pub mod Refusals
+pub mod Texts
+pub mod Statuses
+pub mod Outside
+pub mod Mends
+pub mod Taking
+pub mod Laws
+pub mod Run
+pub mod Walks
+pub mod Trailers

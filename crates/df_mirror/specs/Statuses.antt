@@ -1,0 +1,37 @@
+-- How a run ends: the numbers of the statuses, and what each ending blames.
+use Rattle.std.specs.Prelude.{◌≡◌, ℕ, Bool, true, false}
+use Rattle.df_model.specs.declared.errors.OpenError.TheVariants.{DiskFault}
+use Rattle.df_mirror.specs.declared.ending.Ending.{Ending}
+use Rattle.df_mirror.specs.declared.ending.Ending.TheVariants.{First, Neither, Second, Sink, Unopened}
+use Rattle.df_mirror.specs.declared.status.Status.{Status}
+use Rattle.df_mirror.specs.declared.status.Status.TheVariants as ends
+
+-- those of `datafile` that come
+abbrev pub number_of : Status → ℕ
+number_of ends.Done = 0
+number_of ends.Found = 1
+number_of ends.Words = 2
+number_of ends.Refused = 4
+number_of ends.DiskFault = 5
+number_of ends.WriteFault = 7
+number_of ends.Memory = 8
+
+-- the first file's disk failed
+abbrev pub is_first : Ending → Bool
+is_first First = true
+is_first (Unopened DiskFault) = true
+is_first e = false
+
+-- the second file's did
+abbrev pub is_second : Ending → Bool
+is_second Second = true
+is_second e = false
+
+-- the sink failed
+abbrev pub is_sink : Ending → Bool
+is_sink Sink = true
+is_sink e = false
+
+-- neither the second file's disk nor the sink is blamed
+abbrev pub IsOfFirst : Ending → Type 0
+IsOfFirst e = (is_second e ≡ false) × (is_sink e ≡ false)

@@ -1,0 +1,166 @@
+-- What each walk has come to: how far the chain is read, which blocks and prepares are shown, and the sessions at the superblock's head.
+use Rattle.std.specs.Prelude.{◌≡◌, ◌⊎◌, ◌-◌, ◌+◌, ◌<◌, ◌≤◌, ℕ, List, ◌∷◌, [], ◌++◌, length, map, take, Option, Some, Result, Ok, Err, IfOk, OnOk}
+use Rattle.df_base.specs.Image.{Image}
+use Rattle.df_disk.specs.Told.{Told}
+use Rattle.df_format.specs.declared.kind.Kind.TheVariants.{Block as AsBlock, Prepare, Reply, Trailer}
+use Rattle.df_format.specs.declared.header.Header.{Header}
+use Rattle.df_format.specs.declared.reference.Reference.{Reference}
+use Rattle.df_format.specs.Message as format
+use Rattle.df_layout.specs.declared.damage.Class.{Class}
+use Rattle.df_layout.specs.declared.fields.Field.TheVariants.{TrailerChain}
+use Rattle.df_model.specs.Blocks.{sum_at}
+use Rattle.df_model.specs.declared.errors.OpenError.TheVariants.{BadField}
+use Rattle.df_theory.specs.Opens.{AreKnown, AreLinks, Arrives, IsLink, named_by}
+use Rattle.df_theory.specs.Units
+use Rattle.df_theory.specs.Units.{Block, BlockPlace, Content, Message, PreparePlace, PrepareUnit, ReplyPlace, ReplyUnit, Units}
+use Rattle.df_units.specs.Meaning.{block_of, number_of}
+use Rattle.df_sessions.specs.declared.session.Session.{Session}
+use Rattle.df_sessions.specs.Requests.{sessions_of}
+use Rattle.df_sessions.specs.Table.{Table}
+use Rattle.df_journal.specs.Scan.{Scan}
+use Rattle.df_journal.specs.Shows.{TellsRings}
+use Rattle.df_grid.specs.Grid.{GridState}
+use Rattle.df_checkpoint.specs.Chain.{content_in}
+use Rattle.df_opening.specs.Below.{shape}
+use Rattle.df_mirror.specs.declared.chain.Walk.{Walk}
+use Rattle.df_mirror.specs.declared.ending.Ending.{Ending}
+use Rattle.df_mirror.specs.declared.ending.Ending.TheVariants.{First, Unopened}
+use Rattle.df_mirror.specs.declared.superblock.Superblock.{Superblock}
+use Rattle.df_mirror.specs.declared.trailer.Text.{Text}
+use Rattle.df_mirror.specs.Known.{AreShown, HasSessions, IsRecorded, IsShownAs, ShowsTrailer}
+use Rattle.df_mirror.specs.Mends.{Answers, AreAt, AreOfKind, units_in}
+use Rattle.df_mirror.specs.Outside.{Outside}
+use Rattle.df_mirror.specs.Refusals.{RefusesTrailer}
+use Rattle.df_mirror.specs.Taking.{count_in}
+
+-- what the superblock says, in the words of the theory
+abbrev pub content_of : Superblock → Content
+content_of b = content_in b.content
+
+-- what an image of its file shows
+abbrev pub units_of : Superblock → Image → Units
+units_of b image = units_in b.file image
+
+-- the address is one of the grid
+abbrev pub IsInside : Superblock → ℕ → Type 0
+IsInside b a = (1 ≤ a) × (a ≤ b.file.layout.blocks)
+
+-- of n blocks that are wanted the last ones are shown as the chain asks for them, and this one is wanted next
+pub record HasWalked (b : Superblock) (image : Units) (n : ℕ) (walk : Walk) : Type 0 where
+  pub chain : List (ℕ × Block)
+  pub addresses : walk.read.items ≡ map (λ x. x.0) chain
+  pub arrives : Arrives image chain (content_of b).trailer (content_of b).trailer_checksum walk.at.address (number_of walk.at.checksum)
+  pub links : AreLinks (shape b.file) (content_of b) n chain
+
+-- a block of the trailer that isn't a link, or stands where another one does
+abbrev pub broken_at : ℕ → Ending
+broken_at address = Unopened (BadField TrailerChain address)
+
+-- the reference that a block has to the one before
+abbrev pub before_of : format.Message → Reference
+before_of u = record { address = u.header.request; checksum = u.header.parent }
+
+-- the block is the link with this index, and the walk goes on to the block that it names; or it isn't
+abbrev pub GoesOn : Superblock → (at : Reference) → (read : List ℕ) → ℕ → format.Message → Result Walk Ending → Type 0
+GoesOn b at read index u (Ok walk) = IsLink (shape b.file) (content_of b) index (block_of u) × (walk.at ≡ before_of u) × (walk.read.items ≡ read ++ at.address ∷ [])
+GoesOn b at read index u (Err e) = (e ≡ broken_at at.address) × (IsLink (shape b.file) (content_of b) index (block_of u) → ⊥)
+
+-- one link more is mended
+pub record MendsLink (b : Superblock) (n : ℕ) (t o : Told) (old new : Outside) (result : Result (Walk × ℕ) Ending) : Type 0 where
+  pub answers : Answers b.file (content_of b) (AreOfKind Trailer) t o new.first old.written new.written (count_in result)
+  pub walked : (u : Told) → new.first ≡ Some u → IfOk result (λ done. HasWalked b (units_of b u.shown) n done.0)
+
+-- ---- the trailer
+
+-- the trailer is shown whole, its references are what the grid has as live blocks, and its sessions are these
+pub record HasText (b : Superblock) (image : Units) (grid : GridState) (sessions : List Session) : Type 0 where
+  pub says : ShowsTrailer (shape b.file) image (content_of b)
+  pub inside : (a sum : ℕ) → says.parts.references a ≡ Some sum → IsInside b a
+  pub live : (a : ℕ) → sum_at a grid.blocks.live ≡ says.parts.references a
+  pub sessions_are : says.parts.sessions ≡ sessions_of sessions
+
+-- what the reading answers, where each block that is wanted is shown
+abbrev pub ReadsText : Superblock → Image → Result Text Ending → Type 0
+ReadsText b image (Ok text) = HasText b (units_of b image) text.grid text.sessions.sessions
+ReadsText b image (Err (Unopened e)) = RefusesTrailer b.file image (content_of b) e
+ReadsText b image (Err First) = Unit {0}
+ReadsText b image (Err e) = ⊥
+
+-- ---- the blocks that it references
+
+-- those up to this address are shown
+pub record ShowsBlocks (b : Superblock) (image : Units) (grid : GridState) (sessions : List Session) (to : ℕ) : Type 0 where
+  pub has : HasText b image grid sessions
+  pub shown : (a sum : ℕ) → a ≤ to → sum_at a grid.blocks.live ≡ Some sum → IsShownAs image AsBlock (BlockPlace a) sum
+
+-- the block at the next address is mended, if one is referenced there
+pub record MendsBlock (b : Superblock) (grid : GridState) (sessions : List Session) (address : ℕ) {T : Type 0} (t o : Told) (old new : Outside) (result : Result (T × ℕ) Ending) : Type 0 where
+  pub answers : Answers b.file (content_of b) (AreOfKind AsBlock) t o new.first old.written new.written (count_in result)
+  pub shown : (u : Told) → new.first ≡ Some u → OnOk result (ShowsBlocks b (units_of b u.shown) grid sessions address)
+
+-- ---- the prepares
+
+-- all prepares above this op that the superblock names are shown as they are named, and this is the checksum of the one with the op
+pub record NamesFrom (b : Superblock) (image : Units) (op sum : ℕ) : Type 0 where
+  pub later : List Message
+  pub known : AreKnown b.file.layout.slots image (op + 1) (content_of b).pin_checksum later
+  pub count : op + length later ≡ (content_of b).pin
+  pub sum_is : sum ≡ named_by (content_of b).pin_checksum later
+
+-- all of them are
+pub record ShowsNamed (b : Superblock) (image : Units) : Type 0 where
+  pub named : List Message
+  pub known : AreKnown b.file.layout.slots image (b.content.op + 1) (content_of b).pin_checksum named
+  pub count : b.content.op + length named ≡ (content_of b).pin
+
+-- ---- the replies
+
+-- the table of slots says what the rings of the image show, and the table of sessions has those at the superblock's head, as many as there are places for
+pub record HasHead (b : Superblock) (image : Units) (slots : Scan) (table : Table) : Type 0 where
+  pub tells : TellsRings b.file.layout image slots
+  pub sessions : List Units.Session
+  pub has : HasSessions (shape b.file) image (content_of b) sessions
+  pub places : table.max ≡ b.file.layout.clients
+  pub table_is : sessions_of table.sessions ≡ take b.file.layout.clients sessions
+
+-- the known replies at the places below this one are shown
+pub record ShowsReplies (b : Superblock) (image : Units) (slots : Scan) (table : Table) (to : ℕ) : Type 0 where
+  pub has : HasHead b image slots table
+  pub shown : (k sum : ℕ) → k < to → IsRecorded (shape b.file) image (content_of b) k sum → IsShownAs image Reply (ReplyPlace k) sum
+
+-- what is seen in a slot is a reply of the superblock's boot above those that it records
+abbrev pub IsNewer : Superblock → Result Header Class → Type 0
+IsNewer b (Ok h) = (h.boot ≡ b.content.boot) × (b.content.replies < h.op)
+IsNewer b (Err class) = ⊥
+
+-- the slot shows such a reply
+abbrev pub HasNewer : Superblock → Units → ℕ → Type 0
+HasNewer b image k = (r : Message) × (image (ReplyPlace k) ≡ Some (ReplyUnit r)) × (r.header.boot ≡ (content_of b).boot) × ((content_of b).replies < r.header.op)
+
+-- the reply with this checksum is mended, where it is known if its slot shows nothing newer: it is shown then, or something newer is
+pub record MendsRecorded (b : Superblock) (k : ℕ) (check : List ℕ) {T : Type 0} (t o : Told) (old new : Outside) (result : Result (T × ℕ) Ending) : Type 0 where
+  pub answers : ((HasNewer b (units_of b t.shown) k → ⊥) → IsRecorded (shape b.file) (units_of b t.shown) (content_of b) k (number_of check)) → Answers b.file (content_of b) (AreAt Reply (ReplyPlace k)) t o new.first old.written new.written (count_in result)
+  pub shown : (u : Told) → new.first ≡ Some u → OnOk result (HasNewer b (units_of b u.shown) k ⊎ IsShownAs (units_of b u.shown) Reply (ReplyPlace k) (number_of check))
+
+-- the reply of the session at the next place is mended, if it is known
+pub record MendsReply (b : Superblock) (slots : Scan) (table : Table) (place : ℕ) {T : Type 0} (t o : Told) (old new : Outside) (result : Result (T × ℕ) Ending) : Type 0 where
+  pub answers : Answers b.file (content_of b) (AreOfKind Reply) t o new.first old.written new.written (count_in result)
+  pub shown : (u : Told) → new.first ≡ Some u → OnOk result (ShowsReplies b (units_of b u.shown) slots table (place + 1))
+
+-- a prepare of the superblock's boot above its head, of this client
+pub record IsLater (b : Superblock) (client : ℕ) (p : Message) : Type 0 where
+  pub boot : p.header.boot ≡ (content_of b).boot
+  pub above : (content_of b).pin < p.header.op
+  pub of_client : p.header.client ≡ client
+
+-- the ring shows one
+abbrev pub HasLater : Superblock → Units → ℕ → Type 0
+HasLater b image client = (s : ℕ) × (p : Message) × (image (PreparePlace s) ≡ Some (PrepareUnit p)) × IsLater b client p
+
+-- ---- both
+
+-- the prepares and the replies that are known are shown, and the grid is as it was
+pub record ShowsLog (b : Superblock) (image now : Units) : Type 0 where
+  pub blocks : (a : ℕ) → now (BlockPlace a) ≡ image (BlockPlace a)
+  pub prepares : AreShown (shape b.file) now (content_of b) Prepare
+  pub replies : AreShown (shape b.file) now (content_of b) Reply

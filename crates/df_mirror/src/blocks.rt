@@ -1,0 +1,86 @@
+// The blocks that the trailer references, in order of address.
+ghost use Rattle.std.specs.Prelude.{◌≡◌, ◌+◌, ◌<◌, ◌≤◌, List, Some, IfOk, OnOk};
+ghost use Rattle.df_base.specs.Causes.{IsBlamed};
+ghost use Rattle.df_disk.specs.Told.{Told};
+ghost use Rattle.df_format.specs.declared.kind.Kind.TheVariants.{Block as AsBlock};
+ghost use Rattle.df_sessions.specs.declared.session.Session.{Session};
+ghost use Rattle.df_mirror.specs.Mends.{Answers, AreOfKind};
+ghost use Rattle.df_mirror.specs.Outside.{Tell, around};
+ghost use Rattle.df_mirror.specs.Statuses.{is_first, is_second, is_sink};
+ghost use Rattle.df_mirror.specs.Walks.{HasText, MendsBlock, ShowsBlocks, content_of, units_of};
+
+use crate::chain::block_at;
+use crate::ending::Ending;
+use crate::superblock::Superblock;
+use crate::unit::mend_unit;
+use df_base::Sink;
+use df_buffers::{Block, Raw};
+use df_disk::Disk;
+use df_grid::Grid;
+
+// Mends the block at an address, if one is referenced there. The room comes back.
+fn mend_at<A: Disk, B: Disk, W: Sink>(
+    first: &mut A,
+    second: &mut B,
+    sink: &mut W,
+    base: &Superblock,
+    grid: &Grid,
+    room: Raw<Block>,
+    before: u64,
+) -> Result<(Raw<Block>, u64), Ending>
+    requires inside { before < base.now.file.layout.blocks }
+    requires room { room.layout ≡ base.now.file.layout }
+    ensures mends { (sessions : List Session) (t o : Told) → Tell t o (around (A.told first.old) (B.told second.old) (W.written sink.old)) → ShowsBlocks base.now (units_of base.now t.shown) grid.now sessions before
+        → MendsBlock base.now grid.now sessions (before + 1) t o (around (A.told first.old) (B.told second.old) (W.written sink.old)) (around (A.told first.new) (B.told second.new) (W.written sink.new)) result }
+    ensures back { IfOk result (λ done. (done.0.layout ≡ base.now.file.layout) × (done.1 ≤ 1)) }
+    ensures same { B.told second.new ≡ B.told second.old }
+    ensures first { IsBlamed is_first (A.faults first.old) (A.faults first.new) result }
+    ensures second { IsBlamed is_second (B.faults second.old) (B.faults second.new) result }
+    ensures sink { IsBlamed is_sink (W.faults sink.old) (W.faults sink.new) result }
+{
+    let address = before + 1;
+    match grid.live(address) {
+        Some(checksum) => {
+            let wanted = block_at(base, address, checksum);
+            match mend_unit(first, second, sink, room, &wanted) {
+                Ok((unit, more)) => Ok((unit.loosen(), more)),
+                Err(ending) => Err(ending),
+            }
+        }
+        None => Ok((room, 0)),
+    }
+}
+
+/// Mends the referenced blocks, in order of address. Answers how many were written.
+pub(crate) fn mend_blocks<A: Disk, B: Disk, W: Sink>(
+    first: &mut A,
+    second: &mut B,
+    sink: &mut W,
+    base: &Superblock,
+    grid: &Grid,
+    room: Raw<Block>,
+) -> Result<u64, Ending>
+    requires room { room.layout ≡ base.now.file.layout }
+    ensures mends { (sessions : List Session) (t o : Told) → Tell t o (around (A.told first.old) (B.told second.old) (W.written sink.old)) → HasText base.now (units_of base.now t.shown) grid.now sessions
+        → Answers base.now.file (content_of base.now) (AreOfKind AsBlock) t o (A.told first.new) (W.written sink.old) (W.written sink.new) result }
+    ensures shown { (sessions : List Session) (t o u : Told) → Tell t o (around (A.told first.old) (B.told second.old) (W.written sink.old)) → HasText base.now (units_of base.now t.shown) grid.now sessions → A.told first.new ≡ Some u
+        → OnOk result (ShowsBlocks base.now (units_of base.now u.shown) grid.now sessions base.now.file.layout.blocks) }
+    ensures few { IfOk result (λ mended. mended ≤ base.now.file.layout.blocks) }
+    ensures same { B.told second.new ≡ B.told second.old }
+    ensures first { IsBlamed is_first (A.faults first.old) (A.faults first.new) result }
+    ensures second { IsBlamed is_second (B.faults second.old) (B.faults second.new) result }
+    ensures sink { IsBlamed is_sink (W.faults sink.old) (W.faults sink.new) result }
+{
+    let mut room = room;
+    let mut mended = 0;
+    for before in 0..u64::from(base.file.layout.blocks) {
+        match mend_at(first, second, sink, base, grid, room, before) {
+            Ok((back, more)) => {
+                room = back;
+                mended += more;
+            }
+            Err(ending) => return Err(ending),
+        }
+    }
+    Ok(mended)
+}

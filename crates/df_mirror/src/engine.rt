@@ -1,0 +1,166 @@
+// The program: it has no words, and takes its memory once the first file's layout is known.
+ghost use Rattle.std.specs.Prelude.{◌≡◌, ◌⊎◌, ◌≢◌, [], map, string_bytes, Err, IfNone, IfOk, IfSome};
+ghost use Rattle.df_base.specs.Log.{Sync};
+ghost use Rattle.df_disk.specs.Told.{Told, after};
+ghost use Rattle.df_mirror.specs.Outside.{Blames, HasCauses, PrintsError, Tell, Writes, around, counts};
+ghost use Rattle.df_mirror.specs.Run.{IsUndone, Mirrored, Runs, Tells};
+ghost use Rattle.df_mirror.specs.Texts.{usage};
+
+use crate::ending::Ending;
+use crate::mending::{Reserved, mend_all};
+use crate::status::Status;
+use crate::superblock::Superblock;
+use crate::telling::{USAGE, tell_count, tell_neither};
+use df_base::{OutOfMemory, Sink};
+use df_buffers::{ProbeRoom, Raw};
+use df_disk::Disk;
+use df_format::Super;
+use df_layout::Layout;
+use df_opening::{DataFile, OpenError, Rooms, survey_superblock};
+use df_telling::{end_with, refuse_file};
+use std::alloc::Global;
+
+// The file of a superblock, and no file where that isn't of version 2.
+fn superblock_of(content: Super) -> Option<Superblock>
+    ensures some { IfSome result (λ base. base.content ≡ content) }
+    ensures none { IfNone result (content.version ≢ 2) }
+{
+    let layout = content.layout();
+    let fields = content.fields();
+    if fields.version != 2 {
+        return None;
+    }
+    Some(Superblock {
+        file: DataFile {
+            layout,
+            cluster: fields.cluster,
+            version: 2,
+        },
+        content,
+    })
+}
+
+// Takes all the memory of a mending over a layout.
+fn reserve(alloc: Global, layout: &Layout) -> Result<Reserved, OutOfMemory>
+    ensures rooms { IfOk result (λ reserved. reserved.rooms.layout ≡ layout.now) }
+    ensures trailer { IfOk result (λ reserved. reserved.trailer.layout ≡ layout.now) }
+    ensures block { IfOk result (λ reserved. reserved.block.layout ≡ layout.now) }
+{
+    let rooms = Rooms::reserve(alloc, layout)?;
+    let trailer = Raw::reserve(alloc, layout)?;
+    let block = Raw::reserve(alloc, layout)?;
+    Ok(Reserved {
+        rooms,
+        trailer,
+        block,
+    })
+}
+
+// Says why the first file isn't mended.
+fn refuse<W: Sink>(sink: &mut W, error: &OpenError) -> Status
+    ensures prints { PrintsError Status.Refused Status.DiskFault Status.WriteFault error.now (W.written sink.old) (W.written sink.new) result }
+    ensures sink { Blames Status.WriteFault (W.faults sink.old) (W.faults sink.new) result }
+{
+    refuse_file(
+        sink,
+        error,
+        Status::Refused,
+        Status::DiskFault,
+        Status::WriteFault,
+    )
+}
+
+// Says how a mending ended.
+fn tell<W: Sink>(sink: &mut W, mended: Result<u64, Ending>) -> Status
+    ensures tells { Tells mended (W.written sink.old) (W.written sink.new) result }
+    ensures sink { (mended ≡ Err Ending.Sink → ⊥) → Blames Status.WriteFault (W.faults sink.old) (W.faults sink.new) result }
+    ensures failed { mended ≡ Err Ending.Sink → W.faults sink.new ≡ W.faults sink.old }
+{
+    match mended {
+        Ok(count) => tell_count(sink, count),
+        Err(Ending::Neither { place, class }) => tell_neither(sink, place, class),
+        Err(Ending::Unopened { error }) => refuse(sink, &error),
+        Err(Ending::First | Ending::Second) => Status::DiskFault,
+        Err(Ending::Sink) => Status::WriteFault,
+    }
+}
+
+// Takes the memory for the first file, and mends what it lacks.
+fn mend_file<A: Disk, B: Disk, W: Sink>(
+    alloc: Global,
+    first: &mut A,
+    second: &mut B,
+    sink: &mut W,
+    base: &Superblock,
+) -> Status
+    ensures mirrors { (t o : Told) → Tell t o (around (A.told first.old) (B.told second.old) (W.written sink.old)) → result ≢ Status.Memory
+        → Mirrored base.now t o (around (A.told first.old) (B.told second.old) (W.written sink.old)) (around (A.told first.new) (B.told second.new) (W.written sink.new)) result }
+    ensures causes { HasCauses Status.DiskFault Status.WriteFault (counts (A.faults first.old) (B.faults second.old) (W.faults sink.old)) (counts (A.faults first.new) (B.faults second.new) (W.faults sink.new)) result }
+    ensures memory { result ≡ Status.Memory → (A.told first.new ≡ A.told first.old) × (W.written sink.new ≡ W.written sink.old) }
+    ensures words { result ≡ Status.Words → ⊥ }
+    ensures same { B.told second.new ≡ B.told second.old }
+{
+    match reserve(alloc, &base.file.layout) {
+        Ok(reserved) => {
+            let mended = mend_all(first, second, sink, base, reserved);
+            tell(sink, mended)
+        }
+        Err(_) => Status::Memory,
+    }
+}
+
+// Syncs the first file, finds its superblock, and mends what it lacks.
+fn mend_first<A: Disk, B: Disk, W: Sink>(
+    alloc: Global,
+    first: &mut A,
+    second: &mut B,
+    sink: &mut W,
+) -> Status
+    ensures runs { Runs (around (A.told first.old) (B.told second.old) (W.written sink.old)) (around (A.told first.new) (B.told second.new) (W.written sink.new)) result }
+    ensures causes { HasCauses Status.DiskFault Status.WriteFault (counts (A.faults first.old) (B.faults second.old) (W.faults sink.old)) (counts (A.faults first.new) (B.faults second.new) (W.faults sink.new)) result }
+    ensures memory { result ≡ Status.Memory → IsUndone (around (A.told first.old) (B.told second.old) (W.written sink.old)) (around (A.told first.new) (B.told second.new) (W.written sink.new)) }
+    ensures words { result ≡ Status.Words → ⊥ }
+    ensures same { B.told second.new ≡ B.told second.old }
+{
+    let Ok(mut room) = ProbeRoom::reserve(alloc) else {
+        return Status::Memory;
+    };
+    match survey_superblock(first, &mut room, 2) {
+        Ok(found) => match superblock_of(found.content) {
+            Some(base) => mend_file(alloc, first, second, sink, &base),
+            // A survey for version 2 finds no other one.
+            None => Status::Refused,
+        },
+        Err(error) => refuse(sink, &error),
+    }
+}
+
+/// Mends the first file from a second one. The first file's superblock, of version 2, fixes which units are known: the blocks of its trailer, those that the trailer references, the prepares up to the
+/// head that it names, and the replies that it recorded. Each that the first file doesn't show is taken from the second one's place, where that shows it with the known checksum. The second file's superblock
+/// isn't read. There are no words; all memory is taken before the first write.
+pub fn mirror<A: Disk, B: Disk, W: Sink>(
+    alloc: Global,
+    words: &[String],
+    first: &mut A,
+    second: &mut B,
+    sink: &mut W,
+) -> Status
+    // Any words print the usage line, and touch neither file.
+    ensures usage { (map string_bytes words.now ≡ [] → ⊥) → Writes Status.WriteFault usage Status.Words (W.written sink.old) (W.written sink.new) result }
+    ensures untouched { (map string_bytes words.now ≡ [] → ⊥) → A.told first.new ≡ A.told first.old }
+    ensures words { result ≡ Status.Words → map string_bytes words.now ≡ [] → ⊥ }
+
+    // The first file is synced, and refused as an open refuses its superblock or its trailer. What is mended is known and wasn't shown just before, each by one write and a sync, in order, and it is the unit of that checksum, which the second file shows; where the run ends as
+    // Done or Found, all known units are shown, and it is Found exactly where one was mended. The second file is only read.
+    ensures runs { map string_bytes words.now ≡ [] → Runs (around (A.told first.old) (B.told second.old) (W.written sink.old)) (around (A.told first.new) (B.told second.new) (W.written sink.new)) result }
+    ensures second { B.told second.new ≡ B.told second.old }
+
+    // Each fault has its cause; want of memory comes before anything was written.
+    ensures causes { HasCauses Status.DiskFault Status.WriteFault (counts (A.faults first.old) (B.faults second.old) (W.faults sink.old)) (counts (A.faults first.new) (B.faults second.new) (W.faults sink.new)) result }
+    ensures memory { result ≡ Status.Memory → IsUndone (around (A.told first.old) (B.told second.old) (W.written sink.old)) (around (A.told first.new) (B.told second.new) (W.written sink.new)) }
+{
+    match words {
+        [] => mend_first(alloc, first, second, sink),
+        _ => end_with(sink, USAGE, Status::Words, Status::WriteFault),
+    }
+}

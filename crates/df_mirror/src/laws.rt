@@ -1,0 +1,17 @@
+// What a list of mends leaves true: laws, each the clause of a function that does nothing.
+ghost use Rattle.df_mirror.specs.Laws.{KnownStays, MendsGoOn, MirroredIsOpened};
+
+/// Mends go on with mends of what they left.
+pub fn mends_go_on()
+    ensures { MendsGoOn }
+{}
+
+/// At every moment each known unit that was shown is still shown, in whatever a stop leaves.
+pub fn known_units_stay()
+    ensures { KnownStays }
+{}
+
+/// A file at rest of which only known units and at most two superblock copies were hurt is opened as it was left, once all known units are shown again.
+pub fn a_mended_file_is_opened()
+    ensures { MirroredIsOpened }
+{}

@@ -1,0 +1,24 @@
+//! Mending a data file from a second one: what the first file lacks of its known units is taken from the second, each by its checksum alone. What walks the known units knows no second file: it goes
+//! from place to place as units become shown, and each is proved, taken and written by one function.
+#![tactic(auto)]
+
+mod blocks;
+mod chain;
+mod ending;
+mod engine;
+mod laws;
+mod mending;
+mod prepares;
+mod replies;
+mod sessions;
+mod status;
+mod superblock;
+mod telling;
+mod trailer;
+mod unit;
+
+pub use ending::Ending;
+pub use engine::mirror;
+pub use laws::{a_mended_file_is_opened, known_units_stay, mends_go_on};
+pub use status::Status;
+pub use telling::USAGE;

@@ -1,0 +1,142 @@
+// All known units, in their order: the trailer, what it references, the prepares, and the replies.
+ghost use Rattle.std.specs.Prelude.{◌≡◌, ◌≤◌, ◌+◌, ◌^◌, length, List, Some, IfOk, OnOk};
+ghost use Rattle.df_base.specs.Causes.{IsBlamed};
+ghost use Rattle.df_disk.specs.Told.{Told};
+ghost use Rattle.df_opening.specs.Below.{shape};
+ghost use Rattle.df_sessions.specs.Requests.{sessions_of};
+ghost use Rattle.df_mirror.specs.Known.{AllShown, ShowsTrailer};
+ghost use Rattle.df_mirror.specs.Mends.{Answers, AreInOrder, AreLate};
+ghost use Rattle.df_mirror.specs.Outside.{Tell, around};
+ghost use Rattle.df_mirror.specs.Statuses.{is_first, is_second, is_sink};
+ghost use Rattle.df_mirror.specs.Walks.{ShowsLog, content_of, units_of};
+
+use crate::blocks::mend_blocks;
+use crate::chain::mend_chain;
+use crate::ending::Ending;
+use crate::prepares::mend_prepares;
+use crate::replies::mend_replies;
+use crate::sessions::sessions_at_head;
+use crate::superblock::Superblock;
+use crate::trailer::read_trailer;
+use df_base::Sink;
+use df_buffers::{Block, Raw, Trailer};
+use df_disk::Disk;
+use df_journal::{Start, scan};
+use df_rooms::{LogRooms, Rooms};
+use df_sessions::SessionTable;
+
+/// All the memory of a mending.
+#[derive(Drop)]
+pub(crate) struct Reserved {
+    pub(crate) rooms: Rooms,
+    pub(crate) trailer: Raw<Trailer>,
+    pub(crate) block: Raw<Block>,
+}
+
+// Where the scan of the ring of prepares begins.
+fn start_of(base: &Superblock) -> Start
+    ensures op { result.op ≤ 2 ^ 62 }
+    ensures cluster { result.cluster ≡ base.now.file.cluster }
+{
+    let fields = base.content.fields();
+    Start {
+        cluster: fields.cluster,
+        op: fields.op,
+        head: fields.head,
+        boot: fields.boot,
+    }
+}
+
+// Mends the prepares, and then the replies.
+fn mend_log<A: Disk, B: Disk, W: Sink>(
+    first: &mut A,
+    second: &mut B,
+    sink: &mut W,
+    base: &Superblock,
+    rooms: LogRooms,
+    sessions: SessionTable,
+) -> Result<u64, Ending>
+    requires rooms { rooms.layout ≡ base.now.file.layout }
+    requires places { sessions.max ≡ base.now.file.layout.clients }
+    requires few { length sessions.sessions ≤ sessions.max }
+    ensures mends { (t o : Told) → Tell t o (around (A.told first.old) (B.told second.old) (W.written sink.old)) → (says : ShowsTrailer (shape base.now.file) (units_of base.now t.shown) (content_of base.now)) → says.parts.sessions ≡ sessions_of sessions.sessions
+        → Answers base.now.file (content_of base.now) AreLate t o (A.told first.new) (W.written sink.old) (W.written sink.new) result }
+    ensures shown { (t o u : Told) → Tell t o (around (A.told first.old) (B.told second.old) (W.written sink.old)) → (says : ShowsTrailer (shape base.now.file) (units_of base.now t.shown) (content_of base.now)) → says.parts.sessions ≡ sessions_of sessions.sessions → A.told first.new ≡ Some u
+        → OnOk result (ShowsLog base.now (units_of base.now t.shown) (units_of base.now u.shown)) }
+    ensures few { IfOk result (λ mended. mended ≤ base.now.file.layout.slots + 64) }
+    ensures same { B.told second.new ≡ B.told second.old }
+    ensures first { IsBlamed is_first (A.faults first.old) (A.faults first.new) result }
+    ensures second { IsBlamed is_second (B.faults second.old) (B.faults second.new) result }
+    ensures sink { IsBlamed is_sink (W.faults sink.old) (W.faults sink.new) result }
+{
+    let LogRooms {
+        layout,
+        superblock: _,
+        mut sector,
+        prepare,
+        reply,
+        headers: _,
+        mut slots,
+        replies: _,
+        mends: _,
+    } = rooms;
+    let (room, prepares) = match mend_prepares(first, second, sink, base, prepare.into_room()) {
+        Ok(done) => done,
+        Err(ending) => return Err(ending),
+    };
+    let start = start_of(base);
+    let (_, done) = scan(first, &layout, &start, &mut slots, &mut sector, room);
+    match done {
+        Ok(()) => {
+            let sessions = sessions_at_head(base, &slots, sessions);
+            let reply = reply.into_room();
+            match mend_replies(first, second, sink, base, &slots, &sessions, reply) {
+                Ok(replies) => Ok(prepares + replies),
+                Err(ending) => Err(ending),
+            }
+        }
+        Err(_) => Err(Ending::First),
+    }
+}
+
+/// Mends all known units of the first file. Answers how many were written.
+pub(crate) fn mend_all<A: Disk, B: Disk, W: Sink>(
+    first: &mut A,
+    second: &mut B,
+    sink: &mut W,
+    base: &Superblock,
+    reserved: Reserved,
+) -> Result<u64, Ending>
+    requires rooms { reserved.rooms.layout ≡ base.now.file.layout }
+    requires trailer { reserved.trailer.layout ≡ base.now.file.layout }
+    requires block { reserved.block.layout ≡ base.now.file.layout }
+    ensures mends { (t o : Told) → Tell t o (around (A.told first.old) (B.told second.old) (W.written sink.old)) → Answers base.now.file (content_of base.now) AreInOrder t o (A.told first.new) (W.written sink.old) (W.written sink.new) result }
+    ensures shown { (t o u : Told) → Tell t o (around (A.told first.old) (B.told second.old) (W.written sink.old)) → A.told first.new ≡ Some u → OnOk result (AllShown (shape base.now.file) (units_of base.now u.shown) (content_of base.now)) }
+    ensures same { B.told second.new ≡ B.told second.old }
+    ensures first { IsBlamed is_first (A.faults first.old) (A.faults first.new) result }
+    ensures second { IsBlamed is_second (B.faults second.old) (B.faults second.new) result }
+    ensures sink { IsBlamed is_sink (W.faults sink.old) (W.faults sink.new) result }
+{
+    let Reserved {
+        rooms,
+        trailer,
+        block,
+    } = reserved;
+    let (log, grid, room, _, _) = rooms.into_parts();
+    let chain = match mend_chain(first, second, sink, base, trailer) {
+        Ok(mended) => mended,
+        Err(ending) => return Err(ending),
+    };
+    let found = match read_trailer(first, base, grid, room) {
+        Ok(found) => found,
+        Err(ending) => return Err(ending),
+    };
+    let blocks = match mend_blocks(first, second, sink, base, &found.grid, block) {
+        Ok(mended) => mended,
+        Err(ending) => return Err(ending),
+    };
+    match mend_log(first, second, sink, base, log, found.sessions) {
+        Ok(mended) => Ok(chain + blocks + mended),
+        Err(ending) => Err(ending),
+    }
+}

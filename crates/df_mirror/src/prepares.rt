@@ -1,0 +1,78 @@
+// The prepares that the superblock names above its checkpoint, from its head down: each names the one before it.
+ghost use Rattle.std.specs.Prelude.{◌≡◌, ◌≤◌, ◌%◌, Some, IfOk, OnOk};
+ghost use Rattle.df_base.specs.Causes.{IsBlamed};
+ghost use Rattle.df_disk.specs.Told.{Told};
+ghost use Rattle.df_buffers.specs.declared.identity.Wanted.TheVariants.{Checksum as WithChecksum};
+ghost use Rattle.df_format.specs.declared.kind.Kind.TheVariants.{Prepare as AsPrepare};
+ghost use Rattle.df_format.specs.Spelling.{IsCheck};
+ghost use Rattle.df_layout.specs.Spans.{HasPlace};
+ghost use Rattle.df_theory.specs.Units.{PreparePlace};
+ghost use Rattle.df_units.specs.Meaning.{place_of};
+ghost use Rattle.df_mirror.specs.Mends.{Answers, AreOfKind};
+ghost use Rattle.df_mirror.specs.Outside.{Tell, around};
+ghost use Rattle.df_mirror.specs.Statuses.{is_first, is_second, is_sink};
+ghost use Rattle.df_mirror.specs.Taking.{count_in};
+ghost use Rattle.df_mirror.specs.Walks.{ShowsNamed, content_of, units_of};
+
+use crate::ending::Ending;
+use crate::superblock::Superblock;
+use crate::unit::mend_unit;
+use df_base::{Check, Sink};
+use df_buffers::{Identity, Prepare, Raw, Wanted};
+use df_disk::Disk;
+use df_journal::slot_of;
+use df_layout::{Place, Zone};
+
+// The prepare of an op, by its checksum.
+fn prepare_at(base: &Superblock, op: u64, checksum: Check) -> Identity
+    ensures identity { result ≡ record { layout = base.now.file.layout; cluster = base.now.file.cluster; place = place_of (PreparePlace (op % base.now.file.layout.slots)); wanted = WithChecksum checksum } }
+    ensures place { HasPlace result.layout result.place }
+    ensures check { IsCheck checksum }
+{
+    Identity {
+        layout: base.file.layout,
+        cluster: base.file.cluster,
+        place: Place {
+            zone: Zone::WalPrepares,
+            index: u64::from(slot_of(&base.file.layout, op)),
+        },
+        wanted: Wanted::Checksum(checksum),
+    }
+}
+
+/// Mends the prepares that the superblock names, from its head down to the one above its checkpoint. Answers how many were written, with the room.
+pub(crate) fn mend_prepares<A: Disk, B: Disk, W: Sink>(
+    first: &mut A,
+    second: &mut B,
+    sink: &mut W,
+    base: &Superblock,
+    room: Raw<Prepare>,
+) -> Result<(Raw<Prepare>, u64), Ending>
+    requires room { room.layout ≡ base.now.file.layout }
+    ensures mends { (t o : Told) → Tell t o (around (A.told first.old) (B.told second.old) (W.written sink.old))
+        → Answers base.now.file (content_of base.now) (AreOfKind AsPrepare) t o (A.told first.new) (W.written sink.old) (W.written sink.new) (count_in result) }
+    ensures named { (t o u : Told) → Tell t o (around (A.told first.old) (B.told second.old) (W.written sink.old)) → A.told first.new ≡ Some u → OnOk result (ShowsNamed base.now (units_of base.now u.shown)) }
+    ensures back { IfOk result (λ done. (done.0.layout ≡ base.now.file.layout) × (done.1 ≤ base.now.file.layout.slots)) }
+    ensures same { B.told second.new ≡ B.told second.old }
+    ensures first { IsBlamed is_first (A.faults first.old) (A.faults first.new) result }
+    ensures second { IsBlamed is_second (B.faults second.old) (B.faults second.new) result }
+    ensures sink { IsBlamed is_sink (W.faults sink.old) (W.faults sink.new) result }
+{
+    let fields = base.content.fields();
+    let mut room = room;
+    let mut named = fields.head_checksum;
+    let mut op = fields.head;
+    let mut mended = 0;
+    while fields.op < op {
+        match mend_unit(first, second, sink, room, &prepare_at(base, op, named)) {
+            Ok((unit, more)) => {
+                named = unit.header().parent;
+                room = unit.loosen();
+                mended += more;
+            }
+            Err(ending) => return Err(ending),
+        }
+        op -= 1;
+    }
+    Ok((room, mended))
+}

@@ -1,0 +1,182 @@
+// The replies that the superblock records, of the sessions at its head, in order of place.
+ghost use Rattle.std.specs.Prelude.{◌≡◌, ◌<◌, ◌≤◌, length, slice_get, Some, IfOk, IsFalse, IsTrue, OnOk};
+ghost use Rattle.df_base.specs.Causes.{IsBlamed};
+ghost use Rattle.df_disk.specs.Told.{Told};
+ghost use Rattle.df_buffers.specs.declared.identity.Wanted.TheVariants.{Checksum as WithChecksum};
+ghost use Rattle.df_format.specs.declared.kind.Kind.TheVariants.{Reply as AsReply};
+ghost use Rattle.df_format.specs.Spelling.{IsCheck};
+ghost use Rattle.df_opening.specs.Below.{shape};
+ghost use Rattle.df_theory.specs.Units.{ReplyPlace};
+ghost use Rattle.df_units.specs.Meaning.{place_of};
+ghost use Rattle.df_mirror.specs.Known.{AreShown};
+ghost use Rattle.df_mirror.specs.Mends.{Answers, AreOfKind};
+ghost use Rattle.df_mirror.specs.Outside.{Tell, around};
+ghost use Rattle.df_mirror.specs.Statuses.{is_first, is_second, is_sink};
+ghost use Rattle.df_mirror.specs.Walks.{HasHead, IsNewer, MendsRecorded, MendsReply, ShowsReplies, content_of, units_of};
+
+use crate::ending::Ending;
+use crate::sessions::has_later;
+use crate::superblock::Superblock;
+use crate::unit::mend_unit;
+use df_base::{Check, Sink};
+use df_buffers::{Identity, Raw, Reply, Wanted};
+use df_disk::Disk;
+use df_format::Header;
+use df_journal::SlotTable;
+use df_layout::{Class, Place, Zone};
+use df_places::scan_place;
+use df_sessions::SessionTable;
+
+// The reply in the slot of a session, by its checksum.
+fn reply_at(base: &Superblock, place: u64, checksum: Check) -> Identity
+    ensures identity { result ≡ record { layout = base.now.file.layout; cluster = base.now.file.cluster; place = place_of (ReplyPlace place); wanted = WithChecksum checksum } }
+    ensures check { IsCheck checksum }
+{
+    Identity {
+        layout: base.file.layout,
+        cluster: base.file.cluster,
+        place: Place {
+            zone: Zone::ClientReplies,
+            index: place,
+        },
+        wanted: Wanted::Checksum(checksum),
+    }
+}
+
+// Whether what is seen in a slot is a reply of the superblock's boot above those that it records.
+fn is_newer(base: &Superblock, seen: &Result<Header, Class>) -> bool
+    ensures yes { IsTrue result → IsNewer base.now seen.now }
+    ensures no { IsFalse result → IsNewer base.now seen.now → ⊥ }
+{
+    let fields = base.content.fields();
+    match seen {
+        Ok(header) => header.boot == fields.boot && fields.replies < header.op,
+        Err(_) => false,
+    }
+}
+
+// The checksum that the superblock recorded of the reply at a place, zeros where it recorded none.
+fn recorded_at(base: &Superblock, place: u64) -> Check
+    requires { place < base.now.file.layout.clients }
+    ensures sum { slice_get base.now.content.reply_checksums place ≡ Some result }
+    ensures check { IsCheck result }
+{
+    base.content.fields().reply_checksums[place as usize]
+}
+
+// Mends the reply of a session that the superblock recorded, where its slot shows nothing newer. The room comes back.
+fn mend_recorded<A: Disk, B: Disk, W: Sink>(
+    first: &mut A,
+    second: &mut B,
+    sink: &mut W,
+    base: &Superblock,
+    room: Raw<Reply>,
+    place: u64,
+    checksum: Check,
+) -> Result<(Raw<Reply>, u64), Ending>
+    requires place { place < base.now.file.layout.clients }
+    requires room { room.layout ≡ base.now.file.layout }
+    ensures mends { (t o : Told) → Tell t o (around (A.told first.old) (B.told second.old) (W.written sink.old)) → MendsRecorded base.now place checksum t o (around (A.told first.old) (B.told second.old) (W.written sink.old)) (around (A.told first.new) (B.told second.new) (W.written sink.new)) result }
+    ensures back { IfOk result (λ done. (done.0.layout ≡ base.now.file.layout) × (done.1 ≤ 1)) }
+    ensures same { B.told second.new ≡ B.told second.old }
+    ensures first { IsBlamed is_first (A.faults first.old) (A.faults first.new) result }
+    ensures second { IsBlamed is_second (B.faults second.old) (B.faults second.new) result }
+    ensures sink { IsBlamed is_sink (W.faults sink.old) (W.faults sink.new) result }
+{
+    let wanted = reply_at(base, place, checksum);
+    let (room, seen) = scan_place(
+        first,
+        &base.file.layout,
+        base.file.cluster,
+        wanted.place,
+        room,
+    );
+    match seen {
+        Ok(seen) => {
+            if is_newer(base, &seen) {
+                return Ok((room, 0));
+            }
+            match mend_unit(first, second, sink, room, &wanted) {
+                Ok((unit, more)) => Ok((unit.loosen(), more)),
+                Err(ending) => Err(ending),
+            }
+        }
+        Err(_) => Err(Ending::First),
+    }
+}
+
+// Mends the reply of the session at a place, where it is known by the checksum that the superblock recorded: nothing newer of its boot is shown.
+fn mend_reply<A: Disk, B: Disk, W: Sink>(
+    first: &mut A,
+    second: &mut B,
+    sink: &mut W,
+    base: &Superblock,
+    slots: &SlotTable,
+    sessions: &SessionTable,
+    room: Raw<Reply>,
+    place: u64,
+) -> Result<(Raw<Reply>, u64), Ending>
+    requires place { (place < length sessions.now.sessions) × (place < base.now.file.layout.clients) }
+    requires places { sessions.now.max ≡ base.now.file.layout.clients }
+    requires table { length slots.now.slots ≡ base.now.file.layout.slots }
+    requires room { room.layout ≡ base.now.file.layout }
+    ensures mends { (t o : Told) → Tell t o (around (A.told first.old) (B.told second.old) (W.written sink.old)) → ShowsReplies base.now (units_of base.now t.shown) slots.now sessions.now place
+        → MendsReply base.now slots.now sessions.now place t o (around (A.told first.old) (B.told second.old) (W.written sink.old)) (around (A.told first.new) (B.told second.new) (W.written sink.new)) result }
+    ensures back { IfOk result (λ done. (done.0.layout ≡ base.now.file.layout) × (done.1 ≤ 1)) }
+    ensures same { B.told second.new ≡ B.told second.old }
+    ensures first { IsBlamed is_first (A.faults first.old) (A.faults first.new) result }
+    ensures second { IsBlamed is_second (B.faults second.old) (B.faults second.new) result }
+    ensures sink { IsBlamed is_sink (W.faults sink.old) (W.faults sink.new) result }
+{
+    let checksum = recorded_at(base, place);
+    if checksum == [0; 16] {
+        return Ok((room, 0));
+    }
+    match sessions.get(place) {
+        Some(session) => {
+            if has_later(base, slots, session.client) {
+                Ok((room, 0))
+            } else {
+                mend_recorded(first, second, sink, base, room, place, checksum)
+            }
+        }
+        None => Ok((room, 0)),
+    }
+}
+
+/// Mends the replies that are known, in order of place. Answers how many were written.
+pub(crate) fn mend_replies<A: Disk, B: Disk, W: Sink>(
+    first: &mut A,
+    second: &mut B,
+    sink: &mut W,
+    base: &Superblock,
+    slots: &SlotTable,
+    sessions: &SessionTable,
+    room: Raw<Reply>,
+) -> Result<u64, Ending>
+    requires places { sessions.now.max ≡ base.now.file.layout.clients }
+    requires table { length slots.now.slots ≡ base.now.file.layout.slots }
+    requires room { room.layout ≡ base.now.file.layout }
+    ensures mends { (t o : Told) → Tell t o (around (A.told first.old) (B.told second.old) (W.written sink.old)) → HasHead base.now (units_of base.now t.shown) slots.now sessions.now
+        → Answers base.now.file (content_of base.now) (AreOfKind AsReply) t o (A.told first.new) (W.written sink.old) (W.written sink.new) result }
+    ensures shown { (t o u : Told) → Tell t o (around (A.told first.old) (B.told second.old) (W.written sink.old)) → HasHead base.now (units_of base.now t.shown) slots.now sessions.now → A.told first.new ≡ Some u
+        → OnOk result (AreShown (shape base.now.file) (units_of base.now u.shown) (content_of base.now) AsReply) }
+    ensures few { IfOk result (λ mended. mended ≤ 64) }
+    ensures same { B.told second.new ≡ B.told second.old }
+    ensures first { IsBlamed is_first (A.faults first.old) (A.faults first.new) result }
+    ensures second { IsBlamed is_second (B.faults second.old) (B.faults second.new) result }
+    ensures sink { IsBlamed is_sink (W.faults sink.old) (W.faults sink.new) result }
+{
+    let mut room = room;
+    let mut mended = 0;
+    for place in 0..sessions.len() {
+        match mend_reply(first, second, sink, base, slots, sessions, room, place) {
+            Ok((back, more)) => {
+                room = back;
+                mended += more;
+            }
+            Err(ending) => return Err(ending),
+        }
+    }
+    Ok(mended)
+}

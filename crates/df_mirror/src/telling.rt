@@ -1,0 +1,82 @@
+// What a mending prints: a line for each unit, how many there were, or why it ends.
+ghost use Rattle.std.specs.Prelude.{◌≡◌, ◌≤◌, ◌+◌, ◌++◌, length};
+ghost use Rattle.df_base.specs.Causes.{HasCause};
+ghost use Rattle.df_inspect.specs.Prints.{Prints};
+ghost use Rattle.df_script_model.specs.Texts.{class_text};
+ghost use Rattle.df_mirror.specs.Outside.{Blames, Writes, ended};
+ghost use Rattle.df_mirror.specs.Texts.{count_text, mended_text, neither_text};
+
+use crate::status::Status;
+use arrayvec::ArrayVec;
+use df_base::{Failed, Sink};
+use df_inspect::{Line, number_line, put, put_place, write_line};
+use df_layout::{Class, Place};
+use df_telling::end_line;
+
+/// The line that says which words have a meaning.
+pub const USAGE: &[u8] = b"usage: filemirror FIRST SECOND\n";
+
+// Puts a class at the end of the line.
+fn put_class(line: &mut Line, class: Class)
+    requires { length line.old.items + 64 ≤ 640 }
+    ensures put { line.new.items ≡ line.old.items ++ class_text class }
+    ensures room { length line.new.items ≤ length line.old.items + 64 }
+{
+    match class {
+        Class::Elsewhere(place) => {
+            put(line, "Elsewhere ");
+            put_place(line, place);
+        }
+        Class::Blank => put(line, "Blank"),
+        Class::Garbled => put(line, "Garbled"),
+        Class::Stale => put(line, "Stale"),
+    }
+}
+
+/// Prints that the unit at a place was written.
+pub(crate) fn print_mended<W: Sink>(sink: &mut W, place: Place) -> Result<(), Failed>
+    ensures prints { Prints (mended_text place) (W.written sink.old) (W.written sink.new) result }
+    ensures cause { HasCause (W.faults sink.old) (W.faults sink.new) result }
+{
+    let mut line = ArrayVec::new();
+    put(&mut line, "mended ");
+    put_place(&mut line, place);
+    put(&mut line, "\n");
+    write_line(sink, &line)
+}
+
+/// Prints how many units were written, and ends the run: Found exactly where there was one.
+pub(crate) fn tell_count<W: Sink>(sink: &mut W, count: u64) -> Status
+    ensures line { Writes Status.WriteFault (count_text count) (ended count) (W.written sink.old) (W.written sink.new) result }
+    ensures sink { Blames Status.WriteFault (W.faults sink.old) (W.faults sink.new) result }
+{
+    let given = if count == 0 {
+        Status::Done
+    } else {
+        Status::Found
+    };
+    let line = number_line("mended", u128::from(count));
+    end_line(sink, &line, given, Status::WriteFault)
+}
+
+// The line on a unit that neither file shows.
+fn neither_line(place: Place, class: Class) -> Line
+    ensures { result.items ≡ neither_text place class }
+{
+    let mut line = ArrayVec::new();
+    put(&mut line, "refused Neither ");
+    put_place(&mut line, place);
+    put(&mut line, " ");
+    put_class(&mut line, class);
+    put(&mut line, "\n");
+    line
+}
+
+/// Prints that neither file shows the unit that is known at a place.
+pub(crate) fn tell_neither<W: Sink>(sink: &mut W, place: Place, class: Class) -> Status
+    ensures line { Writes Status.WriteFault (neither_text place class) Status.Refused (W.written sink.old) (W.written sink.new) result }
+    ensures sink { Blames Status.WriteFault (W.faults sink.old) (W.faults sink.new) result }
+{
+    let line = neither_line(place, class);
+    end_line(sink, &line, Status::Refused, Status::WriteFault)
+}

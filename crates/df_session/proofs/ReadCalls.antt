@@ -1,0 +1,51 @@
+-- A read that is made: what it is rightly supplied with, and the call that it is. It does nothing to the disk.
+use Rattle.std.proofs.Common.{◌≡◌, ℕ, Option, Some, None, Result, Err, [], refl, sym, subst}
+use Rattle.df_base.specs.Image.{Image}
+use Rattle.df_disk.specs.Told.{Told}
+use Rattle.df_layout.specs.declared.damage.Class.{Class}
+use Rattle.df_layout.specs.declared.damage.Class.TheVariants.{Blank}
+use Rattle.df_theory.specs.Units.{Block, Message}
+use Rattle.df_model.specs.Commands.{Answer, Command, ForReadBlock, ForReadPrepare, ForReadReply, Given, ReadBlock, ReadPrepare, ReadReply}
+use Rattle.df_result.specs.Answering.{Gives, GivesBlock, ServesBlockRead, ServesRead}
+use Rattle.df_result.specs.Below.{State as Replica}
+use Rattle.df_result.specs.BlockReads.{block_found}
+use Rattle.df_result.specs.Reading.{message_at}
+use Rattle.df_result.specs.Serving.{IsCall}
+use Rattle.df_result.specs.Supply.{IsSupplied}
+use Rattle.df_session.specs.Links.{Makes}
+use Rattle.df_session.specs.Own.{own_events}
+use Rattle.df_session.proofs.Joins.{adds_none}
+
+-- What a read is rightly supplied with, in its own case: what the image shows, where the disk tells it; else what the call found, or anything where it came to no read.
+record IsRead {U : Type 0} (s : Replica) (command : Command) (form : Result U Class → Given) (shown : Image → Result U Class) (Gives : Option Told → Option (Result U Class) → Given → Type 0) : Type 0 where
+  pub told : (t : Told) (found : Option (Result U Class)) → IsSupplied s (Some t) command (form (shown t.shown)) × Gives (Some t) found (form (shown t.shown))
+  pub found : (unit : Result U Class) → IsSupplied s None command (form unit) × Gives None (Some unit) (form unit)
+  pub nothing : IsSupplied s None command (form (Err Blank)) × Gives None None (form (Err Blank))
+  pub quiet : own_events command s ≡ []
+
+-- the call was supplied so, and added nothing
+made_with : (command : Command) (given : Given) (s t : Replica) (old new : Option Told) (answer : Option Answer) → new ≡ old → own_events command s ≡ [] → IsCall given command s t old old answer → Makes command s t old new answer
+made_with command given s t old new answer same quiet call = record {
+  act = record { command = command; given = given };
+  is = refl;
+  calls = record { call = subst (λ (o : Option Told). IsCall given command s t old o answer) (sym same) call; own = adds_none command s old new answer quiet same };
+}
+
+-- the call of a read, by what the read serves
+reads : {U : Type 0} (command : Command) (form : Result U Class → Given) (shown : Image → Result U Class) (Gives : Option Told → Option (Result U Class) → Given → Type 0) (s t : Replica) (old new : Option Told) → IsRead s command form shown Gives → new ≡ old → (found : Option (Result U Class)) (answer : Option Answer)
+    → ((given : Given) → IsSupplied s old command given → Gives old found given → IsCall given command s t old old answer) → Makes command s t old new answer
+reads command form shown Gives s t (Some now) new is same found answer serves = let both = is.told now found in made_with command (form (shown now.shown)) s t (Some now) new answer same is.quiet (serves (form (shown now.shown)) both.0 both.1)
+reads command form shown Gives s t None new is same (Some unit) answer serves = let both = is.found unit in made_with command (form unit) s t None new answer same is.quiet (serves (form unit) both.0 both.1)
+reads command form shown Gives s t None new is same None answer serves = made_with command (form (Err Blank)) s t None new answer same is.quiet (serves (form (Err Blank)) is.nothing.0 is.nothing.1)
+
+-- ---- the three kinds
+
+module _ (s t : Replica) (old new : Option Told) (same : new ≡ old) where
+  pub reads_prepare : (op : ℕ) (found : Option (Result Message Class)) (answer : Option Answer) → ServesRead (ReadPrepare op) s t old found answer → Makes (ReadPrepare op) s t old new answer
+  reads_prepare op = reads (ReadPrepare op) ForReadPrepare (message_at s (ReadPrepare op)) Gives s t old new (record { told = λ t found. ((refl, refl), tt); found = λ unit. ((refl, tt), refl); nothing = ((refl, tt), tt); quiet = refl }) same
+
+  pub reads_reply : (client : ℕ) (found : Option (Result Message Class)) (answer : Option Answer) → ServesRead (ReadReply client) s t old found answer → Makes (ReadReply client) s t old new answer
+  reads_reply client = reads (ReadReply client) ForReadReply (message_at s (ReadReply client)) Gives s t old new (record { told = λ t found. ((refl, refl), tt); found = λ unit. ((refl, tt), refl); nothing = ((refl, tt), tt); quiet = refl }) same
+
+  pub reads_block : (address : ℕ) (found : Option (Result Block Class)) (answer : Option Answer) → ServesBlockRead (ReadBlock address) s t old found answer → Makes (ReadBlock address) s t old new answer
+  reads_block address = reads (ReadBlock address) ForReadBlock (block_found s address) GivesBlock s t old new (record { told = λ t found. ((refl, refl), tt); found = λ unit. ((refl, tt), refl); nothing = ((refl, tt), tt); quiet = refl }) same

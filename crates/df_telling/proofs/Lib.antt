@@ -1,0 +1,2 @@
+mod Blame
+pub mod Laws

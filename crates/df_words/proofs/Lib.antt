@@ -1,0 +1,3 @@
+mod Commas
+mod Layouts
+pub mod Laws
