@@ -2,8 +2,10 @@
 
     python3 model/mirroring.py PATH-TO-filemirror [--seconds N] [--seed N]
 
-Random files, most of them as an open has left them, with known units that are hurt, beside copies that were taken before, earlier, later or of another file: what is printed, both files byte by byte, and that
-a file whose known units alone were hurt is as it was; mendings stopped at random moments and begun again; calls that fail, and words without a meaning. Prints what was tried, or the first disagreement.
+First a worked file, each of whose sectors is lost in turn, with a stop behind each event and each failing call. Then random files, most of them as
+an open has left them, with known units that are hurt, beside copies that were taken before, earlier, later or of another file: what is printed, both
+files byte by byte, and that a file whose known units alone were hurt is as it was; mendings stopped at random moments and begun again; calls that
+fail, and words without a meaning. Prints what was tried, or the first disagreement.
 """
 
 import sys
@@ -74,7 +76,8 @@ def mendable(t: Try) -> tuple:
     if not sectors:
         return data, data, past
     image = struck(t, data, past.earlier, sectors)
-    if t.random.random() < 0.3:
+    # Where the four copies aren't equal none of them is hurt.
+    if hurt.at_rest(data) and t.random.random() < 0.3:
         for copy in t.random.sample(range(COPIES), t.random.choice((1, 2))):
             image = script.state(image, [script.Event("write", SECTOR * copy, t.random.choice((b"\xa5" * SECTOR, bytes(SECTOR))))])
     return image, data, past
@@ -163,8 +166,48 @@ def odd(t: Try) -> None:
     same(t, "words", data, t.random.choice((None, b"", script.fresh(Home(TINY, 7)))), words)
 
 
+SCRIPT = (
+    b"append 1 1 aa\nreply 1 bb\nappend 2 1 cc\nreply 2 -\nblock 1 00\nblock 2 01\nblock 1 02\ncheckpoint 05\nstep\nstep\n"
+    b"append 1 2 dd\nreply 3 ee\nappend 3 1 -\nreply 4 ff\n"
+)
+
+
+def worked(t: Try) -> None:
+    """A worked file, as an open has left it: each of its sectors but the superblock's lost in turn; and with each known unit lost a stop behind each
+    event, and each call that fails, with a second run."""
+    home = Home(form.SMALL, 7)
+    data = opened(script.run(script.fresh(home), SCRIPT).data)
+    known = filemirrors.known(data)
+    front = SECTOR * COPIES
+    for at in range(COPIES, len(data) // SECTOR):
+        ran = same(t, f"sector {at}", script.state(data, [script.Event("write", SECTOR * at, b"\xa5" * SECTOR)]), data, [])
+        require(f"sector {at}: each known unit is there", filemirrors.known(ran.data) == known)
+        require(f"sector {at}: and the state", recovery.view_of(ran.data) == recovery.view_of(data))
+    lost = data
+    for at in sectors_of(home, known):
+        lost = script.state(lost, [script.Event("write", SECTOR * at, b"\xa5" * SECTOR)])
+    wanted = filemirrors.run(lost, data)
+    same_bytes("each known unit lost", data[front:].rstrip(b"\0"), wanted.data[front:].rstrip(b"\0"))
+    for upto in range(len(wanted.events) + 1):
+        left = script.state(lost, wanted.events[:upto])
+        ran = same(t, f"behind {upto} events", left, data, [])
+        same_bytes(f"behind {upto} events and a second run", wanted.data, ran.data)
+    pair = Pair(t.binary)
+    for name, kind in (("pwrite64", "write"), ("fdatasync", "sync")) if has_strace() else ():
+        for number in range(1, 1 + sum(event.kind == kind for event in wanted.events)):
+            pair.put(lost, data)
+            got = pair.failing([], f"{name}:error=EIO:when={number}")
+            expect(f"{name} {number}: status", DISK, got.status)
+            require(f"{name} {number}: what is printed", wanted.text.startswith(got.text))
+            ran = same(t, f"behind {name} {number}", pair.get()[0], data, [])
+            same_bytes(f"behind {name} {number} and a second run", wanted.data, ran.data)
+            t.counts["worked calls that failed"] += 1
+
+
 def attempt(t: Try) -> None:
-    """One try."""
+    """One try; the first is the worked file."""
+    if not t.counts:
+        worked(t)
     kind = t.random.random()
     if kind < 0.3:
         whole(t)
