@@ -1,20 +1,20 @@
 // The chain of trailer blocks: each is mended, from the last to the first, before the one that it names is known.
 ghost use Rattle.std.specs.Prelude.{◌≡◌, ◌==◌, ◌+◌, ◌-◌, ◌<◌, ◌≤◌, ℕ, length, IfNone, IfOk, IfSome, OnOk, Some};
+ghost use Rattle.df_mirror.specs.Mends.{Answers, AreOfKind};
 ghost use Rattle.std.specs.List.{list_any};
 ghost use Rattle.arrayvec.specs.ArrayVec.{array_vec_len};
 ghost use Rattle.df_base.specs.Causes.{IsBlamed};
+ghost use Rattle.df_mirror.specs.Outside.{Tell, around};
 ghost use Rattle.df_disk.specs.Told.{Told};
 ghost use Rattle.df_format.specs.declared.kind.Kind.TheVariants.{Trailer as AsTrailer};
 ghost use Rattle.df_format.specs.Spelling.{IsCheck};
 ghost use Rattle.df_grid.specs.Reads.{at_address};
-ghost use Rattle.df_opening.specs.Below.{shape};
-ghost use Rattle.df_theory.specs.Opens.{IsLink};
 ghost use Rattle.df_theory.specs.Trailer.{IsCount, piece_size};
+ghost use Rattle.df_opening.specs.Below.{shape};
+ghost use Rattle.df_mirror.specs.Statuses.{is_first, is_second, is_sink};
+ghost use Rattle.df_theory.specs.Opens.{IsLink};
 ghost use Rattle.df_units.specs.Meaning.{block_of};
 ghost use Rattle.df_mirror.specs.Known.{AreShown};
-ghost use Rattle.df_mirror.specs.Mends.{Answers, AreOfKind};
-ghost use Rattle.df_mirror.specs.Outside.{Tell, around};
-ghost use Rattle.df_mirror.specs.Statuses.{is_first, is_second, is_sink};
 ghost use Rattle.df_mirror.specs.Walks.{GoesOn, HasWalked, IsInside, MendsLink, before_of, broken_at, content_of, units_of};
 
 use crate::ending::Ending;

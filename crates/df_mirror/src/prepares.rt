@@ -1,16 +1,16 @@
 // The prepares that the superblock names above its checkpoint, from its head down: each names the one before it.
 ghost use Rattle.std.specs.Prelude.{◌≡◌, ◌≤◌, ◌%◌, Some, IfOk, OnOk};
-ghost use Rattle.df_base.specs.Causes.{IsBlamed};
-ghost use Rattle.df_disk.specs.Told.{Told};
 ghost use Rattle.df_buffers.specs.declared.identity.Wanted.TheVariants.{Checksum as WithChecksum};
-ghost use Rattle.df_format.specs.declared.kind.Kind.TheVariants.{Prepare as AsPrepare};
+ghost use Rattle.df_base.specs.Causes.{IsBlamed};
+ghost use Rattle.df_mirror.specs.Mends.{Answers, AreOfKind};
+ghost use Rattle.df_disk.specs.Told.{Told};
 ghost use Rattle.df_format.specs.Spelling.{IsCheck};
+ghost use Rattle.df_mirror.specs.Outside.{Tell, around};
+ghost use Rattle.df_format.specs.declared.kind.Kind.TheVariants.{Prepare as AsPrepare};
 ghost use Rattle.df_layout.specs.Spans.{HasPlace};
+ghost use Rattle.df_mirror.specs.Statuses.{is_first, is_second, is_sink};
 ghost use Rattle.df_theory.specs.Units.{PreparePlace};
 ghost use Rattle.df_units.specs.Meaning.{place_of};
-ghost use Rattle.df_mirror.specs.Mends.{Answers, AreOfKind};
-ghost use Rattle.df_mirror.specs.Outside.{Tell, around};
-ghost use Rattle.df_mirror.specs.Statuses.{is_first, is_second, is_sink};
 ghost use Rattle.df_mirror.specs.Taking.{count_in};
 ghost use Rattle.df_mirror.specs.Walks.{ShowsNamed, content_of, units_of};
 

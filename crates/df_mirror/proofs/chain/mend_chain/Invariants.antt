@@ -13,11 +13,11 @@ use Rattle.df_mirror.proofs.chain.mend_chain.Given as goal
 abbrev pub invariant-loop-done : goal.invariant-loop-done
 invariant-loop-done g l = record {
   second : g.B.Disk.told l.second ≡ g.B.Disk.told l.fn.second;
+  few : l.count ≤ 70;
   first_faults : g.A.Disk.faults l.first ≡ g.A.Disk.faults l.fn.first;
+  mended : l.mended ≤ l.done;
   second_faults : g.B.Disk.faults l.second ≡ g.B.Disk.faults l.fn.second;
   sink_faults : g.W.Sink.faults l.sink ≡ g.W.Sink.faults l.fn.sink;
-  few : l.count ≤ 70;
-  mended : l.mended ≤ l.done;
   size : array_vec_len l.walk.read ≡ l.done;
   room : l.walk.room.layout ≡ l.fn.base.file.layout;
   inside : l.done < l.count → IsInside l.fn.base l.walk.at.address;
