@@ -1,4 +1,6 @@
-// A small file with a unit of each kind that is known, and what is read of it.
+// A small file with a unit of each kind that is known, copies of it that are hurt, and what is read of it.
+use df_base::SECTOR;
+use df_disk::Disk;
 use df_memdisk::{MemoryDisk, Strike};
 use df_runs::{Status as Ended, blank, disk_behind, expect_text, made_file, run_script, run_words};
 use std::alloc::Global;
@@ -6,6 +8,9 @@ use std::test::Fail;
 
 /// Its layout: sectors 0 to 3 are the copies, 4 the headers, 5 to 20 the prepares, 21 and 22 the replies, and 23 to 30 the blocks.
 pub const LAYOUT: &str = "16,4096,2,4096,8";
+
+/// Its sectors.
+pub const SECTORS: u64 = 31;
 
 /// A session with a checkpoint of one block, whose trailer is block 2, and two prepares above it; each client's last request is replied.
 pub const SESSION: &[u8] =
@@ -21,9 +26,9 @@ pub const KNOWN: [(u64, &str); 6] = [
     (22, "ClientReplies 1"),
 ];
 
-/// The file behind that session, whose listed calls fail.
-pub fn appended(alloc: Global, failing: &[u64]) -> Result<MemoryDisk, Fail> {
-    disk_behind(alloc, made_file(alloc, LAYOUT, failing)?, SESSION)
+/// The file behind that session.
+pub fn appended(alloc: Global) -> Result<MemoryDisk, Fail> {
+    disk_behind(alloc, made_file(alloc, LAYOUT, &[])?, SESSION)
 }
 
 /// The same of another cluster.
@@ -37,13 +42,33 @@ pub fn of_another_cluster(alloc: Global) -> Result<MemoryDisk, Fail> {
 }
 
 /// The same behind a `recover`: its superblock has the head and each reply.
-pub fn recovered(alloc: Global, failing: &[u64]) -> Result<MemoryDisk, Fail> {
-    let mut disk = appended(alloc, failing)?;
+pub fn recovered(alloc: Global) -> Result<MemoryDisk, Fail> {
+    let mut disk = appended(alloc)?;
     let ran = run_words(alloc, &mut disk, &["recover"])?;
     if ran.status != Ended::Done {
         return Err("the file isn't opened".into());
     }
     Ok(disk)
+}
+
+/// Calls of the device that make a copy, and the events of its log: a write and a sync.
+pub const COPY: u64 = 2;
+
+/// A disk with the file that this one shows, of whose calls behind that one may fail.
+pub fn copy_of(
+    alloc: Global,
+    disk: &mut MemoryDisk,
+    failing: Option<u64>,
+) -> Result<MemoryDisk, Fail> {
+    let mut bytes = [0u8; SECTORS as usize * SECTOR];
+    disk.read(0, &mut bytes)?;
+    let mut copy = match failing {
+        Some(call) => blank(alloc, &[call.saturating_add(COPY)])?,
+        None => blank(alloc, &[])?,
+    };
+    copy.write(0, &bytes)?;
+    copy.sync()?;
+    Ok(copy)
 }
 
 /// Lets this sector show the byte a5 in each place.
@@ -60,10 +85,10 @@ pub fn hurt_all(disk: &mut MemoryDisk) -> Result<(), Fail> {
     Ok(())
 }
 
-// All that is read of known units, and a tour over the blocks.
-const READS: &[u8] = b"prepare 2\nprepare 3\nlookup 1\nlookup 2\nread 1\nscrub\nscrub\nscrub\n";
+// All that is read of known units but what a tour reads.
+const READS: &[u8] = b"prepare 2\nprepare 3\nlookup 1\nlookup 2\nread 1\n";
 
-// What the next `recover` and the reads print of the recovered file.
+// What `recover`, the reads and `scrub` print of the recovered file.
 const TOLD: &str = "cluster 7
 layout 16 4096 2 4096 8
 sequence 2
@@ -77,17 +102,17 @@ prepare 3 client 1 request 2 mark 2 checkpoint 2 body ee
 reply 3 client 1 request 2 mark 3 checkpoint 2 body ff
 reply 2 client 2 request 1 mark 2 checkpoint 2 body dd
 block 1 kind 1 body 00
-checked 1 Sound
-checked 2 Sound
 tour 2 0
 ";
 
-/// That `recover` and the reads print of this file what they print of one that was never hurt.
+/// That `recover`, the reads and `scrub` print of this file what they print of one that was never hurt.
 pub fn expect_whole(alloc: Global, disk: &mut MemoryDisk) -> Result<(), Fail> {
     let mut text = Vec::new(alloc);
     let ran = run_words(alloc, disk, &["recover"])?;
     text.extend_from_slice(ran.text.as_slice())?;
     let ran = run_script(alloc, disk, READS)?;
+    text.extend_from_slice(ran.text.as_slice())?;
+    let ran = run_words(alloc, disk, &["scrub"])?;
     text.extend_from_slice(ran.text.as_slice())?;
     expect_text(text.as_slice(), TOLD)
 }

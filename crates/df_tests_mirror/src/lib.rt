@@ -1,4 +1,4 @@
-//! Tests of mending from a second file: each known unit that is lost in turn, other second files, and what is behind stops and faults.
+//! Tests of mending from a second file: each sector that is lost in turn, other second files, and each call that fails, with a stop behind it.
 #![tactic(auto)]
 
 #[cfg(test)]

@@ -59,9 +59,9 @@ fn a_first_file_may_be_refused(rt: HostRuntime) -> Result<(), Fail> {
 
 #[test]
 fn any_word_is_one_too_many(rt: HostRuntime) -> Result<(), Fail> {
-    let mut second = recovered(rt.alloc(), &[])?;
+    let mut second = recovered(rt.alloc())?;
     for texts in [&["-"], &["FIRST"]] {
-        let mut first = recovered(rt.alloc(), &[])?;
+        let mut first = recovered(rt.alloc())?;
         hurt(&mut first, KNOWN[0].0)?;
         let calls = first.calls();
         let words = words(rt.alloc(), texts)?;

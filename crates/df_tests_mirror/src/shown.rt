@@ -1,4 +1,5 @@
 // A mending of one disk in memory from another, and what it is to print.
+use crate::files::KNOWN;
 use df_base::MemorySink;
 use df_disk::Disk;
 use df_mirror::{Status, mirror};
@@ -70,4 +71,24 @@ pub fn expect<A: Disk, B: Disk>(
         return Err("another status".into());
     }
     expect_text(ran.text.as_slice(), text)
+}
+
+/// The lines on the known units from one up to another, in their order.
+pub fn lines_of(alloc: Global, from: usize, to: usize) -> Result<String, Fail> {
+    let mut lines = String::new(alloc);
+    for (at, (_sector, line)) in KNOWN.iter().enumerate() {
+        if from <= at && at < to {
+            let line = format!(in alloc; "mended {line}\n")?;
+            lines.push_str(line.as_str())?;
+        }
+    }
+    Ok(lines)
+}
+
+/// All that is printed where these are mended.
+pub fn text_of(alloc: Global, from: usize, to: usize) -> Result<String, Fail> {
+    let mut text = lines_of(alloc, from, to)?;
+    let count = format!(in alloc; "mended {}\n", to.saturating_sub(from))?;
+    text.push_str(count.as_str())?;
+    Ok(text)
 }
