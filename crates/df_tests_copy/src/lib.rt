@@ -1,4 +1,5 @@
-//! Tests of the copy to another layout: what is copied and what is refused, with its text; targets that are stopped within their making, and calls of both disks and of the sink that fail.
+//! Tests of the copy to another layout: what is copied and what is refused, with its text; sources of which each unit
+//! is damaged in turn; and each call of both disks failing in turn, with what is left of both files.
 #![tactic(auto)]
 
 #[cfg(test)]

@@ -1,9 +1,8 @@
 // What is refused, in its order, each with its text.
-use crate::shown::{LEAST, WORKED, copy_failing, done, expect, file_behind, refused};
+use crate::shown::{LEAST, WORKED, copy_failing, done, expect, file_behind, refused, with_body};
 use df_copy::Status;
 use df_memdisk::Strike;
 use df_runs::{blank, expect_words, words};
-use std::alloc::Global;
 use std::test::Fail;
 
 // A script over a new small file, and why its copy to the least layout is refused.
@@ -75,27 +74,17 @@ fn a_target_that_is_not_blank_is_refused(rt: HostRuntime) -> Result<(), Fail> {
     Ok(())
 }
 
-// A script with a body of so many bytes in the place of `*`.
-fn with_body(alloc: Global, front: &str, bytes: u32, behind: &str) -> Result<Vec<u8>, Fail> {
-    let mut script = Vec::from_slice(alloc, front.as_bytes())?;
-    for _ in 0..bytes {
-        script.extend_from_slice(b"5a")?;
-    }
-    script.extend_from_slice(behind.as_bytes())?;
-    Ok(script)
-}
-
 #[test]
 fn a_reply_that_is_too_long_is_refused(rt: HostRuntime) -> Result<(), Fail> {
     let alloc = rt.alloc();
-    let behind = "\ncheckpoint -\nstep\nstep\n";
-    let script = with_body(alloc, "append 1 1 aa\nreply 1 ", 3841, behind)?;
+    let behind = b"\ncheckpoint -\nstep\nstep\n";
+    let script = with_body(alloc, b"append 1 1 aa\nreply 1 ", 3841, behind)?;
     let mut from = file_behind(alloc, &script)?;
     let mut to = blank(alloc, &[])?;
     let text = "refused ReplyTooLong place 0 size 4097\n";
     expect(alloc, &mut from, &mut to, LEAST, refused(text))?;
     expect_words(alloc, &mut to, &["recover"], "refused NotFormatted\n")?;
-    let script = with_body(alloc, "append 1 1 aa\nreply 1 ", 3840, behind)?;
+    let script = with_body(alloc, b"append 1 1 aa\nreply 1 ", 3840, behind)?;
     let mut from = file_behind(alloc, &script)?;
     let mut to = blank(alloc, &[])?;
     expect(alloc, &mut from, &mut to, LEAST, done("copied 30\n"))
@@ -104,8 +93,8 @@ fn a_reply_that_is_too_long_is_refused(rt: HostRuntime) -> Result<(), Fail> {
 #[test]
 fn a_block_that_is_too_long_is_refused(rt: HostRuntime) -> Result<(), Fail> {
     let alloc = rt.alloc();
-    let behind = "\nblock 1 01\ncheckpoint -\nstep\nstep\n";
-    let script = with_body(alloc, "block 1 00\nblock 1 ", 3841, behind)?;
+    let behind = b"\nblock 1 01\ncheckpoint -\nstep\nstep\n";
+    let script = with_body(alloc, b"block 1 00\nblock 1 ", 3841, behind)?;
     let mut from = file_behind(alloc, &script)?;
     let mut to = blank(alloc, &[])?;
     let text = "refused BlockTooLong address 2 size 4097\n";
@@ -130,15 +119,63 @@ fn a_source_that_is_not_opened_is_refused_as_by_an_open(rt: HostRuntime) -> Resu
     let mut to = blank(alloc, &[])?;
     let text = "refused NotFormatted\n";
     expect(alloc, &mut from, &mut to, LEAST, refused(text))?;
-    // A stored reply is read by the open already.
-    let mut from = file_behind(alloc, WORKED)?;
-    from.strike(70, Strike::Fill { byte: 0xa5 })?;
-    let text = "refused Damaged ClientReplies 0 Garbled\n";
-    expect(alloc, &mut from, &mut to, LEAST, refused(text))?;
     if to.calls() != 0 {
         return Err("the target was touched".into());
     }
     Ok(())
+}
+
+// Two ops with their replies, and blocks at 1 and 3 with the trailer between them; and the least layout
+// that has room for them.
+const PAIR: &[u8] =
+    b"append 1 1 aa\nappend 2 1 cc\nreply 1 bb\nreply 2 dd\nblock 1 00\nblock 1 01\nblock 2 02\nrelease 2\ncheckpoint 05\nstep\nstep\n";
+
+const FOR_PAIR: &str = "16,4096,2,4096,8";
+
+const GARBLED: Strike = Strike::Fill { byte: 0xa5 };
+
+// A sector of that file, how it is struck, why the copy is refused, and how many writes the target has
+// then: none where the open of the source refuses already, and else those of the header ring and of what
+// is copied before.
+const DAMAGED: [(u64, Strike, &str, u64); 7] = [
+    (70, GARBLED, "refused Damaged ClientReplies 0 Garbled\n", 0),
+    (72, GARBLED, "refused Damaged ClientReplies 1 Garbled\n", 0),
+    (84, GARBLED, "refused Damaged Grid 2 Garbled\n", 0),
+    (80, GARBLED, "refused Damaged Grid 1 Garbled\n", 3),
+    (88, GARBLED, "refused Damaged Grid 3 Garbled\n", 4),
+    (
+        80,
+        Strike::Fill { byte: 0 },
+        "refused Damaged Grid 1 Blank\n",
+        3,
+    ),
+    (
+        88,
+        Strike::Like { sector: 80 },
+        "refused Damaged Grid 3 Elsewhere Grid 1\n",
+        4,
+    ),
+];
+
+// What the log left.
+const AS_LEFT: Strike = Strike::Earlier { events: u64::MAX };
+
+#[test]
+fn each_unit_that_is_damaged_is_named(rt: HostRuntime) -> Result<(), Fail> {
+    let alloc = rt.alloc();
+    let mut from = file_behind(alloc, PAIR)?;
+    for (sector, strike, text, writes) in &DAMAGED {
+        from.strike(*sector, *strike)?;
+        let mut to = blank(alloc, &[])?;
+        expect(alloc, &mut from, &mut to, FOR_PAIR, refused(text))?;
+        if to.events() != *writes {
+            return Err("another number of writes".into());
+        }
+        expect_words(alloc, &mut to, &["recover"], "refused NotFormatted\n")?;
+        from.strike(*sector, AS_LEFT)?;
+    }
+    let mut to = blank(alloc, &[])?;
+    expect(alloc, &mut from, &mut to, FOR_PAIR, done("copied 31\n"))
 }
 
 #[test]

@@ -1,8 +1,10 @@
 // Copies that are made: what stands in them is what stood in the source, but for the layout.
-use crate::shown::{LEAST, WORKED, done, expect, file_behind, worked_copy};
+use crate::shown::{
+    COPY, LEAST, SOURCE, WORKED, done, expect, file_behind, refused, with_body, worked_copy,
+};
 use df_base::SECTOR;
 use df_disk::Disk;
-use df_memdisk::MemoryDisk;
+use df_memdisk::{MemoryDisk, Strike};
 use df_runs::{blank, expect_script, expect_words, made_file};
 use std::alloc::Global;
 use std::test::Fail;
@@ -13,12 +15,8 @@ fn a_worked_file_is_copied(rt: HostRuntime) -> Result<(), Fail> {
     let (mut from, mut to) = worked_copy(alloc)?;
     let text = "reply 1 client 1 request 1 mark 1 checkpoint 1 body bb\nblock 1 kind 1 body 01\n";
     expect_script(alloc, &mut to, b"lookup 1\nread 1\n", text)?;
-    let text =
-        "cluster 7\nlayout 16 4096 1 4096 8\nsequence 2\ncheckpoint 1\nhead 1\nreplies 1\nsessions 1\nreferences 1\n";
-    expect_words(alloc, &mut to, &["recover"], text)?;
-    let text =
-        "cluster 7\nlayout 32 8192 4 16384 64\nsequence 2\ncheckpoint 1\nhead 1\nreplies 1\nsessions 1\nreferences 1\n";
-    expect_words(alloc, &mut from, &["recover"], text)
+    expect_words(alloc, &mut to, &["recover"], COPY)?;
+    expect_words(alloc, &mut from, &["recover"], SOURCE)
 }
 
 #[test]
@@ -83,6 +81,48 @@ fn a_file_grows_and_shrinks_again(rt: HostRuntime) -> Result<(), Fail> {
     )
 }
 
+// A layout whose trailer has a bit for each of very many small blocks, and what is found of a file of it.
+const WIDE: &str = "16,4096,4,4096,16384";
+
+const WIDE_FOUND: &str =
+    "cluster 7\nlayout 16 4096 4 4096 16384\nsequence 2\ncheckpoint 4\nhead 4\nreplies 4\nsessions 4\nreferences 40\n";
+
+// Four sessions, forty blocks and a root of 1,024 bytes. In the wide layout the trailer's text has 3,848
+// bytes then, eight more than one block has room for.
+fn filled(alloc: Global) -> Result<MemoryDisk, Fail> {
+    let ops =
+        b"append 1 1 -\nreply 1 -\nappend 2 1 -\nreply 2 -\nappend 3 1 -\nreply 3 -\nappend 4 1 -\nreply 4 -\n";
+    let mut front = Vec::from_slice(alloc, ops)?;
+    for _ in 0..40u32 {
+        front.extend_from_slice(b"block 1 00\n")?;
+    }
+    front.extend_from_slice(b"checkpoint ")?;
+    let script = with_body(alloc, &front, 1024, b"\nstep\nstep\n")?;
+    file_behind(alloc, &script)
+}
+
+#[test]
+fn a_trailer_of_two_blocks_is_written_and_read_again(rt: HostRuntime) -> Result<(), Fail> {
+    let alloc = rt.alloc();
+    let mut from = filled(alloc)?;
+    let mut wide = blank(alloc, &[])?;
+    expect(alloc, &mut from, &mut wide, WIDE, done("copied 16409\n"))?;
+    expect_words(alloc, &mut wide, &["recover"], WIDE_FOUND)?;
+    let mut again = blank(alloc, &[])?;
+    expect(alloc, &mut wide, &mut again, WIDE, done("copied 16409\n"))?;
+    expect_words(alloc, &mut again, &["recover"], WIDE_FOUND)?;
+    // The trailer's two blocks stand behind the forty others, and the chain is read from its last one.
+    for (sector, text) in [
+        (65, "refused Damaged Grid 41 Garbled\n"),
+        (66, "refused Damaged Grid 42 Garbled\n"),
+    ] {
+        wide.strike(sector, Strike::Fill { byte: 0xa5 })?;
+        let mut to = blank(alloc, &[])?;
+        expect(alloc, &mut wide, &mut to, WIDE, refused(text))?;
+    }
+    Ok(())
+}
+
 #[test]
 fn a_new_file_is_copied_without_a_trailer(rt: HostRuntime) -> Result<(), Fail> {
     let alloc = rt.alloc();
@@ -126,7 +166,8 @@ fn blocks_keep_their_boot(rt: HostRuntime) -> Result<(), Fail> {
     Ok(())
 }
 
-// The calls of the source: what an open makes, a read of each reply and of each block that is referenced. No unit is read twice.
+// The calls of the source: what an open makes, a read of each reply and of each block that is referenced.
+// No unit is read twice.
 #[test]
 fn each_unit_is_read_once(rt: HostRuntime) -> Result<(), Fail> {
     let alloc = rt.alloc();
@@ -142,7 +183,8 @@ fn each_unit_is_read_once(rt: HostRuntime) -> Result<(), Fail> {
     if copied != only_opened.saturating_add(2) {
         return Err("another number of reads".into());
     }
-    // The target's: four reads, the header sector, a reply, a block, a trailer block, a sync, four copies with a sync each.
+    // The target's: four reads, the header sector, a reply, a block, a trailer block, a sync, four
+    // copies with a sync each.
     if to.calls() != 17 || to.events() != 13 {
         return Err("another number of writes".into());
     }

@@ -83,6 +83,24 @@ pub fn file_behind(alloc: Global, script: &[u8]) -> Result<MemoryDisk, Fail> {
 pub const WORKED: &[u8] =
     b"append 1 1 aa\nreply 1 bb\nblock 1 00\nblock 1 01\nrelease 1\ncheckpoint 05\nstep\nstep\n";
 
+/// What is found of the worked file,
+pub const SOURCE: &str =
+    "cluster 7\nlayout 32 8192 4 16384 64\nsequence 2\ncheckpoint 1\nhead 1\nreplies 1\nsessions 1\nreferences 1\n";
+
+/// and of its copy to the smallest layout.
+pub const COPY: &str =
+    "cluster 7\nlayout 16 4096 1 4096 8\nsequence 2\ncheckpoint 1\nhead 1\nreplies 1\nsessions 1\nreferences 1\n";
+
+/// A script with a body or a root of so many bytes between two of its parts.
+pub fn with_body(alloc: Global, front: &[u8], bytes: u32, behind: &[u8]) -> Result<Vec<u8>, Fail> {
+    let mut script = Vec::from_slice(alloc, front)?;
+    for _ in 0..bytes {
+        script.extend_from_slice(b"5a")?;
+    }
+    script.extend_from_slice(behind)?;
+    Ok(script)
+}
+
 /// The worked file and its copy to the smallest layout.
 pub fn worked_copy(alloc: Global) -> Result<(MemoryDisk, MemoryDisk), Fail> {
     let mut from = file_behind(alloc, WORKED)?;

@@ -1,8 +1,11 @@
-// A copy whose device calls fail one after the other, with a stop of the target behind each; and a failing sink.
-use crate::shown::{FAULT, LEAST, WORKED, copy_failing, done, expect, file_behind, refused};
+// Each device call of either disk fails in turn, with stops behind them: the target is no file before its
+// second copy, and the source is as it was. And a failing sink.
+use crate::shown::{
+    COPY, FAULT, LEAST, SOURCE, WORKED, copy_failing, done, expect, file_behind, refused,
+};
 use df_copy::Status;
-use df_memdisk::MemoryDisk;
-use df_runs::{blank, disk_behind, expect_words, made_file, run_words, stopped, words};
+use df_memdisk::{MemoryDisk, Strike};
+use df_runs::{FIND_CALLS, blank, disk_behind, expect_words, made_file, run_words, stopped, words};
 use std::alloc::Global;
 use std::test::Fail;
 
@@ -10,42 +13,56 @@ const NOT_FORMATTED: &str = "refused NotFormatted\n";
 
 const NO_QUORUM: &str = "refused NoQuorum";
 
-const SUMMARY: &str =
-    "cluster 7\nlayout 16 4096 1 4096 8\nsequence 2\ncheckpoint 1\nhead 1\nreplies 1\nsessions 1\nreferences 1\n";
-
-// The device call of the target that fails, of which a write is made all the same: four reads of the copies, the header sector, a reply, a block, a trailer block, a sync, and four copies with a sync each. Then the sectors that the stop
-// garbles, which the failing sync would have settled, and how what an open finds begins.
-const STOPS: [(u64, &[u64], &str); 20] = [
-    (1, &[], NOT_FORMATTED),
-    (4, &[], NOT_FORMATTED),
-    (5, &[4], NOT_FORMATTED),
-    (6, &[4, 21], NOT_FORMATTED),
-    (7, &[4, 21, 22], NOT_FORMATTED),
-    (8, &[4, 21, 22, 23], NOT_FORMATTED),
-    (9, &[4, 21, 22, 23], NOT_FORMATTED),
-    (9, &[], NOT_FORMATTED),
-    (10, &[0], NO_QUORUM),
-    (10, &[], NO_QUORUM),
-    (11, &[], NO_QUORUM),
-    (12, &[1], NO_QUORUM),
-    (12, &[], SUMMARY),
-    (13, &[1], NO_QUORUM),
-    (13, &[], SUMMARY),
-    (14, &[2], SUMMARY),
-    (15, &[], SUMMARY),
-    (16, &[3], SUMMARY),
-    (17, &[3], SUMMARY),
-    (17, &[], SUMMARY),
+// The device call of the target that fails, of four reads of the copies, the header sector, a reply, a
+// block, a trailer block, a sync, and four copies with a sync each. A write is made all the same. Then the
+// sectors that the stop garbles, which the failing sync would have settled; the one that is blank as
+// before, where the failing write wasn't made; and how what an open finds begins.
+const STOPS: [(u64, &[u64], Option<u64>, &str); 32] = [
+    (1, &[], None, NOT_FORMATTED),
+    (2, &[], None, NOT_FORMATTED),
+    (3, &[], None, NOT_FORMATTED),
+    (4, &[], None, NOT_FORMATTED),
+    (5, &[4], None, NOT_FORMATTED),
+    (5, &[], Some(4), NOT_FORMATTED),
+    (6, &[4, 21], None, NOT_FORMATTED),
+    (6, &[], Some(21), NOT_FORMATTED),
+    (7, &[4, 21, 22], None, NOT_FORMATTED),
+    (7, &[], Some(22), NOT_FORMATTED),
+    (8, &[4, 21, 22, 23], None, NOT_FORMATTED),
+    (8, &[], Some(23), NOT_FORMATTED),
+    (9, &[4, 21, 22, 23], None, NOT_FORMATTED),
+    (9, &[], None, NOT_FORMATTED),
+    (10, &[0], None, NO_QUORUM),
+    (10, &[], Some(0), NOT_FORMATTED),
+    (10, &[], None, NO_QUORUM),
+    (11, &[0], None, NO_QUORUM),
+    (11, &[], None, NO_QUORUM),
+    (12, &[1], None, NO_QUORUM),
+    (12, &[], Some(1), NO_QUORUM),
+    (12, &[], None, COPY),
+    (13, &[1], None, NO_QUORUM),
+    (13, &[], None, COPY),
+    (14, &[2], None, COPY),
+    (14, &[], Some(2), COPY),
+    (15, &[2], None, COPY),
+    (15, &[], None, COPY),
+    (16, &[3], None, COPY),
+    (16, &[], Some(3), COPY),
+    (17, &[3], None, COPY),
+    (17, &[], None, COPY),
 ];
 
 #[test]
 fn a_target_is_a_file_once_its_second_copy_is_there(rt: HostRuntime) -> Result<(), Fail> {
     let alloc = rt.alloc();
-    for (failing, sectors, text) in &STOPS {
-        let mut from = file_behind(alloc, WORKED)?;
+    let mut from = file_behind(alloc, WORKED)?;
+    for (failing, garbled, unmade, text) in &STOPS {
         let mut to = blank(alloc, &[*failing])?;
         expect(alloc, &mut from, &mut to, LEAST, FAULT)?;
-        let mut to = stopped(alloc, to, sectors)?;
+        let mut to = stopped(alloc, to, garbled)?;
+        if let Some(sector) = unmade {
+            to.strike(*sector, Strike::Fill { byte: 0 })?;
+        }
         let ran = run_words(alloc, &mut to, &["recover"])?;
         if !ran.text.as_slice().starts_with(text.as_bytes()) {
             return Err("another file is found".into());
@@ -64,44 +81,73 @@ fn a_stopped_copy_is_begun_anew_on_a_blank_disk(rt: HostRuntime) -> Result<(), F
     expect(alloc, &mut from, &mut to, LEAST, refused(text))?;
     let mut to = blank(alloc, &[])?;
     expect(alloc, &mut from, &mut to, LEAST, done("copied 30\n"))?;
-    expect_words(alloc, &mut to, &["recover"], SUMMARY)
+    expect_words(alloc, &mut to, &["recover"], COPY)
 }
 
-// The worked file, with a call of the disk failing that comes so many behind its making.
-fn failing_source(alloc: Global, behind: u64) -> Result<MemoryDisk, Fail> {
-    let made = file_behind(alloc, WORKED)?;
-    let call = made.calls().saturating_add(behind);
+// The worked file, whose disk fails at this call, counted from the first of its making.
+fn failing_source(alloc: Global, call: u64) -> Result<MemoryDisk, Fail> {
     disk_behind(alloc, made_file(alloc, "small", &[call])?, WORKED)
+}
+
+// Such a file behind a copy that met that call: nothing is printed, and the target is no file.
+fn source_behind(alloc: Global, call: u64) -> Result<MemoryDisk, Fail> {
+    let mut from = failing_source(alloc, call)?;
+    let mut to = blank(alloc, &[])?;
+    expect(alloc, &mut from, &mut to, LEAST, FAULT)?;
+    expect_words(alloc, &mut to, &["recover"], NOT_FORMATTED)?;
+    Ok(from)
 }
 
 #[test]
 fn each_call_of_the_source_may_fail(rt: HostRuntime) -> Result<(), Fail> {
     let alloc = rt.alloc();
     let mut whole = file_behind(alloc, WORKED)?;
-    let before = whole.calls();
+    let first = whole.calls().saturating_add(1);
     let mut to = blank(alloc, &[])?;
     expect(alloc, &mut whole, &mut to, LEAST, done("copied 30\n"))?;
-    let calls = whole.calls().saturating_sub(before);
-    // The first calls, those about the barrier, the last of the open's, the reply's and the block's.
-    for call in [
-        1,
-        4,
-        5,
-        6,
-        10,
-        calls.saturating_sub(3),
-        calls.saturating_sub(2),
-        calls.saturating_sub(1),
-        calls,
-    ] {
-        let mut from = failing_source(alloc, call)?;
-        let mut to = blank(alloc, &[])?;
-        expect(alloc, &mut from, &mut to, LEAST, FAULT)?;
-        expect_words(alloc, &mut to, &["recover"], NOT_FORMATTED)?;
+    let past = whole.calls().saturating_add(1);
+    for call in first..past {
+        let mut from = source_behind(alloc, call)?;
+        expect_words(alloc, &mut from, &["recover"], SOURCE)?;
     }
-    let mut from = failing_source(alloc, calls.saturating_add(1))?;
+    // A call beyond the last fails nothing.
+    let mut from = failing_source(alloc, past)?;
     let mut to = blank(alloc, &[])?;
     expect(alloc, &mut from, &mut to, LEAST, done("copied 30\n"))
+}
+
+// The calls of an open before its boot update: those of a file without a checkpoint, and two reads of the
+// one block of the trailer.
+const BEFORE_UPDATE: u64 = FIND_CALLS + 2;
+
+// The boot update writes each copy and syncs it. Where one of the two fails, the copy's sector may hold
+// what was written, what was there before, or neither.
+#[test]
+fn a_failing_boot_update_leaves_the_source(rt: HostRuntime) -> Result<(), Fail> {
+    let alloc = rt.alloc();
+    let made = file_behind(alloc, WORKED)?;
+    let before = made.calls().saturating_add(BEFORE_UPDATE);
+    let earlier = Strike::Earlier {
+        events: made.events(),
+    };
+    for (number, copy) in [
+        (1, 0),
+        (2, 0),
+        (3, 1),
+        (4, 1),
+        (5, 2),
+        (6, 2),
+        (7, 3),
+        (8, 3),
+    ] {
+        let call = before.saturating_add(number);
+        let mut from = stopped(alloc, source_behind(alloc, call)?, &[copy])?;
+        expect_words(alloc, &mut from, &["recover"], SOURCE)?;
+        let mut from = source_behind(alloc, call)?;
+        from.strike(copy, earlier)?;
+        expect_words(alloc, &mut from, &["recover"], SOURCE)?;
+    }
+    Ok(())
 }
 
 #[test]
@@ -115,7 +161,7 @@ fn the_sink_may_fail(rt: HostRuntime) -> Result<(), Fail> {
         return Err("another end of a sink that fails".into());
     }
     // The copy is there all the same.
-    expect_words(alloc, &mut to, &["recover"], SUMMARY)?;
+    expect_words(alloc, &mut to, &["recover"], COPY)?;
     let ran = copy_failing(alloc, &mut from, &mut to, &least, &[1])?;
     if ran.status != Status::WriteFault {
         return Err("another end of a refusal that isn't printed".into());
