@@ -35,31 +35,21 @@ impl LineKind for Line {
             }
             b"reply" => {
                 let (op, length) = sized(words, body, u64::MAX.into())?;
-                Some(Line::Reply {
-                    op: op as u64,
-                    length,
-                })
+                let op = op as u64;
+                Some(Line::Reply { op, length })
             }
             b"block" => {
                 let (kind, length) = sized(words, body, u8::MAX.into())?;
-                Some(Line::Block {
-                    kind: kind as u8,
-                    length,
-                })
+                let kind = kind as u8;
+                Some(Line::Block { kind, length })
             }
-            b"release" => Some(Line::Release {
-                address: u64_of(words)?,
-            }),
+            b"release" => u64_of(words).map(|address| Line::Release { address }),
             b"checkpoint" => Some(Line::Checkpoint {
                 length: decode(words, body)?,
             }),
             b"prepare" => Some(Line::Prepare { op: u64_of(words)? }),
-            b"lookup" => Some(Line::Lookup {
-                client: u128_of(words)?,
-            }),
-            b"read" => Some(Line::Read {
-                address: u64_of(words)?,
-            }),
+            b"lookup" => u128_of(words).map(|client| Line::Lookup { client }),
+            b"read" => u64_of(words).map(|address| Line::Read { address }),
             _ => None,
         }
     }

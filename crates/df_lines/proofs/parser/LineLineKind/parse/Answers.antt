@@ -11,7 +11,7 @@ returns-in_err-client-in-append-clause-none c =
 
 pub returns-in_err-client-in-stage-clause-none : goal.returns-in_err-client-in-stage-clause-none
 returns-in_err-client-in-stage-clause-none c =
-    rw c.from_residual-in_err-client-in-stage.ensures (only _ _ _ (codes "stage") c.in-Some.ensures.found (search (rules, text_from_reads)) (λ client request body says. c.in_err-client-in-stage.ensures.none client request body (staged _ client request body says)))
+    rw c.from_residual.ensures (only _ _ _ (codes "stage") c.in-Some.ensures.found (search (rules, text_from_reads)) (λ client request body says. c.in_err-client-in-stage.ensures.none client request body (staged _ client request body says)))
 
 pub returns-in_err-op-in-reply-clause-none : goal.returns-in_err-op-in-reply-clause-none
 returns-in_err-op-in-reply-clause-none c =
