@@ -1,2 +1,3 @@
 mod Blame
+mod Disks
 pub mod Laws
