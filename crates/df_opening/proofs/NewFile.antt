@@ -68,10 +68,23 @@ pub how_many : (s n : ℕ) (table : List Header) → length (sectors_of s n tabl
 how_many s zero table = refl
 how_many s (suc n) table = ap suc (how_many (s + 1) n table)
 
--- ---- the making
+own_table : (layout : Layout) (cluster : ℕ) → Ring.AreReserved cluster (reserved_table layout cluster)
+own_table layout cluster slot inside =
+    slice_get-get_or (reserved_table layout cluster) slot (reserved_header cluster 0) inside
+    ∙ ap (λ (h : Header). Some h) (get_or-map-range_with_len (reserved_header cluster) 0 layout.slots slot slot (reserved_header cluster 0) (subst (λ (n : ℕ). slot < n) (length-map-range_with_len (reserved_header cluster) 0 layout.slots) inside) (plain slot))
+  where
+    plain : (i : ℕ) → 0 + i ≡ i
+    plain i = omega arith
 
+-- each of its sectors has reserved headers
 abbrev All : Layout → ℕ → Type 0
 All layout cluster = AreReserved layout cluster 0 (sectors_in layout (reserved_table layout cluster))
+
+pub ring_reserved : (layout : Layout) (cluster : ℕ) → 0 < cluster → cluster < 2 ^ 128 → All layout cluster
+ring_reserved layout cluster named small =
+    reserved layout cluster named small (reserved_table layout cluster) (length-map-range_with_len (reserved_header cluster) 0 layout.slots) (own_table layout cluster)
+
+-- ---- the making
 
 pub making_is_steps : (layout : Layout) (cluster : ℕ) → IsUsable (first_super layout cluster) → All layout cluster → AreSteps (format_of layout cluster) (making_events layout cluster) (making_steps layout cluster)
 making_is_steps layout cluster is all =
@@ -113,14 +126,6 @@ nothing_is_part (e ∷ es) old new is = inl is
 
 -- ---- of a superblock that can be used
 
-own_table : (layout : Layout) (cluster : ℕ) → Ring.AreReserved cluster (reserved_table layout cluster)
-own_table layout cluster slot inside =
-    slice_get-get_or (reserved_table layout cluster) slot (reserved_header cluster 0) inside
-    ∙ ap (λ (h : Header). Some h) (get_or-map-range_with_len (reserved_header cluster) 0 layout.slots slot slot (reserved_header cluster 0) (subst (λ (n : ℕ). slot < n) (length-map-range_with_len (reserved_header cluster) 0 layout.slots) inside) (plain slot))
-  where
-    plain : (i : ℕ) → 0 + i ≡ i
-    plain i = omega arith
-
 pub named_of : (layout : Layout) (cluster : ℕ) → IsUsable (first_super layout cluster) → 0 < cluster
 unfolding first_super
 named_of layout cluster is = is.rules.cluster
@@ -130,8 +135,7 @@ unfolding first_super
 small_of layout cluster is = is.fits.cluster
 
 pub all_reserved : (layout : Layout) (cluster : ℕ) → IsUsable (first_super layout cluster) → All layout cluster
-all_reserved layout cluster is =
-    reserved layout cluster (named_of layout cluster is) (small_of layout cluster is) (reserved_table layout cluster) (length-map-range_with_len (reserved_header cluster) 0 layout.slots) (own_table layout cluster)
+all_reserved layout cluster is = ring_reserved layout cluster (named_of layout cluster is) (small_of layout cluster is)
 
 pub steps_of_making : (layout : Layout) (cluster : ℕ) → IsUsable (first_super layout cluster) → AreSteps (format_of layout cluster) (making_events layout cluster) (making_steps layout cluster)
 steps_of_making layout cluster is = making_is_steps layout cluster is (all_reserved layout cluster is)
