@@ -1,4 +1,4 @@
--- What an open answers where its mending or its boot update failed.
+-- What an open answers where its mending or its boot update failed; and that another refusal than the disk's is one of the superblock, where no more was read.
 use Rattle.std.proofs.Common.{◌≡◌, ◌∙◌, ℕ, List, [], ◌∷◌, ◌++◌, Option, Some, None, refl, ap, subst, sym}
 use Rattle.std.specs.Prelude.{Result, Ok, Err}
 use Rattle.df_base.specs.Causes.{Blamed}
@@ -13,14 +13,27 @@ use Rattle.df_format.specs.declared.superblock.SuperFields.{SuperFields}
 use Rattle.df_model.specs.Faults.{is_mend_fault, is_open_fault}
 use Rattle.df_model.specs.declared.errors.MendError.{MendError}
 use Rattle.df_model.specs.declared.errors.MendError.TheVariants.{Damaged, DiskFault}
+use Rattle.df_model.specs.declared.errors.OpenError.{OpenError}
 use Rattle.df_model.specs.declared.errors.OpenError.TheVariants as opens
 use Rattle.df_superblock.specs.Calls.{IsUndamaged}
 use Rattle.df_superblock.specs.declared.updates.UpdateError.{UpdateError}
 use Rattle.df_superblock.specs.declared.updates.UpdateError.TheVariants as updates
 use Rattle.df_damage.proofs.Laws.{added_is_told}
+use Rattle.df_opening.specs.Below.{Refuses, TellsLayout}
 use Rattle.df_opening.specs.Mending.{AddsRaising, IsReadBack, IsUnharmed}
 use Rattle.df_opening.specs.Opened.{refusal_of}
 use Rattle.df_damage.specs.Surveying.{TellsSurveyAs}
+
+-- a superblock isn't found, and the disk didn't fail
+pub superblock_refused : (t : Told) (e : OpenError) → (e ≡ opens.DiskFault → ⊥) → TellsLayout (Some t) (Err e) → Refuses t.shown e
+superblock_refused t opens.DiskFault other tells = absurd (other refl)
+superblock_refused t opens.NotFormatted other tells = tells
+superblock_refused t (opens.NoQuorum a) other tells = tells
+superblock_refused t (opens.Version a) other tells = tells
+superblock_refused t (opens.BadField a b) other tells = tells
+superblock_refused t (opens.LayoutDiffers a b) other tells = absurd tells
+superblock_refused t (opens.Damaged a b) other tells = absurd tells
+superblock_refused t opens.BootSpent other tells = absurd tells
 
 -- events, and a mending that adds others behind them
 pub raising_then : {T : Type 0} (es fs : List Event) (old mid new : Option Told) (result : Result T MendError) → mid ≡ after_all es old → AddsRaising fs mid new result → AddsRaising (es ++ fs) old new result
