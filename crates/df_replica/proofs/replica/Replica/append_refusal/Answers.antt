@@ -1,5 +1,5 @@
 -- The refusal is the machine's, by the client's session, and behind it by what is staged.
-use Rattle.std.proofs.Common.{◌≡◌, ◌≤◌, ◌^◌, ℕ, nat_lt, List, [], ◌∷◌, length, map, Option, Some, None, refl, ◌∙◌, sym, ap}
+use Rattle.std.proofs.Common.{◌≡◌, ◌≤◌, ◌^◌, ℕ, nat_lt, [], ◌∷◌, length, map, Option, Some, None, refl, ◌∙◌, sym, ap}
 use Rattle.std.specs.Prelude.{IfSome, option_map}
 use Rattle.std.specs.List.{position}
 use Rattle.df_sessions.specs.declared.session.Session as told
