@@ -58,14 +58,13 @@ fn parts_of(surveyed: Surveyed) -> SurveyedFile
     } = scanned;
     let scrub = scrub.cleared();
     staging.clear();
-    let content = copies.found.content;
     let chosen = copies.found.chosen;
-    let _fields = content.fields();
+    let _fields = copies.found.content.fields();
     root_fits(&root);
     let head_checksum = traces.tail.checksum;
     let parts = Parts {
         file,
-        content,
+        content: copies.found.content,
         root,
         head: traces.tail.op,
         head_checksum,
