@@ -1,4 +1,4 @@
--- Which disk an ending blames, and what is left where a call is Ok.
+-- What is said of endings: which disk each blames, and what is left where a call is Ok.
 use Rattle.std.proofs.Common.{◌≡◌, ◌∙◌, ℕ, Result, Ok, Err, refl, subst}
 use Rattle.std.specs.Prelude.{OnOk}
 use Rattle.df_base.specs.Causes.{Blamed, IsBlamed}
@@ -10,7 +10,18 @@ use Rattle.df_model.specs.declared.reading.ReadError.TheVariants as read
 use Rattle.df_copy.specs.declared.ending.Ending.{Ending}
 use Rattle.df_copy.specs.declared.ending.Ending.TheVariants.{BlockTooLong, Damaged, NotAtRest, NotBlank, ReplyTooLong, Source, Target, TooFewBlocks, TooFewClients}
 use Rattle.df_copy.specs.Acts.{Beside, Leaves}
-use Rattle.df_copy.specs.Statuses.{block_ending, is_source, is_target, reply_ending}
+use Rattle.df_copy.specs.Statuses.{ByEnding, block_ending, is_source, is_target, reply_ending}
+
+pub by_ending : {T S U V : Type 0} {P Q : Ending → Type 0} → (T → U) → (S → V) → ((e : Ending) → P e → Q e) → (e : Ending) → ByEnding T S P e → ByEnding U V Q e
+by_ending target source refused Target is = target is
+by_ending target source refused Source is = source is
+by_ending target source refused (NotAtRest a b c) is = refused (NotAtRest a b c) is
+by_ending target source refused (TooFewClients a b) is = refused (TooFewClients a b) is
+by_ending target source refused (TooFewBlocks a b) is = refused (TooFewBlocks a b) is
+by_ending target source refused (NotBlank a) is = refused (NotBlank a) is
+by_ending target source refused (ReplyTooLong a b) is = refused (ReplyTooLong a b) is
+by_ending target source refused (BlockTooLong a b) is = refused (BlockTooLong a b) is
+by_ending target source refused (Damaged a b) is = refused (Damaged a b) is
 
 pub on_ok : {T : Type 0} {P : Type 0} (r : Result T Ending) → P → OnOk r P
 on_ok (Ok x) p = p
@@ -54,9 +65,9 @@ reply_spares lookup.NoClient count = refl
 reply_spares (lookup.ReplyPending op) count = refl
 
 -- what one call leaves and then another, behind one that is Ok
-pub leaves_then : {T U : Type 0} (a b c : Beside) (x : U) (r : Result T Ending) → Leaves {T = U} a b (Ok x) → Leaves b c r → Leaves a c r
-leaves_then a b c x (Ok y) first behind = record { kept = behind.kept ∙ first.kept; same = behind.same ∙ first.same; blames_source = behind.blames_source ∙ first.blames_source; blames_target = behind.blames_target ∙ first.blames_target }
-leaves_then a b c x (Err e) first behind = record {
+pub leaves_then : {T U : Type 0} {a b c : Beside} {x : U} {r : Result T Ending} → Leaves {T = U} a b (Ok x) → Leaves b c r → Leaves a c r
+leaves_then {r = Ok y} first behind = record { kept = behind.kept ∙ first.kept; same = behind.same ∙ first.same; blames_source = behind.blames_source ∙ first.blames_source; blames_target = behind.blames_target ∙ first.blames_target }
+leaves_then {c = c} {r = Err e} first behind = record {
   kept = tt;
   same = behind.same ∙ first.same;
   blames_source = subst (λ (n : ℕ). Blamed (is_source e) n c.faults) first.blames_source behind.blames_source;

@@ -1,5 +1,5 @@
 -- A live block that is read, and what the copy does with it.
-use Rattle.std.proofs.Common.{◌≡◌, ℕ, ◌+◌, Bool, true, false, not, [], ◌∷◌, length, Option, Some, None, Result, Ok, Err, refl, sym, ◌∙◌, ap, subst, arith}
+use Rattle.std.proofs.Common.{◌≡◌, ℕ, ◌+◌, Bool, true, false, not, List, [], ◌∷◌, length, Option, Some, None, Result, Ok, Err, refl, sym, ◌∙◌, ap, subst, arith}
 use Rattle.std.specs.Prelude.{nat_lt}
 use Rattle.std.proofs.lemmas.Bool.{lt-ltb}
 use Rattle.std.proofs.lemmas.Option.{none-some}
@@ -11,6 +11,7 @@ use Rattle.df_format.specs.declared.kind.Kind.TheVariants.{Block}
 use Rattle.df_format.specs.Message.{Message}
 use Rattle.df_theory.specs.Units as units
 use Rattle.df_units.specs.Meaning.{block_of}
+use Rattle.df_trailer.specs.Rooms.{number_in}
 use Rattle.df_grid.specs.Grid as grid
 use Rattle.df_model.specs.Blocks.{sum_at}
 use Rattle.df_model.specs.Commands.{ReadBlock}
@@ -28,6 +29,10 @@ use Rattle.df_copy.specs.Acts.{CopiesAt, CopiesBlock, IsBlockOf, PutsBlock}
 use Rattle.df_copy.specs.Statuses.{block_ending}
 use Rattle.df_copy.specs.Tests.{block_test}
 use Rattle.df_copy.specs.Units.{IsBlockAt, OverShown}
+
+-- an address with a checksum is live
+pub known_by : {check : Option (List ℕ)} {sum : List ℕ} {o : Option ℕ} → check ≡ Some sum → number_in check ≡ o → is_known o ≡ true
+known_by some number = ap is_known (sym number ∙ ap number_in some)
 
 -- a block of a live address isn't refused
 pub live_there : (s : State) (from : Option Told) (address : ℕ) (e : ReadError) → is_known (sum_at address (memory s).blocks.live) ≡ true → IsReadBlock address s from (Err e) → e ≡ read.NotLive → ⊥
@@ -81,6 +86,10 @@ module _ {T : Type 0} (s : State) (address : ℕ) (u : Message) (t n : Target) (
   block_put (Err (Damaged a b)) puts = absurd puts
 
 -- an address at which a block is live
-pub copies_live : {T : Type 0} (layout : Layout) (address : ℕ) (o : Option ℕ) (s : State) (t n : Target) (from old new : Option Told) (r : Result T Ending) → is_known o ≡ true → CopiesBlock layout address s t n from old new r → CopiesAt layout address o s t n from old new r
-copies_live layout address None s t n from old new r known copies = absurd (let no : is_known None ≡ false = refl in cc (no, known))
-copies_live layout address (Some sum) s t n from old new r known copies = copies
+copies_known : {T : Type 0} (layout : Layout) (address : ℕ) (o : Option ℕ) (s : State) (t n : Target) (from old new : Option Told) (r : Result T Ending) → is_known o ≡ true → CopiesBlock layout address s t n from old new r → CopiesAt layout address o s t n from old new r
+copies_known layout address None s t n from old new r known copies = absurd (let no : is_known None ≡ false = refl in cc (no, known))
+copies_known layout address (Some sum) s t n from old new r known copies = copies
+
+pub copies_live : {T : Type 0} (layout : Layout) (address : ℕ) (s : State) (t n : Target) (from old new : Option Told) (r : Result T Ending) → is_known (sum_at address s.blocks.live) ≡ true → CopiesBlock layout address s t n from old new r
+    → CopiesAt layout address (sum_at address s.blocks.live) s t n from old new r
+copies_live layout address s t n from old new r known copies = copies_known layout address (sum_at address s.blocks.live) s t n from old new r known copies

@@ -21,7 +21,7 @@ use Rattle.df_theory.specs.Sessions.{Answers}
 use Rattle.df_theory.specs.Shape.{Shape}
 use Rattle.df_theory.specs.Trailer.{InChain}
 use Rattle.df_theory.specs.Units as units
-use Rattle.df_theory.specs.Units.{AnyUnit, Block, BlockPlace, BlockUnit, Content, Parts, Place, ReplyPlace, ReplyUnit, Session, Units}
+use Rattle.df_theory.specs.Units.{AnyUnit, Block, BlockPlace, BlockUnit, Content, Place, ReplyPlace, ReplyUnit, Session, Units}
 use Rattle.df_theory.specs.View.{Checkpoint, View}
 use Rattle.df_units.specs.Bytes.{unit_at}
 use Rattle.df_units.specs.Making.{header_puts}
@@ -44,7 +44,7 @@ use Rattle.df_copy.proofs.Images.{image_behind, row_steps, shows_block, shows_co
 use Rattle.df_copy.proofs.Listed.{check_at, many_checks, moved_length}
 use Rattle.df_copy.proofs.Rested.{IsEarlier, NamesAll, ShowsRest, rest_found, rest_whole, view_at_rest}
 use Rattle.df_copy.proofs.Rings.{ring_all_reserved, ring_reaches}
-use Rattle.df_copy.proofs.Rows.{as_block, as_reply, reply_row_placed, row_at, row_placed}
+use Rattle.df_copy.proofs.Rows.{as_block, as_reply, block_rows, reply_rows, row_at, row_placed}
 use Rattle.df_copy.proofs.Sources.{IsSource}
 use Rattle.df_copy.proofs.Trailed.{chain_in, copy_chain, copy_content, copy_parts, copy_sound}
 use Rattle.df_copy.proofs.Usables.{IsNamed, copy_are_steps}
@@ -144,10 +144,10 @@ module _ (layout : Layout) (s : State) (rs bs : List Message) (image : Units) (v
 
   steps_are : copy_steps layout s rs bs ≡ row_steps puts reserved replies blocks trailer f
   steps_are =
-      let one : all_steps reply_steps rs ≡ placed ReplyPlace 0 replies = reply_row_placed layout cluster 0 rs is.replies in
-      let two : all_steps block_steps us ≡ placed BlockPlace 1 blocks = row_placed layout cluster 1 us is.blocks in
+      let one : all_steps reply_steps rs ≡ placed ReplyPlace 0 replies = row_placed (reply_rows layout cluster) 0 rs is.replies in
+      let two : all_steps block_steps us ≡ placed BlockPlace 1 blocks = row_placed (block_rows layout cluster) 1 us is.blocks in
       let three : all_steps block_steps ts ≡ placed BlockPlace (length blocks + 1) trailer =
-      row_placed layout cluster (length us + 1) ts (trailer_in_row layout s rs bs is.writable) ∙ ap (λ (k : ℕ). placed BlockPlace (k + 1) trailer) (sym (length-map us as_block)) in
+      row_placed (block_rows layout cluster) (length us + 1) ts (trailer_in_row layout s rs bs is.writable) ∙ ap (λ (k : ℕ). placed BlockPlace (k + 1) trailer) (sym (length-map us as_block)) in
       λ i. ((all_puts puts ++ (one i ++ two i)) ++ three i) ++ (Syncs ∷ update_steps (put_copies f))
 
   -- behind all that is written, where nothing was
@@ -215,7 +215,7 @@ module _ (layout : Layout) (s : State) (rs bs : List Message) (image : Units) (v
   chain_shown a x at = elim (chain_in ts [] a x at) [
     | inl one ↦
         let here : length us + 1 + one.0 ≡ length us + 1 + one.0 = refl in
-        let address = (row_at layout cluster (length us + 1) one.0 (length us + 1 + one.0) ts one.1 (trailer_in_row layout s rs bs is.writable) one.2 here).0 in
+        let address = (row_at (block_rows layout cluster) (length us + 1) one.0 (length us + 1 + one.0) ts one.1 (trailer_in_row layout s rs bs is.writable) one.2 here).0 in
         shows_trailer puts reserved replies blocks trailer f one.0 a (as_block one.1) (mapped as_block ts one.0 one.1 one.2) (omega (arith, one.3, address, length-map us as_block)) ∙ ap (λ (y : Block). Some (BlockUnit y)) (sym one.4)
     | inr none ↦ absurd none
   ]
@@ -248,7 +248,7 @@ module _ (layout : Layout) (s : State) (rs bs : List Message) (image : Units) (v
     own_kind : (i : ℕ) (u : Message) → slice_get us i ≡ Some u → 0 < u.header.block_kind
     own_kind i u at =
         let one : 1 + i ≡ 1 + i = refl in
-        let unit = (row_at layout cluster 1 i (1 + i) us u is.blocks at one).1 in
+        let unit = (row_at (block_rows layout cluster) 1 i (1 + i) us u is.blocks at one).1 in
         let from = moved_back 1 bs i u at in
         let kind : u.header.kind ≡ IsBlock = ap (λ (m : Message). m.header.kind) from.2 ∙ kinds i from.0 from.1 in
         let rules : ObeysBlock u.header = subst (λ (k : Kind). ObeysKind k u.header) kind unit.sealed.rules.kind in

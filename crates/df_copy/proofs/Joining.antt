@@ -17,12 +17,14 @@ use Rattle.df_opening.specs.Below.{State, memory}
 use Rattle.df_copy.specs.declared.ending.Ending.{Ending}
 use Rattle.df_copy.specs.declared.ending.Ending.TheVariants.{BlockTooLong, Damaged, NotAtRest, NotBlank, ReplyTooLong, Source, Target as TargetFails, TooFewBlocks, TooFewClients}
 use Rattle.df_copy.specs.declared.target.Target.{Target}
-use Rattle.df_copy.specs.Acts.{CopiesBlocks, CopiesReplies, FitBlocks, FitReplies}
+use Rattle.df_copy.specs.Acts.{CopiesBlocks, CopiesReplies, FitBlocks, FitReplies, StopsBehind}
 use Rattle.df_copy.specs.Copying.{BeginsTarget, Copied, CopiesInto, CopiesPlanned, CopiesUnits, Finishes, IsAll, IsJudged, Judges, OverTold, PassesTo, units_written}
 use Rattle.df_copy.specs.Targets.{IsTarget, KeepsGrid, copy_events, ring_events, superblock_events, trailer_of, unit_events}
 use Rattle.df_copy.specs.Tests.{blank_tests, block_tests, references, reply_tests, rest_tests, tests, unit_tests}
 use Rattle.df_copy.specs.Units.{OverShown, all_events, moved_from, reply_events}
+use Rattle.df_copy.proofs.Blamed.{by_ending}
 use Rattle.df_copy.proofs.Listed.{over_all, over_both, over_by}
+use Rattle.df_copy.proofs.Turns.{stops_within}
 
 -- ---- replies and blocks
 
@@ -49,39 +51,20 @@ module _ (layout : Layout) (s : State) (from : Option Told) where
   then_blocks rs bs old mid new first second = second ∙ ap (after_all (all_events (made_events layout) (moved_from 1 bs))) first ∙ sym (after_append (all_events (reply_events layout) rs) (all_events (made_events layout) (moved_from 1 bs)) old)
 
 module _ (T : Type 0) (s : State) (t n : Target) (from old : Option Told) where
-  -- the copy ends in the replies
-  replies_refused : (e : Ending) (new : Option Told) → OverShown s.file from (λ shown. first_refusal (reply_tests t.layout shown (memory s)) ≡ Some e) × (rs : List Message) × FitReplies t.layout s from rs × (new ≡ after_all (all_events (reply_events t.layout) rs) old)
-      → OverShown s.file from (λ shown. first_refusal (unit_tests t.layout shown (memory s)) ≡ Some e) × (c : Copied t.layout s from) × (new ≡ after_all (units_written t.layout c.replies c.blocks) old)
-  replies_refused e new copies = (
-    over_by s.file from (λ shown. first_refusal (reply_tests t.layout shown (memory s)) ≡ Some e) (λ shown. first_refusal (unit_tests t.layout shown (memory s)) ≡ Some e) copies.0
-        (λ shown is. first_refuses (reply_tests t.layout shown (memory s)) (block_tests t.layout shown (memory s)) e is),
-    only_replies t.layout s from copies.1 copies.2,
-    replies_only t.layout s from copies.1 old new copies.3,
-  )
+  abbrev written : Copied t.layout s from → List Event
+  written c = units_written t.layout c.replies c.blocks
 
+  -- the copy ends in the replies
   pub units_stop : (checks : List (List ℕ)) (new : Option Told) (e : Ending) → CopiesReplies {T = T} t.layout s checks from old new (Err e) → CopiesUnits {T = T} s t n from old new (Err e)
-  units_stop checks new TargetFails copies = (only_replies t.layout s from copies.0 copies.1, part_then (all_events (reply_events t.layout) copies.0) [] old new copies.2)
-  units_stop checks new Source copies = (only_replies t.layout s from copies.0 copies.1, replies_only t.layout s from copies.0 old new copies.2)
-  units_stop checks new (NotAtRest a b c) copies = replies_refused (NotAtRest a b c) new copies
-  units_stop checks new (TooFewClients a b) copies = replies_refused (TooFewClients a b) new copies
-  units_stop checks new (TooFewBlocks a b) copies = replies_refused (TooFewBlocks a b) new copies
-  units_stop checks new (NotBlank a) copies = replies_refused (NotBlank a) new copies
-  units_stop checks new (ReplyTooLong a b) copies = replies_refused (ReplyTooLong a b) new copies
-  units_stop checks new (BlockTooLong a b) copies = replies_refused (BlockTooLong a b) new copies
-  units_stop checks new (Damaged a b) copies = replies_refused (Damaged a b) new copies
+  units_stop checks new e stops =
+      stops_within s.file from (λ (x : (rs : List Message) × FitReplies t.layout s from rs). all_events (reply_events t.layout) x.0) written (λ shown. reply_tests t.layout shown (memory s)) (λ shown. unit_tests t.layout shown (memory s)) old old
+      (λ x. only_replies t.layout s from x.0 x.1) (λ x newer is. replies_only t.layout s from x.0 old newer is) (λ x newer part. part_then (all_events (reply_events t.layout) x.0) [] old newer part)
+      (λ e refused. over_by s.file from (λ shown. first_refusal (reply_tests t.layout shown (memory s)) ≡ Some e) (λ shown. first_refusal (unit_tests t.layout shown (memory s)) ≡ Some e) refused
+      (λ shown is. first_refuses (reply_tests t.layout shown (memory s)) (block_tests t.layout shown (memory s)) e is)) new e stops
 
   -- or goes on with the blocks
   module _ (mid : Option Told) (rs : List Message) (fit : FitReplies t.layout s from rs) (all : length rs ≡ length s.table.sessions) (first : mid ≡ after_all (all_events (reply_events t.layout) rs) old)
       (none : OverShown s.file from (λ shown. first_refusal (reply_tests t.layout shown (memory s)) ≡ None)) where
-    blocks_refused : (e : Ending) (new : Option Told) → OverShown s.file from (λ shown. first_refusal (block_tests t.layout shown (memory s)) ≡ Some e) × (bs : List Message) × FitBlocks t.layout s from bs × (new ≡ after_all (all_events (made_events t.layout) (moved_from 1 bs)) mid)
-        → OverShown s.file from (λ shown. first_refusal (unit_tests t.layout shown (memory s)) ≡ Some e) × (c : Copied t.layout s from) × (new ≡ after_all (units_written t.layout c.replies c.blocks) old)
-    blocks_refused e new copies = (
-      over_both s.file from (λ shown. first_refusal (reply_tests t.layout shown (memory s)) ≡ None) (λ shown. first_refusal (block_tests t.layout shown (memory s)) ≡ Some e) (λ shown. first_refusal (unit_tests t.layout shown (memory s)) ≡ Some e) none copies.0
-          (λ shown passed is. behind_decides (reply_tests t.layout shown (memory s)) (block_tests t.layout shown (memory s)) passed ∙ is),
-      with_blocks t.layout s from rs copies.1 fit all copies.2,
-      then_blocks t.layout s from rs copies.1 old mid new first copies.3,
-    )
-
     pub units_go : (new : Option Told) (r : Result T Ending) → CopiesBlocks t.layout s rs n from mid new r → CopiesUnits s t n from old new r
     units_go new (Ok x) copies = (
       with_blocks t.layout s from rs copies.0 fit all copies.1,
@@ -91,16 +74,11 @@ module _ (T : Type 0) (s : State) (t n : Target) (from old : Option Told) where
       over_both s.file from (λ shown. first_refusal (reply_tests t.layout shown (memory s)) ≡ None) (λ shown. first_refusal (block_tests t.layout shown (memory s)) ≡ None) (λ shown. first_refusal (unit_tests t.layout shown (memory s)) ≡ None) none copies.5
           (λ shown passed is. behind_decides (reply_tests t.layout shown (memory s)) (block_tests t.layout shown (memory s)) passed ∙ is),
     )
-    units_go new (Err TargetFails) copies =
-        (with_blocks t.layout s from rs copies.0 fit all copies.1, all_then (all_events (reply_events t.layout) rs) (all_events (made_events t.layout) (moved_from 1 copies.0)) old mid new first copies.2)
-    units_go new (Err Source) copies = (with_blocks t.layout s from rs copies.0 fit all copies.1, then_blocks t.layout s from rs copies.0 old mid new first copies.2)
-    units_go new (Err (NotAtRest a b c)) copies = blocks_refused (NotAtRest a b c) new copies
-    units_go new (Err (TooFewClients a b)) copies = blocks_refused (TooFewClients a b) new copies
-    units_go new (Err (TooFewBlocks a b)) copies = blocks_refused (TooFewBlocks a b) new copies
-    units_go new (Err (NotBlank a)) copies = blocks_refused (NotBlank a) new copies
-    units_go new (Err (ReplyTooLong a b)) copies = blocks_refused (ReplyTooLong a b) new copies
-    units_go new (Err (BlockTooLong a b)) copies = blocks_refused (BlockTooLong a b) new copies
-    units_go new (Err (Damaged a b)) copies = blocks_refused (Damaged a b) new copies
+    units_go new (Err e) stops =
+        stops_within s.file from (λ (x : (bs : List Message) × FitBlocks t.layout s from bs). all_events (made_events t.layout) (moved_from 1 x.0)) written (λ shown. block_tests t.layout shown (memory s)) (λ shown. unit_tests t.layout shown (memory s)) old mid
+        (λ x. with_blocks t.layout s from rs x.0 fit all x.1) (λ x newer is. then_blocks t.layout s from rs x.0 old mid newer first is) (λ x newer part. all_then (all_events (reply_events t.layout) rs) (all_events (made_events t.layout) (moved_from 1 x.0)) old mid newer first part)
+        (λ e refused. over_both s.file from (λ shown. first_refusal (reply_tests t.layout shown (memory s)) ≡ None) (λ shown. first_refusal (block_tests t.layout shown (memory s)) ≡ Some e) (λ shown. first_refusal (unit_tests t.layout shown (memory s)) ≡ Some e) none refused
+        (λ shown passed is. behind_decides (reply_tests t.layout shown (memory s)) (block_tests t.layout shown (memory s)) passed ∙ is)) new e stops
 
 -- the replies were copied, by calls that leave the source as it was
 pub units_join : {T U : Type 0} (s kept : State) (t mid n : Target) (from same old written new : Option Told) (x : U) (r : Result T Ending) → kept ≡ s → same ≡ from → KeepsGrid t mid → IsTarget t.layout s.file.cluster [] [] t
@@ -169,9 +147,7 @@ module _ (T : Type 0) (layout : Layout) (s : State) (from old : Option Told) whe
 
     -- the units are of this layout
     abbrev Stops : (new : Option Told) → Layout → Ending → Type 0
-    Stops new l TargetFails = (c : Copied l s from) × AddsPart (units_written l c.replies c.blocks) begun new
-    Stops new l Source = (c : Copied l s from) × (new ≡ after_all (units_written l c.replies c.blocks) begun)
-    Stops new l x = OverShown s.file from (λ shown. first_refusal (unit_tests l shown (memory s)) ≡ Some x) × (c : Copied l s from) × (new ≡ after_all (units_written l c.replies c.blocks) begun)
+    Stops new l e = StopsBehind {X = Copied l s from} s.file from (λ c. units_written l c.replies c.blocks) (λ shown. unit_tests l shown (memory s)) begun new e
 
     units_end : (new : Option Told) (e : Ending) → Stops new layout e → CopiesPlanned {T = T} layout s from old new (Err e)
     units_end new TargetFails stops = record { writes = (stops.0, inl (all_then (ring_events layout cluster) (units_written layout stops.0.replies stops.0.blocks) old begun new ring stops.1)); judged = silent }
@@ -185,19 +161,7 @@ module _ (T : Type 0) (layout : Layout) (s : State) (from old : Option Told) whe
     units_end new (Damaged a b) stops = let both = units_refused (Damaged a b) new stops in record { writes = both.0; judged = both.1 }
 
     pub planned_units : (t n : Target) (new : Option Told) (e : Ending) → t.layout ≡ layout → CopiesUnits {T = T} s t n from begun new (Err e) → CopiesPlanned {T = T} layout s from old new (Err e)
-    planned_units t n new e same units = units_end new e (subst (λ (l : Layout). Stops new l e) same (stops e units))
-      where
-        -- it is CopiesUnits, over the layout alone
-        stops : (x : Ending) → CopiesUnits {T = T} s t n from begun new (Err x) → Stops new t.layout x
-        stops TargetFails it = it
-        stops Source it = it
-        stops (NotAtRest a b c) it = it
-        stops (TooFewClients a b) it = it
-        stops (TooFewBlocks a b) it = it
-        stops (NotBlank a) it = it
-        stops (ReplyTooLong a b) it = it
-        stops (BlockTooLong a b) it = it
-        stops (Damaged a b) it = it
+    planned_units t n new e same units = units_end new e (subst (λ (l : Layout). Stops new l e) same units)
 
     -- all units are written, and the trailer and the superblock follow
     module _ (c : Copied layout s from) (all : IsAll c) (mid : Option Told) (units : mid ≡ after_all (units_written layout c.replies c.blocks) begun) (none : OverShown s.file from (λ shown. first_refusal (unit_tests layout shown (memory s)) ≡ None)) where
@@ -278,17 +242,15 @@ module _ (T : Type 0) (layout : Layout) (s : State) (from old : Option Told) whe
       joined : (image : Image) (shown : Shown) → first_refusal (tests layout shown (memory s) image) ≡ first_refusal (blank_tests image ++ unit_tests layout shown (memory s))
       joined image shown = behind_decides (rest_tests layout (memory s)) (blank_tests image ++ unit_tests layout shown (memory s)) none
 
+      refused : (image : Image) (shown : Shown) (e : Ending) → first_refusal (blank_tests image ++ unit_tests layout shown (memory s)) ≡ Some e → first_refusal (tests layout shown (memory s) image) ≡ Some e
+      refused image shown e passes = joined image shown ∙ passes
+
+      silence : Unit {0} → Unit {0}
+      silence it = it
+
       decides : (q : Result T Ending) (image : Image) (shown : Shown) → PassesTo layout s shown image q → Judges layout s shown image q
       decides (Ok x) image shown passes = joined image shown ∙ passes
-      decides (Err Source) image shown passes = tt
-      decides (Err TargetFails) image shown passes = tt
-      decides (Err (NotAtRest a b c)) image shown passes = joined image shown ∙ passes
-      decides (Err (TooFewClients a b)) image shown passes = joined image shown ∙ passes
-      decides (Err (TooFewBlocks a b)) image shown passes = joined image shown ∙ passes
-      decides (Err (NotBlank a)) image shown passes = joined image shown ∙ passes
-      decides (Err (ReplyTooLong a b)) image shown passes = joined image shown ∙ passes
-      decides (Err (BlockTooLong a b)) image shown passes = joined image shown ∙ passes
-      decides (Err (Damaged a b)) image shown passes = joined image shown ∙ passes
+      decides (Err e) image shown passes = by_ending silence silence (refused image shown) e passes
 
       judged : (q : Result T Ending) → OverTold old (λ image. OverShown s.file from (λ shown. PassesTo layout s shown image q)) → IsJudged layout s from old q
       judged q is =

@@ -27,6 +27,7 @@ pub mod Sources
 pub mod Spares
 pub mod Trailed
 pub mod Trailing
+pub mod Turns
 pub mod Units
 pub mod Usables
 pub mod Written

@@ -30,90 +30,77 @@ abbrev pub AreRow : Zone → (Message → ℕ) → Layout → (cluster from : �
 AreRow zone named layout cluster from [] = Unit {0}
 AreRow zone named layout cluster from (u ∷ us) = (named u ≡ from) × IsUnit layout cluster (place_in zone from) u × AreRow zone named layout cluster (from + 1) us
 
-module _ (zone : Zone) (named : Message → ℕ) (layout : Layout) (cluster : ℕ) where
+-- which units they are, what is written of one and what that puts
+pub record Row (layout : Layout) (cluster : ℕ) : Type 0 where
+  pub zone : Zone
+  pub named : Message → ℕ
+  pub events : Message → List Event
+  pub steps : Message → List Step
+  pub place : ℕ → Place
+  pub theirs : Message → AnyUnit
+  pub are_steps : (u : Message) → IsUnit layout cluster (place_in zone (named u)) u → AreSteps (format_of layout cluster) (events u) (steps u)
+  pub are_puts : (u : Message) → steps u ≡ Puts (put_one (place (named u)) (theirs u)) ∷ []
+
+module _ {layout : Layout} {cluster : ℕ} (row : Row layout cluster) where
+  abbrev Are : ℕ → List Message → Type 0
+  Are from us = AreRow row.zone row.named layout cluster from us
+
   -- each of them is one at its own place
-  unit_in : (from i k : ℕ) (us : List Message) (u : Message) → AreRow zone named layout cluster from us → slice_get us i ≡ Some u → k ≡ from + i → (named u ≡ k) × IsUnit layout cluster (place_in zone k) u
-  unit_in from i k [] u are at is = absurd (cc)
-  unit_in from zero k (v ∷ us) u are at is =
+  pub row_at : (from i k : ℕ) (us : List Message) (u : Message) → Are from us → slice_get us i ≡ Some u → k ≡ from + i → (row.named u ≡ k) × IsUnit layout cluster (place_in row.zone k) u
+  row_at from i k [] u are at is = absurd (cc)
+  row_at from zero k (v ∷ us) u are at is =
       let here : from ≡ k = omega (arith, is) in
-      subst (λ (w : Message). (named w ≡ k) × IsUnit layout cluster (place_in zone k) w) (same_Some v u at) (are.0 ∙ here, subst (λ (j : ℕ). IsUnit layout cluster (place_in zone j) v) here are.1)
-  unit_in from (suc i) k (v ∷ us) u are at is = unit_in (from + 1) i k us u are.2 at (omega (arith, is))
-
-  -- each is written by steps
-  module _ (events : Message → List Event) (steps : Message → List Step) (each : (u : Message) (k : ℕ) → named u ≡ k → IsUnit layout cluster (place_in zone k) u → AreSteps (format_of layout cluster) (events u) (steps u)) where
-    all_are_steps : (from : ℕ) (us : List Message) → AreRow zone named layout cluster from us → AreSteps (format_of layout cluster) (all_events events us) (all_steps steps us)
-    all_are_steps from [] are = tt
-    all_are_steps from (u ∷ us) are = steps_join_law (format_of layout cluster) (events u) (all_events events us) (steps u) (all_steps steps us) (each u from are.0 are.1) (all_are_steps (from + 1) us are.2)
-
-  -- they are put to places that are counted
-  module _ (place : ℕ → Place) (theirs : Message → AnyUnit) (steps : Message → List Step) (each : (u : Message) → steps u ≡ Puts (put_one (place (named u)) (theirs u)) ∷ []) where
-    all_placed : (from : ℕ) (us : List Message) → AreRow zone named layout cluster from us → all_steps steps us ≡ placed place from (map theirs us)
-    all_placed from [] are = refl
-    all_placed from (u ∷ us) are =
-        ap (λ (l : List Step). l ++ all_steps steps us) (each u) ∙ ap (λ (k : ℕ). Puts (put_one (place k) (theirs u)) ∷ all_steps steps us) are.0
-        ∙ ap (λ (l : List Step). Puts (put_one (place from) (theirs u)) ∷ l) (all_placed (from + 1) us are.2)
-
--- ---- blocks
-
-abbrev address_in : Message → ℕ
-address_in u = u.header.op
-
--- blocks, each valid at its address, which are one behind the other from this one on
-abbrev pub AreInRow : Layout → (cluster from : ℕ) → List Message → Type 0
-AreInRow layout cluster from us = AreRow Grid address_in layout cluster from us
-
--- in the words of the theory
-abbrev pub as_block : Message → AnyUnit
-as_block u = BlockUnit (block_of u)
-
-module _ (layout : Layout) (cluster : ℕ) where
-  block_is_steps : (u : Message) (a : ℕ) → u.header.op ≡ a → IsUnit layout cluster (place_in Grid a) u → AreSteps (format_of layout cluster) (made_events layout u) (block_steps u)
-  block_is_steps u a at is =
-      let own : IsUnit layout cluster (place_in Grid u.header.op) u = subst (λ (k : ℕ). IsUnit layout cluster (place_in Grid k) u) (sym at) is in
-      (block_put layout cluster u.header.op u (sectors_of u) (made_brings layout cluster (place_in Grid u.header.op) u (λ same. cc) own), tt)
-
-  pub row_steps : (from : ℕ) (us : List Message) → AreInRow layout cluster from us → AreSteps (format_of layout cluster) (all_events (made_events layout) us) (all_steps block_steps us)
-  row_steps from us are = all_are_steps Grid address_in layout cluster (made_events layout) block_steps block_is_steps from us are
-
-  pub row_placed : (from : ℕ) (us : List Message) → AreInRow layout cluster from us → all_steps block_steps us ≡ placed BlockPlace from (map as_block us)
-  row_placed from us are = all_placed Grid address_in layout cluster BlockPlace as_block block_steps (λ u. refl) from us are
-
-  pub row_at : (from i k : ℕ) (us : List Message) (u : Message) → AreInRow layout cluster from us → slice_get us i ≡ Some u → k ≡ from + i → (u.header.op ≡ k) × IsUnit layout cluster (place_in Grid k) u
-  row_at from i k us u are at is = unit_in Grid address_in layout cluster from i k us u are at is
+      subst (λ (w : Message). (row.named w ≡ k) × IsUnit layout cluster (place_in row.zone k) w) (same_Some v u at) (are.0 ∙ here, subst (λ (j : ℕ). IsUnit layout cluster (place_in row.zone j) v) here are.1)
+  row_at from (suc i) k (v ∷ us) u are at is = row_at (from + 1) i k us u are.2 at (omega (arith, is))
 
   -- the last of them
-  pub row_last : (from : ℕ) (u : Message) (us : List Message) → AreInRow layout cluster from (u ∷ us) → (v : Message) × (last_of (u ∷ us) ≡ Some v) × (v.header.op ≡ from + length us) × IsUnit layout cluster (place_in Grid (from + length us)) v
+  pub row_last : (from : ℕ) (u : Message) (us : List Message) → Are from (u ∷ us) → (v : Message) × (last_of (u ∷ us) ≡ Some v) × (row.named v ≡ from + length us) × IsUnit layout cluster (place_in row.zone (from + length us)) v
   row_last from u [] are =
       let plain : from ≡ from + 0 = omega arith in
-      (u, refl, are.0 ∙ plain, subst (λ (k : ℕ). IsUnit layout cluster (place_in Grid k) u) plain are.1)
+      (u, refl, are.0 ∙ plain, subst (λ (k : ℕ). IsUnit layout cluster (place_in row.zone k) u) plain are.1)
   row_last from u (v ∷ us) are =
       let rest = row_last (from + 1) v us are.2 in
       let on : from + 1 + length us ≡ from + suc (length us) = omega arith in
-      (rest.0, rest.1, rest.2 ∙ on, subst (λ (k : ℕ). IsUnit layout cluster (place_in Grid k) rest.0) on rest.3)
+      (rest.0, rest.1, rest.2 ∙ on, subst (λ (k : ℕ). IsUnit layout cluster (place_in row.zone k) rest.0) on rest.3)
 
--- ---- replies
+  -- they are written by steps
+  pub row_steps : (from : ℕ) (us : List Message) → Are from us → AreSteps (format_of layout cluster) (all_events row.events us) (all_steps row.steps us)
+  row_steps from [] are = tt
+  row_steps from (u ∷ us) are =
+      let own : IsUnit layout cluster (place_in row.zone (row.named u)) u = subst (λ (k : ℕ). IsUnit layout cluster (place_in row.zone k) u) (sym are.0) are.1 in
+      steps_join_law (format_of layout cluster) (row.events u) (all_events row.events us) (row.steps u) (all_steps row.steps us) (row.are_steps u own) (row_steps (from + 1) us are.2)
 
-abbrev slot_in : Message → ℕ
-slot_in u = u.header.slot
+  -- which put them to places that are counted
+  pub row_placed : (from : ℕ) (us : List Message) → Are from us → all_steps row.steps us ≡ placed row.place from (map row.theirs us)
+  row_placed from [] are = refl
+  row_placed from (u ∷ us) are =
+      ap (λ (l : List Step). l ++ all_steps row.steps us) (row.are_puts u) ∙ ap (λ (k : ℕ). Puts (put_one (row.place k) (row.theirs u)) ∷ all_steps row.steps us) are.0
+      ∙ ap (λ (l : List Step). Puts (put_one (row.place from) (row.theirs u)) ∷ l) (row_placed (from + 1) us are.2)
 
--- replies, each valid at the place that it names, which are one behind the other from this one on
-abbrev pub AreReplyRow : Layout → (cluster from : ℕ) → List Message → Type 0
-AreReplyRow layout cluster from us = AreRow ClientReplies slot_in layout cluster from us
+-- ---- blocks and replies, in the words of the theory
+
+abbrev pub as_block : Message → AnyUnit
+as_block u = BlockUnit (block_of u)
 
 abbrev pub as_reply : Message → AnyUnit
 as_reply u = ReplyUnit (message_of u)
 
 module _ (layout : Layout) (cluster : ℕ) where
-  reply_is_steps : (u : Message) (k : ℕ) → u.header.slot ≡ k → IsUnit layout cluster (place_in ClientReplies k) u → AreSteps (format_of layout cluster) (reply_events layout u) (reply_steps u)
-  reply_is_steps u k at is =
-      let own : IsUnit layout cluster (place_in ClientReplies u.header.slot) u = subst (λ (j : ℕ). IsUnit layout cluster (place_in ClientReplies j) u) (sym at) is in
-      (reply_put layout cluster u.header.slot u (sectors_of u) (made_brings layout cluster (place_in ClientReplies u.header.slot) u (λ same. cc) own), tt)
+  pub block_is_steps : (u : Message) → IsUnit layout cluster (place_in Grid u.header.op) u → AreSteps (format_of layout cluster) (made_events layout u) (block_steps u)
+  block_is_steps u is = (block_put layout cluster u.header.op u (sectors_of u) (made_brings layout cluster (place_in Grid u.header.op) u (λ same. cc) is), tt)
 
-  pub reply_row_steps : (from : ℕ) (us : List Message) → AreReplyRow layout cluster from us → AreSteps (format_of layout cluster) (all_events (reply_events layout) us) (all_steps reply_steps us)
-  reply_row_steps from us are = all_are_steps ClientReplies slot_in layout cluster (reply_events layout) reply_steps reply_is_steps from us are
+  pub reply_is_steps : (u : Message) → IsUnit layout cluster (place_in ClientReplies u.header.slot) u → AreSteps (format_of layout cluster) (reply_events layout u) (reply_steps u)
+  reply_is_steps u is = (reply_put layout cluster u.header.slot u (sectors_of u) (made_brings layout cluster (place_in ClientReplies u.header.slot) u (λ same. cc) is), tt)
 
-  pub reply_row_at : (from i k : ℕ) (us : List Message) (u : Message) → AreReplyRow layout cluster from us → slice_get us i ≡ Some u → k ≡ from + i → (u.header.slot ≡ k) × IsUnit layout cluster (place_in ClientReplies k) u
-  reply_row_at from i k us u are at is = unit_in ClientReplies slot_in layout cluster from i k us u are at is
+  abbrev pub block_rows : Row layout cluster
+  block_rows = record { zone = Grid; named = λ u. u.header.op; events = made_events layout; steps = block_steps; place = BlockPlace; theirs = as_block; are_steps = block_is_steps; are_puts = λ u. refl }
 
-  pub reply_row_placed : (from : ℕ) (us : List Message) → AreReplyRow layout cluster from us → all_steps reply_steps us ≡ placed ReplyPlace from (map as_reply us)
-  reply_row_placed from us are = all_placed ClientReplies slot_in layout cluster ReplyPlace as_reply reply_steps (λ u. refl) from us are
+  abbrev pub reply_rows : Row layout cluster
+  reply_rows = record { zone = ClientReplies; named = λ u. u.header.slot; events = reply_events layout; steps = reply_steps; place = ReplyPlace; theirs = as_reply; are_steps = reply_is_steps; are_puts = λ u. refl }
+
+  -- blocks, each valid at its address, which are one behind the other from this one on; and replies, each at its place
+  abbrev pub AreInRow : (from : ℕ) → List Message → Type 0
+  AreInRow from us = AreRow Grid (λ u. u.header.op) layout cluster from us
+
+  abbrev pub AreReplyRow : (from : ℕ) → List Message → Type 0
+  AreReplyRow from us = AreRow ClientReplies (λ u. u.header.slot) layout cluster from us

@@ -35,7 +35,7 @@ use Rattle.df_copy.proofs.Frees.{numbered_behind, numbered_known, numbered_there
 use Rattle.df_copy.proofs.Listed.{moved_length}
 use Rattle.df_copy.proofs.Pieces.{IsPieced, chain_with}
 use Rattle.df_copy.proofs.Piecewise.{kept_layout}
-use Rattle.df_copy.proofs.Rows.{row_at}
+use Rattle.df_copy.proofs.Rows.{block_rows, row_at}
 use Rattle.df_copy.proofs.Sources.{IsSource}
 use Rattle.df_copy.proofs.Usables.{IsFitted, IsNamed, copy_fields, copy_super, count, fitted, long, named_none, no_trailer_there, trailer_there}
 use Rattle.df_copy.proofs.Written.{bytes, next_some, trailer_is}
@@ -139,7 +139,7 @@ module _ (layout : Layout) (s : State) (rs bs : List Message) (image : Units) (v
   small : (u : Message) (i : ℕ) → slice_get us i ≡ Some u → number_of u.header.checksum < 2 ^ 128
   small u i at =
       let one : 1 + i ≡ 1 + i = refl in
-      let unit = (row_at layout s.file.cluster 1 i (1 + i) us u is.blocks at one).1 in
+      let unit = (row_at (block_rows layout s.file.cluster) 1 i (1 + i) us u is.blocks at one).1 in
       omega (arith, field_at-lt 16 0 u.header.checksum (sealed_check u.header unit.sealed).each)
 
   pub copy_lawful : IsLawful (layout_of layout) s.fields.op copy_parts

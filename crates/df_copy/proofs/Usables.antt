@@ -28,7 +28,7 @@ use Rattle.df_copy.specs.Units.{moved_from}
 use Rattle.df_copy.proofs.Listed.{check_at, many_checks, moved_length}
 use Rattle.df_copy.proofs.Piecewise.{last_address}
 use Rattle.df_copy.proofs.Planning.{size_none, size_some}
-use Rattle.df_copy.proofs.Rows.{AreInRow, AreReplyRow, reply_row_at, row_last}
+use Rattle.df_copy.proofs.Rows.{AreInRow, AreReplyRow, block_rows, reply_rows, row_at, row_last}
 use Rattle.df_copy.proofs.Written.{IsWritable, front_are_steps, next_left, trailer_in_row}
 
 -- ---- the checksums of replies
@@ -40,7 +40,7 @@ nothing_past (u ∷ us) (suc i) past = nothing_past us i (omega (arith, past))
 
 are_checks : (layout : Layout) (cluster : ℕ) (us : List Message) → AreReplyRow layout cluster 0 us → (k : ℕ) (o : Option Message) → slice_get us k ≡ o → IsCheck (check_of o)
 are_checks layout cluster us row k None at = no_check
-are_checks layout cluster us row k (Some u) at = let plain : k ≡ 0 + k = omega arith in sealed_check u.header (reply_row_at layout cluster 0 k k us u row at plain).1.sealed
+are_checks layout cluster us row k (Some u) at = let plain : k ≡ 0 + k = omega arith in sealed_check u.header (row_at (reply_rows layout cluster) 0 k k us u row at plain).1.sealed
 
 -- no place is named that has no session
 none_spare : (us : List Message) (clients : ℕ) → length us ≤ clients → AreNone (drop clients (checks_of us))
@@ -63,7 +63,7 @@ none_named (t ∷ ts) none = absurd (omega arith)
 last_check : (layout : Layout) (cluster from : ℕ) (ts : List Message) → AreInRow layout cluster from ts → IsCheck (check_of (last_of ts))
 last_check layout cluster from [] row = no_check
 last_check layout cluster from (t ∷ ts) row =
-    let last = row_last layout cluster from t ts row in
+    let last = row_last (block_rows layout cluster) from t ts row in
     subst (λ (o : Option Message). IsCheck (check_of o)) (sym last.1) (sealed_check last.0.header last.3.sealed)
 
 -- a trailer is no longer than the longest one, and is cut into as many blocks as it fills

@@ -33,7 +33,7 @@ use Rattle.df_copy.proofs.Frees.{next_free}
 use Rattle.df_copy.proofs.Listed.{moved_length}
 use Rattle.df_copy.proofs.Pieces.{ArePieces, IsPieced, IsWriting, pieces_are, zeros_back}
 use Rattle.df_copy.proofs.Rings.{ring_steps as ring_is_steps}
-use Rattle.df_copy.proofs.Rows.{AreInRow, AreReplyRow, reply_row_steps, row_steps}
+use Rattle.df_copy.proofs.Rows.{AreInRow, AreReplyRow, block_rows, reply_rows, row_steps}
 use Rattle.df_copy.proofs.Units.{block_owned, moved_made}
 
 -- ---- units of the source in the target
@@ -182,9 +182,9 @@ module _ (layout : Layout) (s : State) (rs bs : List Message) (is : IsWritable l
       steps_join_law f (ring_events layout s.file.cluster) (all_events (reply_events layout) rs ++ all_events (made_events layout) us) (ring_steps layout s.file.cluster) (all_steps reply_steps rs ++ all_steps block_steps us)
       (ring_is_steps layout s.file.cluster s.file.named is.state.cluster)
       (steps_join_law f (all_events (reply_events layout) rs) (all_events (made_events layout) us) (all_steps reply_steps rs) (all_steps block_steps us)
-      (reply_row_steps layout s.file.cluster 0 rs is.replies) (row_steps layout s.file.cluster 1 us is.blocks))
+      (row_steps (reply_rows layout s.file.cluster) 0 rs is.replies) (row_steps (block_rows layout s.file.cluster) 1 us is.blocks))
 
   pub front_are_steps : AreSteps (format_of layout s.file.cluster) (front_events layout s rs bs) (front_steps layout s rs bs)
   front_are_steps =
       steps_join_law (format_of layout s.file.cluster) (unit_events layout s.file.cluster rs bs) (all_events (made_events layout) (trailer_of layout s us)) (unit_steps layout s.file.cluster rs bs) (all_steps block_steps (trailer_of layout s us))
-      units_are_steps (row_steps layout s.file.cluster (length us + 1) (trailer_of layout s us) trailer_in_row)
+      units_are_steps (row_steps (block_rows layout s.file.cluster) (length us + 1) (trailer_of layout s us) trailer_in_row)

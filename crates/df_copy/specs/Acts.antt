@@ -1,6 +1,7 @@
 -- What each act of a copy does: a reply or a block that is read and written, all of them, the trailer, and the superblock.
-use Rattle.std.specs.Prelude.{◌≡◌, ◌<◌, ◌≤◌, ◌+◌, ℕ, true, List, length, slice_get, slice_set, Option, None, Some, Result, Ok, Err, OnOk}
+use Rattle.std.specs.Prelude.{◌≡◌, ◌<◌, ◌≤◌, ◌+◌, ℕ, Bool, true, List, length, slice_get, slice_set, Option, None, Some, Result, Ok, Err, OnOk}
 use Rattle.df_base.specs.Causes.{IsBlamed}
+use Rattle.df_base.specs.Log.{Event}
 use Rattle.df_disk.specs.Told.{Told}
 use Rattle.df_disk.specs.Adds.{AddsPart, after_all}
 use Rattle.df_layout.specs.declared.layout.Layout.{Layout}
@@ -18,12 +19,12 @@ use Rattle.df_model.specs.Blocks.{block_written}
 use Rattle.df_model.specs.Commands.{ReadBlock}
 use Rattle.df_model.specs.Memory.{reply_sum}
 use Rattle.df_model.specs.Refusals.{first_refusal}
-use Rattle.df_model.specs.Supply.{block_read, reply_at}
-use Rattle.df_opening.specs.Below.{State, memory}
+use Rattle.df_model.specs.Supply.{Shown, block_read, reply_at}
+use Rattle.df_opening.specs.Below.{DataFile, State, memory}
 use Rattle.df_copy.specs.declared.ending.Ending.{Ending}
-use Rattle.df_copy.specs.declared.ending.Ending.TheVariants.{BlockTooLong, ReplyTooLong, Source, Target as TargetFails}
+use Rattle.df_copy.specs.declared.ending.Ending.TheVariants.{BlockTooLong, ReplyTooLong, Target as TargetFails}
 use Rattle.df_copy.specs.declared.target.Target.{Target}
-use Rattle.df_copy.specs.Statuses.{is_source, is_target}
+use Rattle.df_copy.specs.Statuses.{ByEnding, is_source, is_target}
 use Rattle.df_copy.specs.Targets.{IsTarget, checks_of, last_of as last_block, pair_of, trailer_of}
 use Rattle.df_copy.specs.Tests.{block_test, block_tests, is_at_rest, references, reply_test, reply_tests}
 use Rattle.df_copy.specs.Units.{AreBlocks, AreReplies, IsBlockAt, IsReplyAt, OverShown, all_events, moved, moved_from, reply_events}
@@ -52,6 +53,17 @@ pub record Leaves {T : Type 0} (before now : Beside) (result : Result T Ending) 
   pub same : now.told ≡ before.told
   pub blames_source : IsBlamed is_source before.faults now.faults result
   pub blames_target : IsBlamed is_target before.target_faults now.target_faults result
+
+-- ---- where a copy of units stops
+
+-- In one of them: it fits, and the target's disk fails in its writes; or the source's disk fails; or the test of what is found of it ends the copy. But for the first nothing is written.
+abbrev pub StopsAt : DataFile → (from : Option Told) → (Fits : Message → Type 0) → (events : Message → List Event) → (test : Shown → Bool × Ending) → (old new : Option Told) → Ending → Type 0
+StopsAt file from Fits events test old new e = ByEnding ((u : Message) × Fits u × AddsPart (events u) old new) (new ≡ old) (λ x. OverShown file from (λ shown. test shown ≡ (true, x)) × (new ≡ old)) e
+
+-- In their order: the first of them are written, or some part of that where the target's disk fails; and the source's disk fails behind them, or the first test that holds ends the copy.
+abbrev pub StopsBehind : {X : Type 0} → DataFile → (from : Option Told) → (events : X → List Event) → (tests : Shown → List (Bool × Ending)) → (old new : Option Told) → Ending → Type 0
+StopsBehind {X = X} file from events tests old new e =
+    ByEnding ((x : X) × AddsPart (events x) old new) ((x : X) × (new ≡ after_all (events x) old)) (λ y. OverShown file from (λ shown. first_refusal (tests shown) ≡ Some y) × (x : X) × (new ≡ after_all (events x) old)) e
 
 -- ---- replies
 
@@ -82,9 +94,7 @@ pub record FitsReply (layout : Layout) (s : State) (told : Option Told) (place :
 -- the reply of the session at a place: it is read and written; or one of the two disks fails; or the test of what is found of it ends the copy, and nothing is written
 abbrev pub CopiesReply : {T : Type 0} → Layout → (place : ℕ) → State → (before behind : List (List ℕ)) → (from old new : Option Told) → Result T Ending → Type 0
 CopiesReply layout place s before behind from old new (Ok x) = (r : Message) × FitsReply layout s from place r × (new ≡ after_all (reply_events layout r) old) × (behind ≡ slice_set before place r.header.checksum)
-CopiesReply layout place s before behind from old new (Err TargetFails) = (r : Message) × FitsReply layout s from place r × AddsPart (reply_events layout r) old new
-CopiesReply layout place s before behind from old new (Err Source) = new ≡ old
-CopiesReply layout place s before behind from old new (Err e) = OverShown s.file from (λ shown. reply_test layout place (reply_at shown (reply_sum (memory s) place) place) ≡ (true, e)) × (new ≡ old)
+CopiesReply layout place s before behind from old new (Err e) = StopsAt s.file from (FitsReply layout s from place) (reply_events layout) (λ shown. reply_test layout place (reply_at shown (reply_sum (memory s) place) place)) old new e
 
 -- the checksum of some session's place was set
 pub record SetsCheck (sessions : ℕ) (before behind : List (List ℕ)) : Type 0 where
@@ -103,10 +113,8 @@ abbrev pub CopiesReplies : {T : Type 0} → Layout → State → (checks : List 
 CopiesReplies layout s checks from old new (Ok x) =
     (rs : List Message) × FitReplies layout s from rs × (length rs ≡ length s.table.sessions) × (new ≡ after_all (all_events (reply_events layout) rs) old) × (checks ≡ checks_of rs)
     × OverShown s.file from (λ shown. first_refusal (reply_tests layout shown (memory s)) ≡ None)
-CopiesReplies layout s checks from old new (Err TargetFails) = (rs : List Message) × FitReplies layout s from rs × AddsPart (all_events (reply_events layout) rs) old new
-CopiesReplies layout s checks from old new (Err Source) = (rs : List Message) × FitReplies layout s from rs × (new ≡ after_all (all_events (reply_events layout) rs) old)
 CopiesReplies layout s checks from old new (Err e) =
-    OverShown s.file from (λ shown. first_refusal (reply_tests layout shown (memory s)) ≡ Some e) × (rs : List Message) × FitReplies layout s from rs × (new ≡ after_all (all_events (reply_events layout) rs) old)
+    StopsBehind {X = (rs : List Message) × FitReplies layout s from rs} s.file from (λ x. all_events (reply_events layout) x.0) (λ shown. reply_tests layout shown (memory s)) old new e
 
 -- ---- blocks
 
@@ -146,9 +154,8 @@ pub record FitsBlock (layout : Layout) (s : State) (told : Option Told) (address
 -- the block at a live address: it is read, and written to the next one; or one of the two disks fails; or the test of what is found of it ends the copy, and nothing is written
 abbrev pub CopiesBlock : {T : Type 0} → Layout → (address : ℕ) → State → (t n : Target) → (from old new : Option Told) → Result T Ending → Type 0
 CopiesBlock layout address s t n from old new (Ok x) = (b : Message) × FitsBlock layout s from address b × (new ≡ after_all (made_events layout (moved (t.copied + 1) b)) old) × HasNext b t n
-CopiesBlock layout address s t n from old new (Err TargetFails) = (b : Message) × FitsBlock layout s from address b × AddsPart (made_events layout (moved (t.copied + 1) b)) old new
-CopiesBlock layout address s t n from old new (Err Source) = new ≡ old
-CopiesBlock layout address s t n from old new (Err e) = OverShown s.file from (λ shown. block_test layout address (block_read shown (memory s) (ReadBlock address)) ≡ (true, e)) × (new ≡ old)
+CopiesBlock layout address s t n from old new (Err e) =
+    StopsAt s.file from (FitsBlock layout s from address) (λ b. made_events layout (moved (t.copied + 1) b)) (λ shown. block_test layout address (block_read shown (memory s) (ReadBlock address))) old new e
 
 -- an address: nothing is live there, and nothing is done; or a block is
 abbrev pub CopiesAt : {T : Type 0} → Layout → (address : ℕ) → (known : Option ℕ) → State → (t n : Target) → (from old new : Option Told) → Result T Ending → Type 0
@@ -166,10 +173,8 @@ abbrev pub CopiesBlocks : {T : Type 0} → Layout → State → List Message →
 CopiesBlocks layout s rs n from old new (Ok x) =
     (bs : List Message) × FitBlocks layout s from bs × (length bs ≡ length (references (memory s))) × (new ≡ after_all (all_events (made_events layout) (moved_from 1 bs)) old) × IsTarget layout s.file.cluster rs bs n
     × OverShown s.file from (λ shown. first_refusal (block_tests layout shown (memory s)) ≡ None)
-CopiesBlocks layout s rs n from old new (Err TargetFails) = (bs : List Message) × FitBlocks layout s from bs × AddsPart (all_events (made_events layout) (moved_from 1 bs)) old new
-CopiesBlocks layout s rs n from old new (Err Source) = (bs : List Message) × FitBlocks layout s from bs × (new ≡ after_all (all_events (made_events layout) (moved_from 1 bs)) old)
 CopiesBlocks layout s rs n from old new (Err e) =
-    OverShown s.file from (λ shown. first_refusal (block_tests layout shown (memory s)) ≡ Some e) × (bs : List Message) × FitBlocks layout s from bs × (new ≡ after_all (all_events (made_events layout) (moved_from 1 bs)) old)
+    StopsBehind {X = (bs : List Message) × FitBlocks layout s from bs} s.file from (λ x. all_events (made_events layout) (moved_from 1 x.0)) (λ shown. block_tests layout shown (memory s)) old new e
 
 -- ---- both
 

@@ -11,9 +11,10 @@ use Rattle.df_model.specs.Refusals.{first_refusal}
 use Rattle.df_model.specs.Supply.{Shown}
 use Rattle.df_opening.specs.Below.{State, memory}
 use Rattle.df_copy.specs.declared.ending.Ending.{Ending}
-use Rattle.df_copy.specs.declared.ending.Ending.TheVariants.{Source, Target}
+use Rattle.df_copy.specs.declared.ending.Ending.TheVariants.{Target}
 use Rattle.df_copy.specs.declared.target.Target.{Target as Copy}
-use Rattle.df_copy.specs.Acts.{FitBlocks, FitReplies}
+use Rattle.df_copy.specs.Acts.{FitBlocks, FitReplies, StopsBehind}
+use Rattle.df_copy.specs.Statuses.{ByEnding}
 use Rattle.df_copy.specs.Targets.{IsTarget, copy_events, ring_events, superblock_events, trailer_of, unit_events}
 use Rattle.df_copy.specs.Tests.{blank_tests, references, tests, unit_tests}
 use Rattle.df_copy.specs.Units.{OverShown, all_events, moved_from, reply_events}
@@ -42,9 +43,7 @@ WritesCopy layout s from old new (Err e) = (new ≡ old) ⊎ ((c : Copied layout
 -- Which refusal it is: none of the tests holds where the copy is made, and else the first that does is answered; a failing disk says nothing of them.
 abbrev pub Judges : {T : Type 0} → Layout → State → Shown → Image → Result T Ending → Type 0
 Judges layout s shown image (Ok x) = first_refusal (tests layout shown (memory s) image) ≡ None
-Judges layout s shown image (Err Source) = Unit {0}
-Judges layout s shown image (Err Target) = Unit {0}
-Judges layout s shown image (Err e) = first_refusal (tests layout shown (memory s) image) ≡ Some e
+Judges layout s shown image (Err e) = ByEnding (Unit {0}) (Unit {0}) (λ x. first_refusal (tests layout shown (memory s) image) ≡ Some x) e
 
 -- a fact of what the target's disk shows, where it tells that
 abbrev pub OverTold : Option Told → (Image → Type 0) → Type 0
@@ -65,9 +64,7 @@ pub record CopiesInto {T : Type 0} (layout : Layout) (s : State) (from old new :
 -- the test of the target's sectors and the header ring
 abbrev pub BeginsTarget : {T : Type 0} → Layout → (cluster : ℕ) → (old new : Option Told) → Result T Ending → Type 0
 BeginsTarget layout cluster old new (Ok x) = (new ≡ after_all (ring_events layout cluster) old) × OverTold old (λ image. first_refusal (blank_tests image) ≡ None)
-BeginsTarget layout cluster old new (Err Target) = AddsPart (ring_events layout cluster) old new
-BeginsTarget layout cluster old new (Err Source) = ⊥
-BeginsTarget layout cluster old new (Err e) = (new ≡ old) × OverTold old (λ image. first_refusal (blank_tests image) ≡ Some e)
+BeginsTarget layout cluster old new (Err e) = ByEnding (AddsPart (ring_events layout cluster) old new) ⊥ (λ x. (new ≡ old) × OverTold old (λ image. first_refusal (blank_tests image) ≡ Some x)) e
 
 -- the replies and the blocks
 abbrev pub units_written : Layout → (replies blocks : List Message) → List Event
@@ -77,10 +74,7 @@ abbrev pub CopiesUnits : {T : Type 0} → State → (t n : Copy) → (from old n
 CopiesUnits s t n from old new (Ok x) =
     (c : Copied t.layout s from) × IsAll c × (new ≡ after_all (units_written t.layout c.replies c.blocks) old) × IsTarget t.layout s.file.cluster c.replies c.blocks n
     × OverShown s.file from (λ shown. first_refusal (unit_tests t.layout shown (memory s)) ≡ None)
-CopiesUnits s t n from old new (Err Target) = (c : Copied t.layout s from) × AddsPart (units_written t.layout c.replies c.blocks) old new
-CopiesUnits s t n from old new (Err Source) = (c : Copied t.layout s from) × (new ≡ after_all (units_written t.layout c.replies c.blocks) old)
-CopiesUnits s t n from old new (Err e) =
-    OverShown s.file from (λ shown. first_refusal (unit_tests t.layout shown (memory s)) ≡ Some e) × (c : Copied t.layout s from) × (new ≡ after_all (units_written t.layout c.replies c.blocks) old)
+CopiesUnits s t n from old new (Err e) = StopsBehind {X = Copied t.layout s from} s.file from (λ c. units_written t.layout c.replies c.blocks) (λ shown. unit_tests t.layout shown (memory s)) old new e
 
 -- the trailer, and the superblock behind a sync
 abbrev pub Finishes : {T : Type 0} → Layout → State → (replies blocks : List Message) → (old new : Option Told) → Result T Ending → Type 0
@@ -89,9 +83,7 @@ Finishes layout s replies blocks old new result = Adds (all_events (made_events 
 -- what passed the tests that read nothing
 abbrev pub PassesTo : {T : Type 0} → Layout → State → Shown → Image → Result T Ending → Type 0
 PassesTo layout s shown image (Ok x) = first_refusal (blank_tests image ++ unit_tests layout shown (memory s)) ≡ None
-PassesTo layout s shown image (Err Source) = Unit {0}
-PassesTo layout s shown image (Err Target) = Unit {0}
-PassesTo layout s shown image (Err e) = first_refusal (blank_tests image ++ unit_tests layout shown (memory s)) ≡ Some e
+PassesTo layout s shown image (Err e) = ByEnding (Unit {0}) (Unit {0}) (λ x. first_refusal (blank_tests image ++ unit_tests layout shown (memory s)) ≡ Some x) e
 
 pub record CopiesPlanned {T : Type 0} (layout : Layout) (s : State) (from old new : Option Told) (result : Result T Ending) : Type 0 where
   pub writes : WritesCopy layout s from old new result

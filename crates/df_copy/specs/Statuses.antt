@@ -38,6 +38,12 @@ is_target e = false
 abbrev pub is_fault : Ending → Bool
 is_fault e = is_source e || is_target e
 
+-- what is said of an ending: where the target's disk failed, where the source's did, and of a refusal
+abbrev pub ByEnding : (target source : Type 0) → (refused : Ending → Type 0) → Ending → Type 0
+ByEnding target source refused Target = target
+ByEnding target source refused Source = source
+ByEnding target source refused e = refused e
+
 -- why the target isn't begun; its cluster is never refused, since a file has one
 abbrev pub blank_ending : FormatError → Ending
 blank_ending (formats.NotBlank copy) = NotBlank copy

@@ -8,7 +8,7 @@ ghost use Rattle.df_model.specs.Blocks.{sum_at};
 ghost use Rattle.df_model.specs.Work.{is_known};
 ghost use Rattle.df_opening.specs.Below.{memory};
 ghost use Rattle.df_replica.specs.Blocks.{MayPut};
-ghost use Rattle.df_copy.specs.Acts.{CopiesAt, CopiesBlock, CopiesBlocks, IsBegun, IsBlockOf, Leaves, PutsBlock, beside, with_block};
+ghost use Rattle.df_copy.specs.Acts.{CopiesAt, CopiesBlocks, IsBegun, IsBlockOf, Leaves, PutsBlock, beside, with_block};
 ghost use Rattle.df_copy.specs.Statuses.{block_ending, is_target};
 ghost use Rattle.df_copy.specs.Targets.{IsTarget};
 ghost use Rattle.df_copy.specs.Tests.{references};
@@ -100,28 +100,6 @@ fn unread_block(error: ReadError) -> Ending
     }
 }
 
-// Copies a live block.
-fn copy_block<A: Disk, B: Disk>(
-    from: &mut A,
-    to: &mut B,
-    replica: &mut Replica,
-    target: &mut Target,
-    address: u64,
-) -> Result<(), Ending>
-    requires live { replica.old.live ≡ true }
-    requires known { is_known (sum_at address (memory replica.old).blocks.live) ≡ true }
-    requires room { target.old.copied < target.old.layout.blocks }
-    requires begun { IsBegun replica.old target.old }
-    ensures copies { CopiesBlock target.old.layout address replica.old target.old target.new (A.told from.old) (B.told to.old) (B.told to.new) result }
-    ensures layout { target.new.layout ≡ target.old.layout }
-    ensures leaves { Leaves (beside replica.old (A.told from.old) (A.faults from.old) (B.faults to.old)) (beside replica.new (A.told from.new) (A.faults from.new) (B.faults to.new)) result }
-{
-    match replica.read_block(from, address) {
-        Ok(unit) => put_block(to, target, address, unit),
-        Err(error) => Err(unread_block(error)),
-    }
-}
-
 // Copies the block at an address, if one is live there.
 fn copy_at<A: Disk, B: Disk>(
     from: &mut A,
@@ -137,9 +115,12 @@ fn copy_at<A: Disk, B: Disk>(
     ensures layout { target.new.layout ≡ target.old.layout }
     ensures leaves { Leaves (beside replica.old (A.told from.old) (A.faults from.old) (B.faults to.old)) (beside replica.new (A.told from.new) (A.faults from.new) (B.faults to.new)) result }
 {
-    match replica.reference(address) {
-        Some(_) => copy_block(from, to, replica, target, address),
-        None => Ok(()),
+    let Some(_) = replica.reference(address) else {
+        return Ok(());
+    };
+    match replica.read_block(from, address) {
+        Ok(unit) => put_block(to, target, address, unit),
+        Err(error) => Err(unread_block(error)),
     }
 }
 

@@ -92,7 +92,7 @@ returns-in-Err-copy_units-clause-copies g c = λ apart.
 -- the ring leaves the source as it was, and what is left behind it is left by all
 ring_leaves : (s : State) (told : Option Told) (faults before begun : ℕ) (now : Beside) (r : Result (Unit {0}) Ending) → begun ≡ before → Leaves (beside s told faults begun) now r → Leaves (beside s told faults before) now r
 ring_leaves s told faults before begun now r same leaves =
-    leaves_then {T = Unit {0}} {U = Unit {0}} (beside s told faults before) (beside s told faults begun) now (tt {0}) r (record { kept = refl; same = refl; blames_source = refl; blames_target = same }) leaves
+    leaves_then {a = beside s told faults before} {b = beside s told faults begun} {c = now} {x = tt {0}} {r = r} (record { kept = refl; same = refl; blames_source = refl; blames_target = same }) leaves
 
 -- and so does what comes last
 last_leaves : (s : State) (told : Option Told) (faults before now : ℕ) (r : Result (Unit {0}) Ending) → IsBlamed is_target before now r → IfErr r (λ ending. ending ≡ Target) → Leaves (beside s told faults before) (beside s told faults now) r
@@ -111,12 +111,10 @@ returns-in-Ok-copy_units-clause-leaves g c =
     let q : State = c.copy_units.new.replica in
     let later : Option Told = g.A.Disk.told c.copy_units.new.from in
     let more : ℕ = g.A.Disk.faults c.copy_units.new.from in
-    let first : Beside = beside s told faults (g.B.Disk.faults c.begin.new.to) in
-    let second : Beside = beside q later more (g.B.Disk.faults c.copy_units.new.to) in
     let third : Beside = beside q later more (g.B.Disk.faults c.finish.new.to) in
     let last = last_leaves q later more (g.B.Disk.faults c.copy_units.new.to) (g.B.Disk.faults c.finish.new.to) c.finish.result c.finish.ensures.disk c.finish.ensures.target in
     ring_leaves s told faults (g.B.Disk.faults c.args.to.now) (g.B.Disk.faults c.begin.new.to) third c.finish.result c.in-Ok.ensures.disk
-    (leaves_then {T = Unit {0}} {U = Unit {0}} first second third c.in-Ok-copy_units.field-0 c.finish.result c.in-Ok-copy_units.ensures.leaves last)
+    (leaves_then c.in-Ok-copy_units.ensures.leaves last)
 
 pub returns-in-Err-copy_units-clause-leaves : goal.returns-in-Err-copy_units-clause-leaves
 returns-in-Err-copy_units-clause-leaves g c =

@@ -7,7 +7,7 @@ use Rattle.df_layout.specs.declared.layout.Layout.{Layout}
 use Rattle.df_opening.specs.Below.{State, memory}
 use Rattle.df_copy.specs.declared.ending.Ending.{Ending}
 use Rattle.df_copy.specs.declared.target.Target.{Target}
-use Rattle.df_copy.specs.Acts.{CopiesBlocks, IsCopied, beside}
+use Rattle.df_copy.specs.Acts.{CopiesBlocks, IsCopied}
 use Rattle.df_copy.specs.Targets.{IsTarget}
 use Rattle.df_copy.specs.Tests.{references}
 use Rattle.df_copy.proofs.Blamed.{leaves_then}
@@ -48,10 +48,7 @@ returns-in-Err-clause-copies g c = λ apart.
     (c.in-Err.ensures.copies apart)
 
 pub returns-in-Ok-clause-leaves : goal.returns-in-Ok-clause-leaves
-returns-in-Ok-clause-leaves g c =
-    leaves_then {T = Unit {0}} {U = Unit {0}} (beside c.args.replica.now (g.A.Disk.told c.args.from.now) (g.A.Disk.faults c.args.from.now) (g.B.Disk.faults c.args.to.now))
-    (beside c.copy_replies.new.replica (g.A.Disk.told c.copy_replies.new.from) (g.A.Disk.faults c.copy_replies.new.from) (g.B.Disk.faults c.copy_replies.new.to))
-    (beside c.copy_blocks.new.replica (g.A.Disk.told c.copy_blocks.new.from) (g.A.Disk.faults c.copy_blocks.new.from) (g.B.Disk.faults c.copy_blocks.new.to)) (tt {0}) c.copy_blocks.result c.in-Ok.ensures.leaves c.copy_blocks.ensures.leaves
+returns-in-Ok-clause-leaves g c = leaves_then c.in-Ok.ensures.leaves c.copy_blocks.ensures.leaves
 
 pub copy_blocks-requires-clause-room : goal.copy_blocks-requires-clause-room
 copy_blocks-requires-clause-room g c =

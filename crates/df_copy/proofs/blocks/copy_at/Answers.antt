@@ -1,4 +1,4 @@
--- The block is lent, or it isn't.
+-- A block that is live at the address is lent, or it isn't.
 use Rattle.std.proofs.Common.{◌∙◌, Option, Err, Result, ap, subst, sym}
 use Rattle.df_base.specs.Causes.{Blamed}
 use Rattle.df_disk.specs.Told.{Told}
@@ -11,8 +11,8 @@ use Rattle.df_copy.specs.declared.target.Target.{Target}
 use Rattle.df_copy.specs.Acts.{CopiesBlock, PutsBlock}
 use Rattle.df_copy.specs.Statuses.{is_source, is_target}
 use Rattle.df_copy.proofs.Blamed.{block_blamed, block_spares, on_ok, unblamed}
-use Rattle.df_copy.proofs.BlockRead.{block_is, block_put, block_unit, block_unread, live_there}
-use Rattle.df_copy.proofs.blocks.copy_block.Goals as goal
+use Rattle.df_copy.proofs.BlockRead.{block_is, block_put, block_unit, block_unread, copies_live, known_by, live_there}
+use Rattle.df_copy.proofs.blocks.copy_at.Goals as goal
 
 -- ---- it is
 
@@ -26,8 +26,12 @@ pub returns-in-Ok-clause-copies : goal.returns-in-Ok-clause-copies
 returns-in-Ok-clause-copies g c =
     let s : State = c.args.replica.now in
     let from : Option Told = g.A.Disk.told c.args.from.now in
-    block_put s c.args.address c.in-Ok.unit.now.unit c.args.target.now c.put_block.new.target from (g.B.Disk.told c.args.to.now) (g.B.Disk.told c.put_block.new.to)
-    (block_is s from c.args.address c.in-Ok.unit.now.unit c.in-Ok.ensures.lent c.in-Ok.ensures.exact) c.put_block.result c.put_block.ensures.puts
+    let old : Option Told = g.B.Disk.told c.args.to.now in
+    let new : Option Told = g.B.Disk.told c.put_block.new.to in
+    let known = known_by c.in-Some.is c.reference.ensures in
+    copies_live c.args.target.now.layout c.args.address s c.args.target.now c.put_block.new.target from old new c.put_block.result known
+    (block_put s c.args.address c.in-Ok.unit.now.unit c.args.target.now c.put_block.new.target from old new
+    (block_is s from c.args.address c.in-Ok.unit.now.unit c.in-Ok.ensures.lent c.in-Ok.ensures.exact) c.put_block.result c.put_block.ensures.puts)
 
 pub returns-in-Ok-clause-leaves : goal.returns-in-Ok-clause-leaves
 returns-in-Ok-clause-leaves g c = record {
@@ -42,7 +46,7 @@ returns-in-Ok-clause-leaves g c = record {
 -- ---- it isn't
 
 pub unread_block-requires : goal.unread_block-requires
-unread_block-requires g c = live_there c.args.replica.now (g.A.Disk.told c.args.from.now) c.args.address c.in-Err.error c.requires.known c.in-Err.ensures.exact
+unread_block-requires g c = live_there c.args.replica.now (g.A.Disk.told c.args.from.now) c.args.address c.in-Err.error (known_by c.in-Some.is c.reference.ensures) c.in-Err.ensures.exact
 
 pub returns-in-Err-clause-copies : goal.returns-in-Err-clause-copies
 returns-in-Err-clause-copies g c =
@@ -50,13 +54,15 @@ returns-in-Err-clause-copies g c =
     let from : Option Told = g.A.Disk.told c.args.from.now in
     let t : Target = c.args.target.now in
     let to : Option Told = g.B.Disk.told c.args.to.now in
-    let live = live_there s from c.args.address c.in-Err.error c.requires.known c.in-Err.ensures.exact in
-    subst (λ (e : Ending). CopiesBlock {T = Unit {0}} t.layout c.args.address s t t from to to (Err e)) (sym c.unread_block.ensures)
-    (block_unread s from c.args.address (Unit {0}) t.layout t t to c.in-Err.error live c.in-Err.ensures.exact)
+    let known = known_by c.in-Some.is c.reference.ensures in
+    let live = live_there s from c.args.address c.in-Err.error known c.in-Err.ensures.exact in
+    copies_live {T = Unit {0}} t.layout c.args.address s t t from to to (Err c.unread_block.result) known
+    (subst (λ (e : Ending). CopiesBlock {T = Unit {0}} t.layout c.args.address s t t from to to (Err e)) (sym c.unread_block.ensures)
+    (block_unread s from c.args.address (Unit {0}) t.layout t t to c.in-Err.error live c.in-Err.ensures.exact))
 
 pub returns-in-Err-clause-leaves : goal.returns-in-Err-clause-leaves
 returns-in-Err-clause-leaves g c =
-    let live = live_there c.args.replica.now (g.A.Disk.told c.args.from.now) c.args.address c.in-Err.error c.requires.known c.in-Err.ensures.exact in
+    let live = live_there c.args.replica.now (g.A.Disk.told c.args.from.now) c.args.address c.in-Err.error (known_by c.in-Some.is c.reference.ensures) c.in-Err.ensures.exact in
     record {
       kept = tt;
       same = c.in-Err.ensures.same;
