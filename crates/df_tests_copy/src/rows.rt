@@ -44,10 +44,26 @@ fn a_copy_goes_on(rt: HostRuntime) -> Result<(), Fail> {
     Ok(())
 }
 
-// A layout with more of all, and the sectors of a file of it.
-const MORE: &str = "64,16384,8,32768,128";
+// A layout with more of all, the sectors of a file of it, and what is found of that file.
+const LARGER: [(&str, &str, &str); 2] = [
+    (
+        "64,16384,8,32768,128",
+        "copied 1320\n",
+        "cluster 7\nlayout 64 16384 8 32768 128\nsequence 2\ncheckpoint 2\nhead 2\nreplies 2\nsessions 2\nreferences 2\n",
+    ),
+    (
+        "large",
+        "copied 2375808\n",
+        "cluster 7\nlayout 1024 1048576 64 524288 16384\nsequence 2\ncheckpoint 2\nhead 2\nreplies 2\nsessions 2\nreferences 2\n",
+    ),
+];
 
-const MORE_COPIED: &str = "copied 1320\n";
+// What is found of the file before and behind, and what a script answers then.
+const SMALL_FOUND: &str =
+    "cluster 7\nlayout 32 8192 4 16384 64\nsequence 2\ncheckpoint 2\nhead 2\nreplies 2\nsessions 2\nreferences 2\n";
+
+const ANSWERS: &str =
+    "reply 1 client 1 request 1 mark 2 checkpoint 1 body bb\nreply 2 client 2 request 1 mark 2 checkpoint 1 body -\nblock 1 kind 1 body 00\nblock 2 kind 3 body -\n";
 
 #[test]
 fn a_file_grows_and_shrinks_again(rt: HostRuntime) -> Result<(), Fail> {
@@ -55,30 +71,27 @@ fn a_file_grows_and_shrinks_again(rt: HostRuntime) -> Result<(), Fail> {
     let script =
         b"append 1 1 aa\nappend 2 1 -\nreply 1 bb\nreply 2 -\nblock 1 00\nblock 2 0102\nblock 3 -\nrelease 2\ncheckpoint 0506\nstep\nstep\n";
     let mut first = file_behind(alloc, script)?;
-    let mut second = blank(alloc, &[])?;
-    let mut third = blank(alloc, &[])?;
-    expect(alloc, &mut first, &mut second, MORE, done(MORE_COPIED))?;
-    expect(
-        alloc,
-        &mut second,
-        &mut third,
-        "small",
-        done("copied 336\n"),
-    )?;
-    let text =
-        "cluster 7\nlayout 32 8192 4 16384 64\nsequence 2\ncheckpoint 2\nhead 2\nreplies 2\nsessions 2\nreferences 2\n";
-    expect_words(alloc, &mut third, &["recover"], text)?;
-    let text =
-        "cluster 7\nlayout 64 16384 8 32768 128\nsequence 2\ncheckpoint 2\nhead 2\nreplies 2\nsessions 2\nreferences 2\n";
-    expect_words(alloc, &mut second, &["recover"], text)?;
-    let text =
-        "reply 1 client 1 request 1 mark 2 checkpoint 1 body bb\nreply 2 client 2 request 1 mark 2 checkpoint 1 body -\nblock 1 kind 1 body 00\nblock 2 kind 3 body -\n";
-    expect_script(
-        alloc,
-        &mut third,
-        b"lookup 1\nlookup 2\nread 1\nread 2\n",
-        text,
-    )
+    for (layout, copied, found) in &LARGER {
+        let mut second = blank(alloc, &[])?;
+        expect(alloc, &mut first, &mut second, layout, done(copied))?;
+        expect_words(alloc, &mut second, &["recover"], found)?;
+        let mut third = blank(alloc, &[])?;
+        expect(
+            alloc,
+            &mut second,
+            &mut third,
+            "small",
+            done("copied 336\n"),
+        )?;
+        expect_words(alloc, &mut third, &["recover"], SMALL_FOUND)?;
+        expect_script(
+            alloc,
+            &mut third,
+            b"lookup 1\nlookup 2\nread 1\nread 2\n",
+            ANSWERS,
+        )?;
+    }
+    Ok(())
 }
 
 // A layout whose trailer has a bit for each of very many small blocks, and what is found of a file of it.
