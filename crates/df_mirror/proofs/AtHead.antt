@@ -1,19 +1,18 @@
 -- The sessions at the superblock's head, as a table: whose replies are known, and the walk over their places.
-use Rattle.std.proofs.Common.{◌≡◌, ℕ, zero, suc, ◌+◌, ◌-◌, ◌==◌, ◌<◌, ◌≤◌, if◌then◌else◌, List, [], ◌∷◌, length, get_or, map, take, drop, Option, Some, None, refl, sym, ◌∙◌, ap, subst, arith, inl, inr, length-drop, length-take}
+use Rattle.std.proofs.Common.{◌≡◌, ℕ, zero, suc, ◌+◌, ◌-◌, ◌==◌, ◌<◌, ◌≤◌, if◌then◌else◌, List, [], ◌∷◌, length, get_or, map, take, drop, Option, Some, None, sym, ◌∙◌, ap, subst, arith, inl, inr, length-drop, length-take}
 use Rattle.std.proofs.lemmas.List.{get_or-drop, get_or_past, length-map}
 use Rattle.std.proofs.lemmas.List.Elements.{All-get_or}
 use Rattle.std.specs.List.{slice_get}
-use Rattle.std.specs.Prelude.{Result, Ok, Err, option_map, slice_index}
+use Rattle.std.specs.Prelude.{Result, Ok, Err, OnOk, option_map, slice_index}
 use Rattle.std.proofs.lemmas.Bool.{cases_eq, cases_lt}
 use Rattle.std.proofs.lemmas.Option.{same_Some, slice_get-get_or, slice_get-map, slice_get_within}
-use Rattle.df_base.specs.Image.{IsImage}
 use Rattle.df_disk.specs.Told.{Told}
 use Rattle.df_format.specs.declared.kind.Kind.TheVariants.{Reply}
 use Rattle.df_format.specs.declared.superblock.SuperFields.{SuperFields}
 use Rattle.df_format.specs.Spelling.{IsCheck, no_checksum}
 use Rattle.df_format.specs.SuperRules.{IsUsable}
 use Rattle.df_journal.specs.Scan.{Scan}
-use Rattle.df_journal.specs.Shows.{ShowsHeader, ShowsPrepare, TellsRings}
+use Rattle.df_journal.specs.Shows.{ShowsHeader, ShowsPrepare}
 use Rattle.df_sessions.specs.declared.session.Session.{Session}
 use Rattle.df_sessions.specs.Requests.{session_of, sessions_of}
 use Rattle.df_sessions.specs.Table.{Table}
@@ -22,21 +21,20 @@ use Rattle.df_theory.specs.Units.{AnyUnit, BlockPlace, HeaderPlace, Message, Par
 use Rattle.df_theory.specs.Units as units
 use Rattle.df_units.specs.Meaning.{number_of}
 use Rattle.df_units.proofs.Laws.{no_number, one_number, zeros_check}
-use Rattle.df_buffers.specs.declared.slots.SlotSeen.{SlotSeen}
 use Rattle.df_opening.specs.Below.{shape}
 use Rattle.df_mirror.specs.declared.ending.Ending.{Ending}
 use Rattle.df_mirror.specs.declared.superblock.Superblock.{Superblock}
 use Rattle.df_mirror.specs.Known.{AreShown, HasSessions, IsKnown, IsRecorded, IsShownAs}
-use Rattle.df_mirror.specs.Mends.{Answers, AreAt, AreOfKind, Mend}
+use Rattle.df_mirror.specs.Mends.{AreOfKind}
 use Rattle.df_mirror.specs.Outside.{Outside, Tell}
-use Rattle.df_mirror.specs.Walks.{HasHead, HasLater, HasNewer, MendsRecorded, MendsReply, ShowsReplies, content_of, units_of}
+use Rattle.df_mirror.specs.Walks.{HasHead, HasLater, HasNewer, Mended, MendsRecorded, ShowsReplies, content_of, units_of}
 use Rattle.df_mirror.proofs.Frames.{other_place}
-use Rattle.df_mirror.proofs.Joined.{answers_with, kind_at, none_came}
 use Rattle.df_mirror.proofs.Logs.{same_known}
 use Rattle.df_mirror.proofs.Named.{ring_there}
 use Rattle.df_mirror.proofs.Ones.{one_trailer, trailer_there}
 use Rattle.df_mirror.proofs.Recorded.{recorded_sum}
 use Rattle.df_mirror.proofs.Referenced.{shown_there}
+use Rattle.df_mirror.proofs.Turns.{none_mended, of_one}
 
 -- what stands among the first so many stands there
 front_get : (n : ℕ) (ss : List units.Session) (k : ℕ) (s : units.Session) → slice_get (take n ss) k ≡ Some s → slice_get ss k ≡ Some s
@@ -142,48 +140,37 @@ module _ (b : Superblock) (image : Units) (slots : Scan) (table : Table) (k : �
 
 module _ (b : Superblock) (slots : Scan) (table : Table) (k : ℕ) (t o : Told) (old new : Outside) (tell : Tell t o old) (shows : ShowsReplies b (units_of b t.shown) slots table k) where
   -- no reply is known there
-  pub reply_none : {T : Type 0} (room : T) → new.first ≡ old.first → new.written ≡ old.written → ((sum : ℕ) → IsRecorded (shape b.file) (units_of b t.shown) (content_of b) k sum → ⊥) → MendsReply b slots table k t o old new (Ok (room, 0))
-  reply_none room same silent none = record {
-    answers = none_came b.file (content_of b) (AreOfKind Reply) tt t o new.first old.written new.written (same ∙ tell.first) silent (λ ms n. 0 ≡ length ms) refl;
-    shown = λ u is.
-        let one : t ≡ u = same_Some _ _ (sym (same ∙ tell.first) ∙ is) in
-        subst (λ (x : Told). ShowsReplies b (units_of b x.shown) slots table (k + 1)) one (record {
-          has = shows.has;
-          shown = λ j sum below known. elim (cases_eq j k) [
-            | inl here ↦ absurd (none sum (subst (λ (n : ℕ). IsRecorded (shape b.file) (units_of b t.shown) (content_of b) n sum) here known))
-            | inr other ↦ shows.shown j sum (omega (arith, below, other)) known
-          ];
-        });
-  }
+  pub reply_none : new.first ≡ old.first → new.written ≡ old.written → ((sum : ℕ) → IsRecorded (shape b.file) (units_of b t.shown) (content_of b) k sum → ⊥) → Mended b (AreOfKind Reply) t o old new (Ok 0) (λ image. ShowsReplies b image slots table (k + 1))
+  reply_none same silent none = none_mended b (AreOfKind Reply) tt t o old new tell same silent (λ image. ShowsReplies b image slots table (k + 1)) (record {
+    has = shows.has;
+    shown = λ j sum below known. elim (cases_eq j k) [
+      | inl here ↦ absurd (none sum (subst (λ (n : ℕ). IsRecorded (shape b.file) (units_of b t.shown) (content_of b) n sum) here known))
+      | inr other ↦ shows.shown j sum (omega (arith, below, other)) known
+    ];
+  })
 
   module _ (check : List ℕ) (sum_at : slice_get b.content.reply_checksums k ≡ Some check) (known : (HasNewer b (units_of b t.shown) k → ⊥) → IsRecorded (shape b.file) (units_of b t.shown) (content_of b) k (number_of check)) where
-    reply_failed : {T : Type 0} (e : Ending) → MendsRecorded b k check {T = T} t o old new (Err e) → MendsReply b slots table k {T = T} t o old new (Err e)
-    reply_failed e mends = record { answers = answers_with b.file (content_of b) _ (AreOfKind Reply) t o new.first old.written new.written (Err e) (kind_at Reply (ReplyPlace k)) (mends.answers known); shown = λ u is. tt }
+    one_more : (answer : Result ℕ Ending) → MendsRecorded b k check t o old new answer → (u : Told) → new.first ≡ Some u → OnOk answer (ShowsReplies b (units_of b u.shown) slots table (k + 1))
+    one_more (Err e) mends u is = tt
+    one_more (Ok count) mends u is =
+        let alike : AreAlike k (units_of b t.shown) (units_of b u.shown) = λ place apart. other_place b.file (content_of b) t o u new.first old.written new.written tell.whole is place Reply (ReplyPlace k) count (mends.answers known) (λ same. apart (sym same)) in
+        let back : AreAlike k (units_of b u.shown) (units_of b t.shown) = λ place apart. sym (alike place apart) in
+        record {
+          has = head_there b k (units_of b t.shown) (units_of b u.shown) alike slots table shows.has;
+          shown = λ j sum below recorded. elim (cases_eq j k) [
+            | inl here ↦ elim (mends.shown u is) [
+              | inl newer ↦ absurd (let most = recorded.no_reply newer.0 (ap (λ (n : ℕ). units_of b u.shown (ReplyPlace n)) here ∙ newer.1) newer.2 in omega (arith, most, newer.3))
+              | inr seen ↦
+                  let same : number_of check ≡ sum = sym (recorded_sum b k check sum_at) ∙ ap (λ (n : ℕ). slice_index (content_of b).reply_checksums n) (sym here) ∙ sym recorded.sum_is in
+                  subst (λ (n : ℕ). IsShownAs (units_of b u.shown) Reply (ReplyPlace n) sum) (sym here) (subst (λ (n : ℕ). IsShownAs (units_of b u.shown) Reply (ReplyPlace k) n) same seen)
+            ]
+            | inr other ↦ shown_there (units_of b t.shown) (units_of b u.shown) Reply (ReplyPlace j) sum (alike (ReplyPlace j) (λ (same : ReplyPlace j ≡ ReplyPlace k). other (cc)))
+                (shows.shown j sum (omega (arith, below, other)) (recorded_there b k (units_of b u.shown) (units_of b t.shown) back j sum other recorded))
+          ];
+        }
 
-    reply_mended : {T : Type 0} (done : T × ℕ) → MendsRecorded b k check t o old new (Ok done) → MendsReply b slots table k t o old new (Ok done)
-    reply_mended done mends = record {
-      answers = answers_with b.file (content_of b) _ (AreOfKind Reply) t o new.first old.written new.written (Ok done.1) (kind_at Reply (ReplyPlace k)) (mends.answers known);
-      shown = λ u is.
-          let alike : AreAlike k (units_of b t.shown) (units_of b u.shown) = λ place apart. other_place b.file (content_of b) t o u new.first old.written new.written tell.whole is place Reply (ReplyPlace k) done.1 (mends.answers known) (λ same. apart (sym same)) in
-          let back : AreAlike k (units_of b u.shown) (units_of b t.shown) = λ place apart. sym (alike place apart) in
-          record {
-            has = head_there b k (units_of b t.shown) (units_of b u.shown) alike slots table shows.has;
-            shown = λ j sum below recorded. elim (cases_eq j k) [
-              | inl here ↦ elim (mends.shown u is) [
-                | inl newer ↦ absurd (let most = recorded.no_reply newer.0 (ap (λ (n : ℕ). units_of b u.shown (ReplyPlace n)) here ∙ newer.1) newer.2 in omega (arith, most, newer.3))
-                | inr seen ↦
-                    let same : number_of check ≡ sum = sym (recorded_sum b k check sum_at) ∙ ap (λ (n : ℕ). slice_index (content_of b).reply_checksums n) (sym here) ∙ sym recorded.sum_is in
-                    subst (λ (n : ℕ). IsShownAs (units_of b u.shown) Reply (ReplyPlace n) sum) (sym here) (subst (λ (n : ℕ). IsShownAs (units_of b u.shown) Reply (ReplyPlace k) n) same seen)
-              ]
-              | inr other ↦ shown_there (units_of b t.shown) (units_of b u.shown) Reply (ReplyPlace j) sum (alike (ReplyPlace j) (λ (same : ReplyPlace j ≡ ReplyPlace k). other (cc)))
-                  (shows.shown j sum (omega (arith, below, other)) (recorded_there b k (units_of b u.shown) (units_of b t.shown) back j sum other recorded))
-            ];
-          };
-    }
-
-    pub reply_done : {T : Type 0} (result : Result (T × ℕ) Ending) → MendsRecorded b k check t o old new result → MendsReply b slots table k t o old new result
-    reply_done (Ok done) mends = reply_mended done mends
-    reply_done (Err e) mends = reply_failed e mends
+    pub reply_mended : (answer : Result ℕ Ending) → MendsRecorded b k check t o old new answer → Mended b (AreOfKind Reply) t o old new answer (λ image. ShowsReplies b image slots table (k + 1))
+    reply_mended answer mends = of_one b Reply (ReplyPlace k) t o old new answer (λ image. ShowsReplies b image slots table (k + 1)) (mends.answers known) (one_more answer mends)
 
 -- ---- all of them
 

@@ -1,9 +1,8 @@
 -- How many blocks the trailer of a superblock has.
-use Rattle.std.proofs.Common.{◌≡◌, ℕ, ◌+◌, ◌-◌, ◌*◌, ◌<◌, ◌≤◌, arith, inl, inr, sym, ap, subst}
+use Rattle.std.proofs.Common.{ℕ, ◌-◌, ◌<◌, ◌≤◌, arith, inl, inr}
 use Rattle.std.proofs.lemmas.Bool.{cases_lt}
 use Rattle.df_format.specs.Copies.{content_with}
 use Rattle.df_format.specs.SuperRules.{IsSuper}
-use Rattle.df_format.specs.declared.superblock.SuperFields.{SuperFields}
 use Rattle.df_theory.specs.Trailer.{IsCount, IsReference}
 use Rattle.df_trailer.specs.Text.{parse_of}
 use Rattle.df_units.specs.Meaning.{layout_of}

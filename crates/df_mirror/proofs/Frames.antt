@@ -1,7 +1,7 @@
 -- What mends leave as it was: each place at which none was mended.
 use Rattle.std.proofs.Common.{◌≡◌, ℕ, List, [], ◌∷◌, Option, Some, None, refl, sym, ◌∙◌, ap, subst}
 use Rattle.std.proofs.lemmas.Option.{same_Some}
-use Rattle.std.specs.Prelude.{Result, Ok}
+use Rattle.std.specs.Prelude.{Ok}
 use Rattle.df_base.specs.Image.{Image, IsImage}
 use Rattle.df_base.proofs.Laws.{written_is_image}
 use Rattle.df_disk.specs.Told.{Told}
@@ -15,7 +15,6 @@ use Rattle.df_units.specs.Bytes.{first_at}
 use Rattle.df_units.specs.Wanted.{checksum_of}
 use Rattle.df_damage.specs.Anew.{told_after}
 use Rattle.df_opening.specs.Below.{DataFile, shape}
-use Rattle.df_mirror.specs.declared.ending.Ending.{Ending}
 use Rattle.df_mirror.specs.Known.{IsKnown}
 use Rattle.df_mirror.specs.Mends.{Answers, AreAt, AreMends, AreOfKind, Came, Mend, events_of, units_in}
 

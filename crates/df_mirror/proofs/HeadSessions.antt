@@ -1,5 +1,5 @@
 -- The sessions at the superblock's head: a table that has as many of them as there are places, noted prepare by prepare.
-use Rattle.std.proofs.Common.{◌≡◌, ℕ, zero, suc, ◌+◌, ◌%◌, ◌<◌, ◌≤◌, ◌==◌, true, false, List, [], ◌∷◌, ◌++◌, length, get_or, map, take, Option, Some, None, IsSome, refl, sym, ◌∙◌, ap, subst, arith, inl, inr, length-take}
+use Rattle.std.proofs.Common.{◌≡◌, ℕ, zero, suc, ◌+◌, ◌-◌, ◌%◌, ◌<◌, ◌≤◌, ◌==◌, true, false, List, [], ◌∷◌, ◌++◌, length, get_or, take, Option, Some, None, IsSome, refl, sym, ◌∙◌, ap, subst, arith, inl, inr, length-take}
 use Rattle.std.specs.List.{position, slice_get}
 use Rattle.std.specs.Prelude.{is_some}
 use Rattle.std.proofs.lemmas.Bool.{cases_Bool, cases_lt}
@@ -7,6 +7,7 @@ use Rattle.std.proofs.lemmas.List.{length-map, take_all}
 use Rattle.std.proofs.lemmas.Option.{same_Some}
 use Rattle.df_base.proofs.Laws.{none_passes}
 use Rattle.df_format.specs.declared.header.Header as file
+use Rattle.df_format.specs.declared.superblock.SuperFields.{SuperFields}
 use Rattle.df_journal.specs.Scan.{Scan, entry}
 use Rattle.df_journal.specs.Seen.{header_of_seen}
 use Rattle.df_journal.specs.Shows.{TellsRings}
@@ -141,7 +142,7 @@ module _ (b : Superblock) (slots : Scan) (start now : List Session) (i : ℕ) (h
     seen : (h : file.Header) × (header_of_seen (entry slots ((b.content.op + 1 + i) % b.file.layout.slots)).prepare ≡ Some h) × (at.0.header ≡ header_of h)
     seen = prepare_seen b.file.layout image slots ((b.content.op + 1 + i) % b.file.layout.slots) tells at.0 at.2
 
-  pub noted_one : (new : List Session) (h : file.Header) → header_of_seen (entry slots ((b.content.op + 1 + i) % b.file.layout.slots)).prepare ≡ Some h
+  noted_one : (new : List Session) (h : file.Header) → header_of_seen (entry slots ((b.content.op + 1 + i) % b.file.layout.slots)).prepare ≡ Some h
       → ((ss : List units.Session) → sessions_of now ≡ take b.file.layout.clients ss → sessions_of new ≡ take b.file.layout.clients (noted (header_of h) ss)) → HasNoted b slots start new (suc i)
   noted_one new h is notes image named tells known count =
       let p = at image named tells known count in
@@ -153,10 +154,33 @@ module _ (b : Superblock) (slots : Scan) (start now : List Session) (i : ℕ) (h
       notes before (has image named tells known count) ∙ ap (λ (x : Header). take b.file.layout.clients (noted x before)) header ∙ ap (take b.file.layout.clients) (after_one (sessions_of start) named i p.0 p.1)
 
   -- each of them is in the table
-  pub noted_lost : header_of_seen (entry slots ((b.content.op + 1 + i) % b.file.layout.slots)).prepare ≡ None → HasNoted b slots start now (suc i)
+  noted_lost : header_of_seen (entry slots ((b.content.op + 1 + i) % b.file.layout.slots)).prepare ≡ None → HasNoted b slots start now (suc i)
   noted_lost none image named tells known count =
       let it = seen image named tells known count in
       absurd (let both : Some it.0 ≡ None = sym it.1 ∙ none in cc)
+
+-- a turn behind the op that was noted last, in the words of the loop
+module _ (b : Superblock) (slots : Scan) (start now : List Session) (fields : SuperFields) (same : fields ≡ b.content) (op : ℕ) (low : fields.op ≤ op) (below : op < fields.head) (has : HasNoted b slots start now (op - fields.op)) (slot : ℕ) (is_slot : slot ≡ (op + 1) % b.file.layout.slots) where
+  from_op : fields.op ≡ b.content.op
+  from_op = ap (λ (f : SuperFields). f.op) same
+
+  next_slot : slot ≡ (b.content.op + 1 + (op - fields.op)) % b.file.layout.slots
+  next_slot = let one : op + 1 ≡ b.content.op + 1 + (op - fields.op) = omega (arith, low, from_op) in is_slot ∙ ap (λ (n : ℕ). n % b.file.layout.slots) one
+
+  up_to_pin : b.content.op + (op - fields.op) < (content_of b).pin
+  up_to_pin = omega (arith, low, below, from_op, ap (λ (f : SuperFields). f.head) same, pin_is b)
+
+  one_more : (new : List Session) → HasNoted b slots start new (suc (op - fields.op)) → HasNoted b slots start new (op + 1 - fields.op)
+  one_more new is = let more : suc (op - fields.op) ≡ op + 1 - fields.op = omega (arith, low) in subst (λ (n : ℕ). HasNoted b slots start new n) more is
+
+  pub noted_next : (new : List Session) (h : file.Header) → header_of_seen (entry slots slot).prepare ≡ Some h → (places : ℕ) → places ≡ b.file.layout.clients
+      → ((ss : List units.Session) → sessions_of now ≡ take places ss → sessions_of new ≡ take places (noted (header_of h) ss)) → HasNoted b slots start new (op + 1 - fields.op)
+  noted_next new h is places clients notes =
+      one_more new (noted_one b slots start now (op - fields.op) has up_to_pin new h (subst (λ (s : ℕ). header_of_seen (entry slots s).prepare ≡ Some h) next_slot is)
+      (subst (λ (n : ℕ). (ss : List units.Session) → sessions_of now ≡ take n ss → sessions_of new ≡ take n (noted (header_of h) ss)) clients notes))
+
+  pub none_next : header_of_seen (entry slots slot).prepare ≡ None → HasNoted b slots start now (op + 1 - fields.op)
+  none_next none = one_more now (noted_lost b slots start now (op - fields.op) has up_to_pin (subst (λ (s : ℕ). header_of_seen (entry slots s).prepare ≡ None) next_slot none))
 
 pub noted_all : (b : Superblock) (slots : Scan) (start now : List Session) (i : ℕ) → b.content.op + i ≡ (content_of b).pin → HasNoted b slots start now i
     → (image : Units) (named : List Message) → TellsRings b.file.layout image slots → AreKnown b.file.layout.slots image (b.content.op + 1) (content_of b).pin_checksum named → b.content.op + length named ≡ (content_of b).pin

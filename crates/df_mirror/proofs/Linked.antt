@@ -1,36 +1,39 @@
 -- One link of the chain, as a step of the walk.
-use Rattle.std.proofs.Common.{◌≡◌, ℕ, ◌+◌, ◌-◌, ◌<◌, ◌≤◌, ◌==◌, true, false, List, [], ◌∷◌, ◌++◌, length, map, Option, Some, refl, sym, ◌∙◌, ap, subst, arith, inl, inr}
+use Rattle.std.proofs.Common.{◌≡◌, ℕ, ◌+◌, ◌-◌, ◌<◌, ◌==◌, true, false, List, [], ◌∷◌, ◌++◌, length, Some, refl, sym, ◌∙◌, ap, subst, arith, inl, inr}
 use Rattle.std.proofs.lemmas.List.{length-map, map-append}
 use Rattle.std.proofs.lemmas.Option.{same_Some}
-use Rattle.std.specs.Prelude.{Result, Ok, Err}
+use Rattle.std.specs.Prelude.{Result, Ok, Err, IfOk}
 use Rattle.std.specs.List.{list_any}
 use Rattle.df_disk.specs.Told.{Told}
 use Rattle.df_layout.specs.declared.fields.Field.TheVariants.{TrailerChain}
 use Rattle.df_format.specs.declared.kind.Kind.TheVariants.{Trailer}
 use Rattle.df_format.specs.declared.reference.Reference.{Reference}
 use Rattle.df_format.specs.Message.{Message}
+use Rattle.df_format.specs.Spelling.{IsCheck}
+use Rattle.df_buffers.specs.declared.identity.Identity.{Identity}
+use Rattle.df_buffers.specs.Sounds.{Holding}
 use Rattle.df_model.specs.declared.errors.OpenError.TheVariants.{BadField}
-use Rattle.df_theory.specs.Opens.{AreLinks, Arrives, IsLink, ReadsTo}
+use Rattle.df_theory.specs.Opens.{Arrives, IsLink, ReadsTo}
 use Rattle.df_theory.specs.Trailer.{InChain, IsCount}
 use Rattle.df_theory.specs.Units.{AnyUnit, Block, BlockPlace, BlockUnit, Units}
 use Rattle.df_theory.proofs.Laws.{arrives_more, links_more}
-use Rattle.df_units.specs.Meaning.{block_of, number_of, unit_of}
+use Rattle.df_units.specs.Meaning.{block_of, number_of}
 use Rattle.df_units.specs.Wanted.{IsOfKind, checksum_of}
-use Rattle.df_grid.specs.Reads.{shown_of}
-use Rattle.df_opening.specs.Below.{DataFile, shape}
+use Rattle.df_grid.specs.Reads.{at_address, shown_of}
+use Rattle.df_opening.specs.Below.{shape}
 use Rattle.df_mirror.specs.declared.chain.Walk.{Walk}
 use Rattle.df_mirror.specs.declared.ending.Ending.{Ending}
-use Rattle.df_mirror.specs.declared.ending.Ending.TheVariants.{Unopened}
 use Rattle.df_mirror.specs.declared.superblock.Superblock.{Superblock}
 use Rattle.df_mirror.specs.Known.{IsDue}
-use Rattle.df_mirror.specs.Mends.{Answers, AreAt, AreOfKind, Came, Mend}
+use Rattle.df_mirror.specs.Mends.{AreOfKind}
 use Rattle.df_mirror.specs.Outside.{Outside, Tell}
 use Rattle.df_mirror.specs.Refusals.{ComesAgain, RefusesTrailer}
-use Rattle.df_mirror.specs.Taking.{ShowsUnit}
-use Rattle.df_mirror.specs.Walks.{GoesOn, HasWalked, MendsLink, before_of, broken_at, content_of, units_of}
+use Rattle.df_mirror.specs.Taking.{HoldsShown, MendsUnit, ShowsUnit, count_in}
+use Rattle.df_mirror.specs.Walks.{GoesOn, HasWalked, Mended, broken_at, content_of, units_of}
 use Rattle.df_mirror.proofs.Chains.{among, arrives_there, asked_shown, chain_spare, not_among}
 use Rattle.df_mirror.proofs.Frames.{other_place}
-use Rattle.df_mirror.proofs.Joined.{answers_with, came_with, kind_at, none_came}
+use Rattle.df_mirror.proofs.Joined.{came_with, kind_at, none_came}
+use Rattle.df_mirror.proofs.Turns.{MendsDue, due_mended, of_one}
 
 -- the block of the trailer that an image shows
 pub record IsThere (image : Units) (a k : ℕ) (u : Message) : Type 0 where
@@ -58,76 +61,80 @@ module _ (b : Superblock) (n index : ℕ) (walk : Walk) (t o : Told) (counts : I
   Its = record { count = n; read = walked.chain; counts = counts; arrives = walked.arrives; links = walked.links; more = some_more }
 
   -- the chain comes to an address again
-  pub link_again : (old : Outside) → Tell t o old → list_any (λ other. other == walk.at.address) walk.read.items ≡ true → MendsLink b n t o old old (Err (broken_at walk.at.address))
-  link_again old tell some =
-      let there = among walked.chain walk.at.address (subst (λ (l : List ℕ). list_any (λ other. other == walk.at.address) l ≡ true) walked.addresses some) in
+  pub link_again : (read : List ℕ) → read ≡ walk.read.items → list_any (λ other. other == walk.at.address) read ≡ true → (old : Outside) (e : Ending) (Shows : Units → Type 0) → Tell t o old → e ≡ broken_at walk.at.address → Mended b (AreOfKind Trailer) t o old old (Err e) Shows
+  link_again read same some old e Shows tell is =
+      let there = among walked.chain walk.at.address (subst (λ (l : List ℕ). list_any (λ other. other == walk.at.address) l ≡ true) (same ∙ walked.addresses) some) in
       let again : ComesAgain (shape b.file) (units_of b t.shown) (content_of b) walk.at.address = record { sum = number_of walk.at.checksum; reads = Its; block = there.0; chained = there.1 } in
-      record {
+      subst (λ (x : Ending). Mended b (AreOfKind Trailer) t o old old (Err x) Shows) (sym is) (record {
         answers = none_came b.file (content_of b) (AreOfKind Trailer) tt t o old.first old.written old.written tell.first refl (λ ms m. RefusesTrailer b.file m.shown (content_of b) (BadField TrailerChain walk.at.address)) (inr (refl, again));
-        walked = λ u is. tt;
-      }
+        shown = λ u is. tt;
+      })
 
-  module _ (fresh : list_any (λ other. other == walk.at.address) walk.read.items ≡ false) where
+  module _ (read : List ℕ) (same_read : read ≡ walk.read.items) (fresh : list_any (λ other. other == walk.at.address) read ≡ false) where
     apart : (e : ℕ) (x : Block) → InChain e x walked.chain → e ≡ walk.at.address → ⊥
-    apart e x at = not_among walked.chain walk.at.address e x (subst (λ (l : List ℕ). list_any (λ other. other == walk.at.address) l ≡ false) walked.addresses fresh) at
+    apart e x at = not_among walked.chain walk.at.address e x (subst (λ (l : List ℕ). list_any (λ other. other == walk.at.address) l ≡ false) (same_read ∙ walked.addresses) fresh) at
 
-    pub link_due : IsDue (shape b.file) (units_of b t.shown) (content_of b) Trailer (BlockPlace walk.at.address) (number_of walk.at.checksum)
+    link_due : IsDue (shape b.file) (units_of b t.shown) (content_of b) Trailer (BlockPlace walk.at.address) (number_of walk.at.checksum)
     link_due = record {
       known = Its;
       spare = λ lacks. chain_spare (shape b.file) (units_of b t.shown) (content_of b) n walked.chain walk.at.address (number_of walk.at.checksum) counts walked.arrives walked.links some_more apart lacks;
     }
 
-    -- a call failed, or neither file shows the block
-    pub link_failed : (old new : Outside) (e : Ending) → Answers b.file (content_of b) (AreAt Trailer (BlockPlace walk.at.address)) t o new.first old.written new.written (Err e) → MendsLink b n t o old new (Err e)
-    link_failed old new e is = record { answers = answers_with b.file (content_of b) _ (AreOfKind Trailer) t o new.first old.written new.written (Err e) (kind_at Trailer (BlockPlace walk.at.address)) is; walked = λ u is. tt }
+    module _ (identity : Identity) (is_at : identity ≡ at_address b.file.layout b.file.cluster walk.at.address walk.at.checksum) (fits : IsCheck walk.at.checksum) (old new : Outside) (tell : Tell t o old) where
+      due : (result : Result (Holding × ℕ) Ending) → MendsUnit Trailer identity old new (count_in result) → IfOk result (λ done. HoldsShown Trailer identity old.first new.first done.0)
+          → MendsDue b Trailer (BlockPlace walk.at.address) walk.at.checksum t o old new result
+      due result mends shown = due_mended b Trailer (BlockPlace walk.at.address) walk.at.checksum identity (record { is = is_at; stands = tt; fits = fits }) t o old new tell link_due result mends shown
 
-    module _ (old new : Outside) (tell : Tell t o old) (u : Message) (more : ℕ) (mends : Answers b.file (content_of b) (AreAt Trailer (BlockPlace walk.at.address)) t o new.first old.written new.written (Ok more))
-        (shows : (m : Told) → new.first ≡ Some m → ShowsUnit b.file Trailer (BlockPlace walk.at.address) walk.at.checksum m.shown u) where
-      module _ (m : Told) (is : new.first ≡ Some m) where
-        same_chain : (e : ℕ) (x : Block) → InChain e x walked.chain → units_of b m.shown (BlockPlace e) ≡ units_of b t.shown (BlockPlace e)
-        same_chain e x at =
-            other_place b.file (content_of b) t o m new.first old.written new.written tell.whole is (BlockPlace e) Trailer (BlockPlace walk.at.address) more mends (λ (same : BlockPlace walk.at.address ≡ BlockPlace e). apart e x at (cc))
+      -- a call failed, or neither file shows the block
+      pub link_failed : (e : Ending) (Shows : Units → Type 0) → MendsUnit Trailer identity old new (Err e) → Mended b (AreOfKind Trailer) t o old new (Err e) Shows
+      link_failed e Shows mends = of_one b Trailer (BlockPlace walk.at.address) t o old new (Err e) Shows (due (Err e) mends tt).answers (λ u is. tt)
 
-        arrives : Arrives (units_of b m.shown) walked.chain (content_of b).trailer (content_of b).trailer_checksum walk.at.address (number_of walk.at.checksum)
-        arrives = arrives_there (units_of b t.shown) (units_of b m.shown) walked.chain (content_of b).trailer (content_of b).trailer_checksum walk.at.address (number_of walk.at.checksum) walked.arrives same_chain
+      module _ (held : Holding) (more : ℕ) (mends : MendsUnit Trailer identity old new (Ok more)) (holds : HoldsShown Trailer identity old.first new.first held) where
+        it : MendsDue b Trailer (BlockPlace walk.at.address) walk.at.checksum t o old new (Ok (held, more))
+        it = due (Ok (held, more)) mends holds
 
-        there : IsThere (units_of b m.shown) walk.at.address (number_of walk.at.checksum) u
-        there = it_is_there b walk.at.address walk.at.checksum m u (shows m is)
+        module _ (m : Told) (is : new.first ≡ Some m) where
+          same_chain : (e : ℕ) (x : Block) → InChain e x walked.chain → units_of b m.shown (BlockPlace e) ≡ units_of b t.shown (BlockPlace e)
+          same_chain e x at =
+              other_place b.file (content_of b) t o m new.first old.written new.written tell.whole is (BlockPlace e) Trailer (BlockPlace walk.at.address) more it.answers (λ (same : BlockPlace walk.at.address ≡ BlockPlace e). apart e x at (cc))
 
-        walks_on : (next : Walk) → 0 < walk.at.address → GoesOn b walk.at walk.read.items index u (Ok next) → HasWalked b (units_of b m.shown) n next
-        walks_on next above goes =
-            let d : ℕ × Block = (walk.at.address, block_of u) in
-            let on = arrives_more (units_of b m.shown) walked.chain d (content_of b).trailer (content_of b).trailer_checksum walk.at.address (number_of walk.at.checksum) arrives above refl there.sum there.kind there.shown in
+          arrives : Arrives (units_of b m.shown) walked.chain (content_of b).trailer (content_of b).trailer_checksum walk.at.address (number_of walk.at.checksum)
+          arrives = arrives_there (units_of b t.shown) (units_of b m.shown) walked.chain (content_of b).trailer (content_of b).trailer_checksum walk.at.address (number_of walk.at.checksum) walked.arrives same_chain
+
+          there : IsThere (units_of b m.shown) walk.at.address (number_of walk.at.checksum) held.unit
+          there = it_is_there b walk.at.address walk.at.checksum m held.unit (it.shows m is)
+
+          walks_on : (next : Walk) → 0 < walk.at.address → GoesOn b walk.at walk.read.items index held.unit (Ok next) → HasWalked b (units_of b m.shown) n next
+          walks_on next above goes =
+              let d : ℕ × Block = (walk.at.address, block_of held.unit) in
+              let on = arrives_more (units_of b m.shown) walked.chain d (content_of b).trailer (content_of b).trailer_checksum walk.at.address (number_of walk.at.checksum) arrives above refl there.sum there.kind there.shown in
+              record {
+                chain = walked.chain ++ d ∷ [];
+                addresses = goes.2 ∙ ap (λ (l : List ℕ). l ++ walk.at.address ∷ []) walked.addresses ∙ sym (map-append (λ x. x.0) walked.chain (d ∷ []));
+                arrives = subst (λ (r : Reference). Arrives (units_of b m.shown) (walked.chain ++ d ∷ []) (content_of b).trailer (content_of b).trailer_checksum r.address (number_of r.checksum)) (sym goes.1) on;
+                links = links_more (shape b.file) (content_of b) n index walked.chain d walked.links counted goes.0;
+              }
+
+          breaks : (IsLink (shape b.file) (content_of b) index (block_of held.unit) → ⊥) → RefusesTrailer b.file m.shown (content_of b) (BadField TrailerChain walk.at.address)
+          breaks broken = inl (inl (
+            refl,
             record {
-              chain = walked.chain ++ d ∷ [];
-              addresses = goes.2 ∙ ap (λ (l : List ℕ). l ++ walk.at.address ∷ []) walked.addresses ∙ sym (map-append (λ x. x.0) walked.chain (d ∷ []));
-              arrives = subst (λ (r : Reference). Arrives (units_of b m.shown) (walked.chain ++ d ∷ []) (content_of b).trailer (content_of b).trailer_checksum r.address (number_of r.checksum)) (sym goes.1) on;
-              links = links_more (shape b.file) (content_of b) n index walked.chain d walked.links counted goes.0;
-            }
+              sum = number_of walk.at.checksum;
+              reads = record { count = n; read = walked.chain; counts = counts; arrives = arrives; links = walked.links; more = some_more };
+              index = index;
+              at = counted;
+              block = block_of held.unit;
+              is = asked_shown (shown_of b.file.layout b.file.cluster m.shown) walk.at.address (number_of walk.at.checksum) (block_of held.unit) there.shown there.sum there.kind;
+              broken = broken;
+            },
+          ))
 
-        breaks : (IsLink (shape b.file) (content_of b) index (block_of u) → ⊥) → RefusesTrailer b.file m.shown (content_of b) (BadField TrailerChain walk.at.address)
-        breaks broken = inl (inl (
-          refl,
-          record {
-            sum = number_of walk.at.checksum;
-            reads = record { count = n; read = walked.chain; counts = counts; arrives = arrives; links = walked.links; more = some_more };
-            index = index;
-            at = counted;
-            block = block_of u;
-            is = asked_shown (shown_of b.file.layout b.file.cluster m.shown) walk.at.address (number_of walk.at.checksum) (block_of u) there.shown there.sum there.kind;
-            broken = broken;
-          },
-        ))
+        pub link_on : (next : Walk) → 0 < walk.at.address → GoesOn b walk.at walk.read.items index held.unit (Ok next) → Mended b (AreOfKind Trailer) t o old new (Ok more) (λ image. HasWalked b image n next)
+        link_on next above goes = of_one b Trailer (BlockPlace walk.at.address) t o old new (Ok more) (λ image. HasWalked b image n next) it.answers (λ m is. walks_on m is next above goes)
 
-      pub link_on : (next : Walk) → 0 < walk.at.address → GoesOn b walk.at walk.read.items index u (Ok next) → MendsLink b n t o old new (Ok (next, more))
-      link_on next above goes = record {
-        answers = answers_with b.file (content_of b) _ (AreOfKind Trailer) t o new.first old.written new.written (Ok more) (kind_at Trailer (BlockPlace walk.at.address)) mends;
-        walked = λ m is. walks_on m is next above goes;
-      }
-
-      pub link_broken : (IsLink (shape b.file) (content_of b) index (block_of u) → ⊥) → MendsLink b n t o old new (Err (broken_at walk.at.address))
-      link_broken broken = record {
-        answers = came_with b.file (content_of b) _ (AreOfKind Trailer) t o new.first old.written new.written _ (λ ms m. RefusesTrailer b.file m.shown (content_of b) (BadField TrailerChain walk.at.address)) (kind_at Trailer (BlockPlace walk.at.address))
-            (λ ms m is last. breaks m is broken) mends;
-        walked = λ m is. tt;
-      }
+        pub link_broken : (e : Ending) (Shows : Units → Type 0) → GoesOn b walk.at walk.read.items index held.unit (Err e) → Mended b (AreOfKind Trailer) t o old new (Err e) Shows
+        link_broken e Shows goes = subst (λ (x : Ending). Mended b (AreOfKind Trailer) t o old new (Err x) Shows) (sym goes.0) (record {
+          answers = came_with b.file (content_of b) _ (AreOfKind Trailer) t o new.first old.written new.written _ (λ ms m. RefusesTrailer b.file m.shown (content_of b) (BadField TrailerChain walk.at.address)) (kind_at Trailer (BlockPlace walk.at.address))
+              (λ ms m is last. breaks m is goes.1) it.answers;
+          shown = λ m is. tt;
+        })

@@ -24,7 +24,7 @@ use Rattle.df_buffers.specs.Sounds.{Holding}
 use Rattle.df_buffers.proofs.Laws.{is_no_ring}
 use Rattle.df_places.specs.Shelves.{IsFound, shown_at}
 use Rattle.df_theory.specs.Units.{AnyUnit, BlockPlace, CopyPlace, HeaderPlace, Place, PreparePlace, ReplyPlace}
-use Rattle.df_units.specs.Bytes.{message_unit, unit_at}
+use Rattle.df_units.specs.Bytes.{message_unit}
 use Rattle.df_units.specs.Meaning.{number_of, place_of, unit_of}
 use Rattle.df_units.specs.Wanted.{IsOfKind, checksum_of, class_at}
 use Rattle.df_units.proofs.Laws.{none_wanted, units_told}

@@ -1,14 +1,16 @@
 -- The order of what is mended, the prepares that are named, and all of it.
-use Rattle.std.proofs.Common.{◌≡◌, ℕ, ◌+◌, ◌<◌, ◌≤◌, ◌%◌, List, [], ◌∷◌, ◌++◌, length, Option, Some, None, refl, sym, ◌∙◌, ap, subst, arith, inl, inr}
+use Rattle.std.proofs.Common.{◌≡◌, ℕ, ◌+◌, ◌<◌, ◌≤◌, ◌%◌, List, [], ◌∷◌, ◌++◌, length, Option, Some, refl, sym, ◌∙◌, ap, subst, arith, inl, inr}
 use Rattle.std.proofs.lemmas.Bool.{cases_eq}
-use Rattle.std.specs.Prelude.{Result, Ok, Err, take}
+use Rattle.std.specs.Prelude.{Result, Ok, Err, OnOk, take}
 use Rattle.df_base.specs.Image.{IsImage}
 use Rattle.df_disk.specs.Told.{Told}
+use Rattle.df_layout.specs.declared.layout.Layout.{Layout}
 use Rattle.df_format.specs.declared.kind.Kind.{Kind}
 use Rattle.df_format.specs.declared.kind.Kind.TheVariants.{Block as AsBlock, Prepare, Reply, Trailer}
 use Rattle.df_journal.specs.Scan.{Scan}
 use Rattle.df_journal.specs.Scanned.{IsScanned}
 use Rattle.df_journal.specs.Shows.{TellsRings}
+use Rattle.df_journal.specs.declared.table.Start.{Start}
 use Rattle.df_journal.proofs.Laws.{rings_shown}
 use Rattle.df_units.specs.Bytes.{unit_at}
 use Rattle.df_grid.specs.Grid.{GridState}
@@ -25,14 +27,15 @@ use Rattle.df_mirror.specs.declared.ending.Ending.TheVariants.{First, Neither, S
 use Rattle.df_mirror.specs.declared.superblock.Superblock.{Superblock}
 use Rattle.df_mirror.specs.Known.{AllShown, AreShown, IsKnown, IsNamed, IsShownAs, ShowsTrailer}
 use Rattle.df_mirror.specs.Mends.{Answers, AreFrom, AreInOrder, AreLate, AreOfKind, Mend, rank_of}
-use Rattle.df_mirror.specs.Outside.{Outside, Tell}
+use Rattle.df_mirror.specs.Outside.{Outside, Tell, around}
 use Rattle.df_mirror.specs.Refusals.{RefusesTrailer}
-use Rattle.df_mirror.specs.Walks.{HasHead, ReadsText, ShowsBlocks, ShowsLog, ShowsNamed, content_of, units_of}
+use Rattle.df_mirror.specs.Walks.{HasHead, HasText, Mended, ReadsText, ShowsBlocks, ShowsLog, ShowsNamed, content_of, units_of}
 use Rattle.df_mirror.proofs.Referenced.{shown_there}
 use Rattle.df_mirror.proofs.Chains.{all_of_it, shown_block}
 use Rattle.df_mirror.proofs.Frames.{other_kind}
-use Rattle.df_mirror.proofs.Joined.{answers_then, answers_with, more, none_came, none_failed}
+use Rattle.df_mirror.proofs.Joined.{answers_with, more, none_came, none_failed}
 use Rattle.df_mirror.proofs.Ones.{one_trailer, trailer_there}
+use Rattle.df_mirror.proofs.Turns.{none_read, read_behind, shows_more, then_mended}
 
 -- ---- the order
 
@@ -49,17 +52,23 @@ then_from rank kind [] ls less are from = from_lower rank (rank_of kind) ls less
 then_from rank kind (m ∷ ms) ls less are from =
     (subst (λ (k : Kind). rank ≤ rank_of k) (sym are.0) less, subst (λ (k : Kind). AreFrom (rank_of k) (ms ++ ls)) (sym are.0) (then_from (rank_of kind) kind ms ls (omega arith) are.1 from))
 
--- ---- where nothing more is mended
+-- so many of one kind were mended, a read comes behind them, and then those that follow in the order
+pub walk_then : {b : Superblock} {t o : Told} {old mid new : Outside} {told : Option Told} {a : ℕ} {Before After : Units → Type 0} (low high : ℕ) (kind : Kind) → low ≤ rank_of kind → rank_of kind ≤ high → Tell t o old → Mended b (AreOfKind kind) t o old mid (Ok a) Before → mid.second ≡ old.second
+    → told ≡ mid.first → (result : Result ℕ Ending) → ((m : Told) → Tell m o (around told mid.second mid.written) → Before (units_of b m.shown) → Mended b (AreFrom high) m o (around told mid.second mid.written) new result After)
+    → Mended b (AreFrom low) t o old new (more a result) After
+walk_then {mid = mid} {told = told} low high kind from to tell has same read result next =
+    then_mended {mid = around told mid.second mid.written} (λ ms ls of then. then_from low kind ms ls from of (from_lower (rank_of kind) high ls to then)) tell same (read_behind has read refl) result next
 
-pub refused_here : (b : Superblock) (rank : ℕ) (m o : Told) (new : Option Told) (text later : Option (List ℕ)) (e : Ending) → new ≡ Some m → later ≡ text → ReadsText b m.shown (Err e) → Answers b.file (content_of b) (AreFrom rank) m o new text later (Err e)
-refused_here b rank m o new text later (Unopened e) same silent reads = none_came b.file (content_of b) (AreFrom rank) tt m o new text later same silent (λ ms n. RefusesTrailer b.file n.shown (content_of b) e) reads
-refused_here b rank m o new text later First same silent reads = none_failed b.file (content_of b) (AreFrom rank) tt m o new text later same silent
-refused_here b rank m o new text later Second same silent reads = absurd reads
-refused_here b rank m o new text later Sink same silent reads = absurd reads
-refused_here b rank m o new text later (Neither place class) same silent reads = absurd reads
-
-pub failed_here : (b : Superblock) (rank : ℕ) (m o : Told) (new : Option Told) (text later : Option (List ℕ)) → new ≡ Some m → later ≡ text → Answers b.file (content_of b) (AreFrom rank) m o new text later (Err First)
-failed_here b rank m o new text later same silent = none_failed b.file (content_of b) (AreFrom rank) tt m o new text later same silent
+-- the trailer is refused
+pub refused_here : (b : Superblock) (rank : ℕ) (m o : Told) (old : Outside) (e : Ending) (Shows : Units → Type 0) → Tell m o old → ReadsText b m.shown (Err e) → Mended b (AreFrom rank) m o old old (Err e) Shows
+refused_here b rank m o old e Shows tell reads = record { answers = by e reads; shown = λ u is. tt }
+  where
+    by : (e : Ending) → ReadsText b m.shown (Err e) → Answers b.file (content_of b) (AreFrom rank) m o old.first old.written old.written (Err e)
+    by (Unopened e) reads = none_came b.file (content_of b) (AreFrom rank) tt m o old.first old.written old.written tell.first refl (λ ms n. RefusesTrailer b.file n.shown (content_of b) e) reads
+    by First reads = none_failed b.file (content_of b) (AreFrom rank) tt m o old.first old.written old.written tell.first refl
+    by Second reads = absurd reads
+    by Sink reads = absurd reads
+    by (Neither place class) reads = absurd reads
 
 -- ---- the prepares that are named
 
@@ -115,33 +124,51 @@ head_is b image now slots table ss says same blocks named tells places given = r
   table_is = given named.named named.known named.count ∙ ap (λ (l : List model.Session). take b.file.layout.clients (sessions_after l named.named)) (sym same);
 }
 
--- the prepares were mended, so many of them, and then the rings were read
-module _ (b : Superblock) (t o : Told) (old mid : Outside) (a : ℕ) (tell : Tell t o old) (came : Answers b.file (content_of b) (AreOfKind Prepare) t o mid.first old.written mid.written (Ok a)) where
-  pub blocks_then : (x : ℕ) → units_of b came.after.shown (BlockPlace x) ≡ units_of b t.shown (BlockPlace x)
-  blocks_then x = other_kind b.file (content_of b) t o came.after mid.first old.written mid.written tell.whole came.after_is (BlockPlace x) Prepare a came (λ no. no)
+-- The prepares were mended, so many of them, and then the rings are read, and the sessions brought to the head.
+module _ (b : Superblock) (t o : Told) (old mid : Outside) (a : ℕ) (tell : Tell t o old) (came : Mended b (AreOfKind Prepare) t o old mid (Ok a) (ShowsNamed b)) (same : mid.second ≡ old.second) (told : Option Told) (read : told ≡ mid.first) where
+  -- the rings can't be read
+  pub log_unread : (Shows : Units → Type 0) → Mended b AreLate t o old (around told mid.second mid.written) (Err First) Shows
+  log_unread Shows = walk_then 3 3 Prepare (omega arith) (omega arith) tell came same read (Err First) (λ m on named. none_read b (AreFrom 3) tt m o (around told mid.second mid.written) (around told mid.second mid.written) on refl refl Shows)
 
-  pub rings_then : (slots : Scan) (told : Option Told) → told ≡ mid.first → slots.start.cluster ≡ b.file.cluster → IsScanned b.file.layout told slots → TellsRings b.file.layout (units_of b came.after.shown) slots
-  rings_then slots told same cluster scanned =
-      subst (λ (n : ℕ). TellsRings b.file.layout (unit_at b.file.layout n came.after.shown) slots) cluster
-      (rings_shown b.file.layout came.after slots (subst (λ (x : Option Told). IsScanned b.file.layout x slots) (same ∙ came.after_is) scanned))
+  -- and then the replies are mended
+  module _ (says : ShowsTrailer (shape b.file) (units_of b t.shown) (content_of b)) (ss : List model.Session) (of_trailer : says.parts.sessions ≡ ss) (layout : Layout) (of_file : layout ≡ b.file.layout) (slots : Scan) (start : Start) (begun : slots.start ≡ start)
+      (cluster : start.cluster ≡ b.file.cluster) (scanned : IsScanned layout mid.first slots) (table : Table) (places : table.max ≡ b.file.layout.clients)
+      (brought : (image : Units) (named : List Message) → TellsRings b.file.layout image slots → AreKnown b.file.layout.slots image (b.content.op + 1) (content_of b).pin_checksum named → b.content.op + length named ≡ (content_of b).pin
+      → sessions_of table.sessions ≡ take b.file.layout.clients (sessions_after ss named)) where
+    module _ (m : Told) (on : Tell m o (around told mid.second mid.written)) (named : ShowsNamed b (units_of b m.shown)) where
+      came_there : mid.first ≡ Some m
+      came_there = sym read ∙ on.first
 
-  -- and then the replies are
-  pub log_then : (new : Option Told) (text : Option (List ℕ)) (result : Result ℕ Ending) → Answers b.file (content_of b) (AreOfKind Reply) came.after o new mid.written text result → Answers b.file (content_of b) AreLate t o new old.written text (more a result)
-  log_then new text result rest =
-      answers_then b.file (content_of b) (AreOfKind Prepare) (AreOfKind Reply) AreLate (λ ms ls of then. then_from 3 Prepare ms ls (omega arith) of (from_kind 3 Reply ls (omega arith) then)) t o came.after mid.first new old.written mid.written text a result came came.after_is rest
+      blocks_there : (x : ℕ) → units_of b m.shown (BlockPlace x) ≡ units_of b t.shown (BlockPlace x)
+      blocks_there x = other_kind b.file (content_of b) t o m mid.first old.written mid.written tell.whole came_there (BlockPlace x) Prepare a came.answers (λ no. no)
 
-  pub scan_failed : (new : Option Told) (text : Option (List ℕ)) → new ≡ mid.first → text ≡ mid.written → Answers b.file (content_of b) AreLate t o new old.written text (Err First)
-  scan_failed new text same silent =
-      answers_then b.file (content_of b) (AreOfKind Prepare) AreLate AreLate (λ ms ls of then. then_from 3 Prepare ms ls (omega arith) of then) t o came.after mid.first new old.written mid.written text a (Err First) came came.after_is
-      (failed_here b 3 came.after o new mid.written text (same ∙ came.after_is) silent)
+      rings : TellsRings b.file.layout (units_of b m.shown) slots
+      rings =
+          let here : IsScanned b.file.layout (Some m) slots = subst (λ (l : Layout). IsScanned l (Some m) slots) of_file (subst (λ (x : Option Told). IsScanned layout x slots) came_there scanned) in
+          subst (λ (n : ℕ). TellsRings b.file.layout (unit_at b.file.layout n m.shown) slots) (ap (λ (x : Start). x.cluster) begun ∙ cluster) (rings_shown b.file.layout m slots here)
 
-  pub log_shown : (u : Told) (new : Option Told) (text : Option (List ℕ)) (c : ℕ) → IsImage came.after.shown → new ≡ Some u → Answers b.file (content_of b) (AreOfKind Reply) came.after o new mid.written text (Ok c) → ShowsNamed b (units_of b came.after.shown)
-      → AreShown (shape b.file) (units_of b u.shown) (content_of b) Reply → ShowsLog b (units_of b t.shown) (units_of b u.shown)
-  log_shown u new text c whole is rest named replies = record {
-    blocks = λ x. other_kind b.file (content_of b) came.after o u new mid.written text whole is (BlockPlace x) Reply c rest (λ no. no) ∙ blocks_then x;
-    prepares = prepares_shown b (units_of b u.shown) (named_there b (units_of b came.after.shown) (units_of b u.shown) (λ s. other_kind b.file (content_of b) came.after o u new mid.written text whole is (PreparePlace s) Reply c rest (λ no. no)) named);
-    replies = replies;
-  }
+      head : HasHead b (units_of b m.shown) slots table
+      head = head_is b (units_of b t.shown) (units_of b m.shown) slots table ss says of_trailer blocks_there named rings places (λ ps known count. brought (units_of b m.shown) ps rings known count)
+
+      log_shown : (new : Outside) (result : Result ℕ Ending) → Mended b (AreOfKind Reply) m o (around told mid.second mid.written) new result (λ image. AreShown (shape b.file) image (content_of b) Reply) → (u : Told) → new.first ≡ Some u
+          → OnOk result (ShowsLog b (units_of b t.shown) (units_of b u.shown))
+      log_shown new (Err e) rest u is = tt
+      log_shown new (Ok k) rest u is = record {
+        blocks = λ x. other_kind b.file (content_of b) m o u new.first mid.written new.written on.whole is (BlockPlace x) Reply k rest.answers (λ no. no) ∙ blocks_there x;
+        prepares = prepares_shown b (units_of b u.shown) (named_there b (units_of b m.shown) (units_of b u.shown) (λ s. other_kind b.file (content_of b) m o u new.first mid.written new.written on.whole is (PreparePlace s) Reply k rest.answers (λ no. no)) named);
+        replies = rest.shown u is;
+      }
+
+    pub log_mended : (new : Outside) (result : Result ℕ Ending)
+        → ((m : Told) → Tell m o (around told mid.second mid.written) → HasHead b (units_of b m.shown) slots table → Mended b (AreOfKind Reply) m o (around told mid.second mid.written) new result (λ image. AreShown (shape b.file) image (content_of b) Reply))
+        → Mended b AreLate t o old new (more a result) (ShowsLog b (units_of b t.shown))
+    log_mended new result next =
+        walk_then 3 3 Prepare (omega arith) (omega arith) tell came same read result (λ m on named.
+        let rest = next m on (head m on named) in
+        record {
+          answers = answers_with b.file (content_of b) (AreOfKind Reply) (AreFrom 3) m o new.first mid.written new.written result (λ ms are. from_kind 3 Reply ms (omega arith) are) rest.answers;
+          shown = log_shown m on named new result rest;
+        })
 
 -- ---- all of it
 
@@ -163,16 +190,15 @@ all_shown b grid ss image now blocks log = by
 
 -- ---- the walks one behind the other
 
--- so many of the trailer's blocks were mended, and of those it references
-module _ (b : Superblock) (t o : Told) (old mid : Outside) (a : ℕ) (came : Answers b.file (content_of b) (AreOfKind Trailer) t o mid.first old.written mid.written (Ok a)) where
-  pub chain_then : (new : Option Told) (text : Option (List ℕ)) (result : Result ℕ Ending) → Answers b.file (content_of b) (AreFrom 1) came.after o new mid.written text result → Answers b.file (content_of b) AreInOrder t o new old.written text (more a result)
-  chain_then new text result rest =
-      answers_then b.file (content_of b) (AreOfKind Trailer) (AreFrom 1) AreInOrder (λ ms ls of then. then_from 0 Trailer ms ls (omega arith) of then) t o came.after mid.first new old.written mid.written text a result came came.after_is rest
-
-pub blocks_first : (b : Superblock) (m o : Told) (mid new : Option Told) (old text later : Option (List ℕ)) (a : ℕ) (result : Result ℕ Ending) (came : Answers b.file (content_of b) (AreOfKind AsBlock) m o mid old text (Ok a)) → Answers b.file (content_of b) AreLate came.after o new text later result
-    → Answers b.file (content_of b) (AreFrom 1) m o new old later (more a result)
-blocks_first b m o mid new old text later a result came rest =
-    answers_then b.file (content_of b) (AreOfKind AsBlock) AreLate (AreFrom 1) (λ ms ls of then. then_from 1 AsBlock ms ls (omega arith) of (from_lower 2 3 ls (omega arith) then)) m o came.after mid new old text later a result came came.after_is rest
-
-pub kind_from : (b : Superblock) (rank : ℕ) (kind : Kind) (t o : Told) (new : Option Told) (old text : Option (List ℕ)) (result : Result ℕ Ending) → rank ≤ rank_of kind → Answers b.file (content_of b) (AreOfKind kind) t o new old text result → Answers b.file (content_of b) (AreFrom rank) t o new old text result
-kind_from b rank kind t o new old text result less is = answers_with b.file (content_of b) (AreOfKind kind) (AreFrom rank) t o new old text result (λ ms are. from_kind rank kind ms less are) is
+-- so many blocks of the trailer were mended, and it was read, and of those that it references so many; and then the log is
+pub all_mended : {b : Superblock} {t o : Told} {old mid late new : Outside} {told : Option Told} {a k : ℕ} (grid : GridState) (ss : List Session) → Tell t o old
+    → Mended b (AreOfKind Trailer) t o old mid (Ok a) (λ image. AreShown (shape b.file) image (content_of b) Trailer) → mid.second ≡ old.second
+    → told ≡ mid.first → ((m : Told) → mid.first ≡ Some m → IsImage m.shown → AreShown (shape b.file) (units_of b m.shown) (content_of b) Trailer → HasText b (units_of b m.shown) grid ss)
+    → ((m : Told) → Tell m o (around told mid.second mid.written) → HasText b (units_of b m.shown) grid ss → Mended b (AreOfKind AsBlock) m o (around told mid.second mid.written) late (Ok k) (λ image. ShowsBlocks b image grid ss b.file.layout.blocks)) → late.second ≡ mid.second
+    → (result : Result ℕ Ending) → ((m : Told) → Tell m o late → (says : ShowsTrailer (shape b.file) (units_of b m.shown) (content_of b)) → says.parts.sessions ≡ sessions_of ss → Mended b AreLate m o late new result (ShowsLog b (units_of b m.shown)))
+    → Mended b AreInOrder t o old new (more a (more k result)) (λ image. AllShown (shape b.file) image (content_of b))
+all_mended {b = b} {k = k} grid ss tell chain same read has blocks also result log =
+    walk_then 0 1 Trailer (omega arith) (omega arith) tell chain same read (more k result) (λ m on shown.
+    let text = has m (sym read ∙ on.first) on.whole shown in
+    walk_then 1 3 AsBlock (omega arith) (omega arith) on (blocks m on text) also refl result (λ n then shows.
+    shows_more (λ image shown. all_shown b grid ss (units_of b n.shown) image shows shown) (log n then shows.has.says shows.has.sessions_are)))

@@ -1,27 +1,31 @@
 -- The prepares that the superblock names: each is due where those above it are shown, and the walk goes one prepare further down.
-use Rattle.std.proofs.Common.{◌≡◌, ℕ, ◌+◌, ◌-◌, ◌%◌, ◌==◌, ◌<◌, ◌≤◌, if◌then◌else◌, List, [], ◌∷◌, length, Option, Some, refl, sym, ◌∙◌, ap, subst, arith, inl, inr}
+use Rattle.std.proofs.Common.{◌≡◌, ℕ, ◌+◌, ◌-◌, ◌%◌, ◌==◌, ◌<◌, ◌≤◌, if◌then◌else◌, List, [], ◌∷◌, length, Some, refl, sym, ◌∙◌, ap, subst, arith, inl, inr}
 use Rattle.std.proofs.lemmas.Bool.{cases_lt}
 use Rattle.std.proofs.lemmas.Option.{same_Some}
-use Rattle.std.specs.Prelude.{Ok}
-use Rattle.df_base.specs.Image.{IsImage}
+use Rattle.std.specs.Prelude.{Result, Ok, Err, IfOk}
 use Rattle.df_disk.specs.Told.{Told}
 use Rattle.df_format.specs.declared.kind.Kind.{Kind}
 use Rattle.df_format.specs.declared.kind.Kind.TheVariants.{Block as AsBlock, Prepare, Reply, Trailer}
-use Rattle.df_format.specs.Message as format
+use Rattle.df_format.specs.declared.header.Header.{Header}
 use Rattle.df_format.specs.SuperRules.{IsUsable}
+use Rattle.df_buffers.specs.declared.identity.Identity.{Identity}
+use Rattle.df_buffers.specs.Sounds.{Holding}
 use Rattle.df_theory.specs.Opens.{AreKnown, named_by}
-use Rattle.df_theory.specs.Units.{AnyUnit, BlockPlace, Message, Place, PreparePlace, PrepareUnit, ReplyPlace, Units}
+use Rattle.df_theory.specs.Units.{BlockPlace, Message, Place, PreparePlace, PrepareUnit, ReplyPlace, Units}
 use Rattle.df_theory.proofs.Laws.{mod_apart}
 use Rattle.df_units.specs.Meaning.{message_of, number_of}
 use Rattle.df_units.specs.Wanted.{checksum_of}
 use Rattle.df_opening.specs.Below.{shape}
+use Rattle.df_mirror.specs.declared.ending.Ending.{Ending}
 use Rattle.df_mirror.specs.declared.superblock.Superblock.{Superblock}
 use Rattle.df_mirror.specs.Known.{IsDue, IsKnown, IsShownAs, IsSpare}
-use Rattle.df_mirror.specs.Mends.{Answers, AreAt}
-use Rattle.df_mirror.specs.Taking.{ShowsUnit}
-use Rattle.df_mirror.specs.Walks.{NamesFrom, ShowsNamed, content_of, units_of}
+use Rattle.df_mirror.specs.Mends.{AreOfKind}
+use Rattle.df_mirror.specs.Outside.{Outside, Tell}
+use Rattle.df_mirror.specs.Taking.{HoldsShown, IsFor, MendsUnit, count_in}
+use Rattle.df_mirror.specs.Walks.{Mended, NamesFrom, ShowsNamed, content_of, units_of}
 use Rattle.df_mirror.proofs.Frames.{other_place}
 use Rattle.df_mirror.proofs.Logs.{same_known}
+use Rattle.df_mirror.proofs.Turns.{MendsDue, due_mended, of_one}
 
 -- known prepares are known in an image whose ring shows them, too
 pub ring_there : (n : ℕ) (image other : Units) (op sum : ℕ) (ps : List Message) → AreKnown n image op sum ps → ((o : ℕ) → op ≤ o → o < op + length ps → other (PreparePlace (o % n)) ≡ image (PreparePlace (o % n))) → AreKnown n other op sum ps
@@ -89,27 +93,42 @@ module _ (b : Superblock) where
         at_kind Reply (ReplyPlace p) k known shown same = cc
         at_kind kind at k known shown same = absurd known
 
-    pub named_due : IsDue (shape b.file) (units_of b t.shown) (content_of b) Prepare (PreparePlace (op % b.file.layout.slots)) sum
+    named_due : IsDue (shape b.file) (units_of b t.shown) (content_of b) Prepare (PreparePlace (op % b.file.layout.slots)) sum
     named_due = record { known = record { op = op; above = above; slot_is = refl; later = from.later; known = from.known; count = from.count; sum_is = from.sum_is }; spare = spare }
 
-  -- one that is mended is shown, and names the one before it
-  pub names_on : IsUsable b.content → (t o m : Told) (op : ℕ) (check : List ℕ) (new : Option Told) (written text : Option (List ℕ)) (u : format.Message) (more : ℕ) → IsImage t.shown → b.content.op < op → NamesFrom b (units_of b t.shown) op (number_of check)
-      → Answers b.file (content_of b) (AreAt Prepare (PreparePlace (op % b.file.layout.slots))) t o new written text (Ok more) → new ≡ Some m → ShowsUnit b.file Prepare (PreparePlace (op % b.file.layout.slots)) check m.shown u
-      → NamesFrom b (units_of b m.shown) (op - 1) (number_of u.header.parent)
-  names_on usable t o m op check new written text u more whole above from mends is shows =
-      let n = b.file.layout.slots in
-      let image = units_of b m.shown in
-      let pin = (content_of b).pin_checksum in
-      let same : shows.unit ≡ PrepareUnit (message_of u) = same_Some _ _ (sym shows.unit_is) in
-      let there : image (PreparePlace (op % n)) ≡ Some (PrepareUnit (message_of u)) = shows.shown ∙ sym shows.unit_is in
-      let sum : (message_of u).header.checksum ≡ named_by pin from.later = sym (ap checksum_of same) ∙ shows.sum_is ∙ from.sum_is in
-      let later : AreKnown n image (op + 1) pin from.later = ring_there n (units_of b t.shown) image (op + 1) pin from.later from.known
-      (λ q low high. other_place b.file (content_of b) t o m new written text whole is (PreparePlace (q % n)) Prepare (PreparePlace (op % n)) more mends
-      (λ (one : PreparePlace (op % n) ≡ PreparePlace (q % n)). mod_apart n op q some (omega (arith, low)) (omega (arith, high, from.count, within usable, above)) (cc))) in
-      let one : op ≡ (op - 1) + 1 = omega (arith, above) in
-      record {
-        later = message_of u ∷ from.later;
-        known = subst (λ (k : ℕ). AreKnown n image k pin (message_of u ∷ from.later)) one (there, sum, later);
-        count = omega (arith, from.count, above);
-        sum_is = refl;
-      }
+  -- the prepare that is named is mended, and names the one before it
+  module _ (usable : IsUsable b.content) (op : ℕ) (check : List ℕ) (above : b.content.op < op) (identity : Identity) (for : IsFor b.file Prepare (PreparePlace (op % b.file.layout.slots)) check identity) (t o : Told) (old new : Outside) (tell : Tell t o old)
+      (from : NamesFrom b (units_of b t.shown) op (number_of check)) where
+    names_on : (held : Holding) (more : ℕ) → MendsDue b Prepare (PreparePlace (op % b.file.layout.slots)) check t o old new (Ok (held, more)) → (m : Told) → new.first ≡ Some m → NamesFrom b (units_of b m.shown) (op - 1) (number_of held.unit.header.parent)
+    names_on held more mends m is =
+        let n = b.file.layout.slots in
+        let image = units_of b m.shown in
+        let pin = (content_of b).pin_checksum in
+        let u = held.unit in
+        let shows = mends.shows m is in
+        let same : shows.unit ≡ PrepareUnit (message_of u) = same_Some _ _ (sym shows.unit_is) in
+        let there : image (PreparePlace (op % n)) ≡ Some (PrepareUnit (message_of u)) = shows.shown ∙ sym shows.unit_is in
+        let sum : (message_of u).header.checksum ≡ named_by pin from.later = sym (ap checksum_of same) ∙ shows.sum_is ∙ from.sum_is in
+        let later : AreKnown n image (op + 1) pin from.later = ring_there n (units_of b t.shown) image (op + 1) pin from.later from.known
+        (λ q low high. other_place b.file (content_of b) t o m new.first old.written new.written tell.whole is (PreparePlace (q % n)) Prepare (PreparePlace (op % n)) more mends.answers
+        (λ (one : PreparePlace (op % n) ≡ PreparePlace (q % n)). mod_apart n op q some (omega (arith, low)) (omega (arith, high, from.count, within usable, above)) (cc))) in
+        let one : op ≡ (op - 1) + 1 = omega (arith, above) in
+        record {
+          later = message_of u ∷ from.later;
+          known = subst (λ (k : ℕ). AreKnown n image k pin (message_of u ∷ from.later)) one (there, sum, later);
+          count = omega (arith, from.count, above);
+          sum_is = refl;
+        }
+
+    due : (result : Result (Holding × ℕ) Ending) → MendsUnit Prepare identity old new (count_in result) → IfOk result (λ done. HoldsShown Prepare identity old.first new.first done.0) → MendsDue b Prepare (PreparePlace (op % b.file.layout.slots)) check t o old new result
+    due result mends shown = due_mended b Prepare (PreparePlace (op % b.file.layout.slots)) check identity for t o old new tell (named_due usable t op (number_of check) above from) result mends shown
+
+    pub prepare_mended : (held : Holding) (more : ℕ) → MendsUnit Prepare identity old new (Ok more) → HoldsShown Prepare identity old.first new.first held → (h : Header) → h ≡ held.unit.header
+        → Mended b (AreOfKind Prepare) t o old new (Ok more) (λ image. NamesFrom b image (op - 1) (number_of h.parent))
+    prepare_mended held more mends shown h is =
+        let it = due (Ok (held, more)) mends shown in
+        of_one b Prepare (PreparePlace (op % b.file.layout.slots)) t o old new (Ok more) (λ image. NamesFrom b image (op - 1) (number_of h.parent)) it.answers
+        (λ m there. subst (λ (x : Header). NamesFrom b (units_of b m.shown) (op - 1) (number_of x.parent)) (sym is) (names_on held more it m there))
+
+    pub prepare_failed : (e : Ending) → MendsUnit Prepare identity old new (Err e) → Mended b (AreOfKind Prepare) t o old new (Err e) (λ image. Unit {0})
+    prepare_failed e mends = of_one b Prepare (PreparePlace (op % b.file.layout.slots)) t o old new (Err e) (λ image. Unit {0}) (due (Err e) mends tt).answers (λ m is. tt)

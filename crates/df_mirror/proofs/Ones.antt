@@ -1,5 +1,5 @@
 -- An image shows one trailer, and each block that is wanted of it is one of its chain.
-use Rattle.std.proofs.Common.{◌≡◌, ℕ, ◌-◌, ◌<◌, ◌≤◌, List, [], ◌∷◌, length, Some, refl, sym, ◌∙◌, ap, subst, arith, inl, inr}
+use Rattle.std.proofs.Common.{◌≡◌, ℕ, ◌-◌, ◌<◌, List, [], ◌∷◌, length, Some, refl, sym, ◌∙◌, ap, subst, arith, inl, inr}
 use Rattle.df_theory.specs.Opens.{Arrives, ReadsTo}
 use Rattle.df_theory.specs.Shape.{Shape}
 use Rattle.df_theory.specs.Trailer.{InChain, Links, Says}

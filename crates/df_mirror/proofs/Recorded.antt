@@ -1,7 +1,7 @@
 -- The replies that the superblock records: which of them are known, what makes one due, and the walk one place further.
-use Rattle.std.proofs.Common.{◌≡◌, ℕ, ◌<◌, ◌==◌, if◌then◌else◌, List, [], length, map, Option, Some, None, refl, sym, ◌∙◌, ap, subst, inl, inr}
+use Rattle.std.proofs.Common.{◌≡◌, ◌⊎◌, ℕ, ◌<◌, ◌==◌, if◌then◌else◌, List, [], length, map, Option, Some, None, refl, sym, ◌∙◌, ap, subst, inl, inr}
 use Rattle.std.specs.List.{slice_get}
-use Rattle.std.specs.Prelude.{Result, Ok, Err, option_map, slice_index}
+use Rattle.std.specs.Prelude.{Result, Ok, Err, IfOk, OnOk, option_map, slice_index}
 use Rattle.std.proofs.lemmas.Option.{get_or_from_slice_get, same_Some, slice_get-map}
 use Rattle.df_disk.specs.Told.{Told}
 use Rattle.df_format.specs.declared.header.Header.{Header}
@@ -9,8 +9,13 @@ use Rattle.df_format.specs.declared.kind.Kind.{Kind}
 use Rattle.df_format.specs.declared.kind.Kind.TheVariants.{Block as AsBlock, Prepare, Reply, Trailer}
 use Rattle.df_format.specs.Message as format
 use Rattle.df_format.specs.Shown.{class_at, header_or_class, unit_at}
+use Rattle.df_format.specs.Spelling.{IsCheck}
 use Rattle.df_layout.specs.declared.damage.Class.{Class}
-use Rattle.df_places.specs.Units.{header_at}
+use Rattle.df_layout.specs.declared.places.Place.{Place as FilePlace}
+use Rattle.df_buffers.specs.declared.identity.Identity.{Identity}
+use Rattle.df_buffers.specs.declared.identity.Wanted.TheVariants.{Checksum}
+use Rattle.df_buffers.specs.Sounds.{Holding}
+use Rattle.df_places.specs.Units.{IsSeen, header_at}
 use Rattle.df_theory.specs.Units.{BlockPlace, Message, Place, PreparePlace, ReplyPlace, ReplyUnit}
 use Rattle.df_units.specs.Bytes.{message_unit}
 use Rattle.df_units.specs.Meaning.{message_of, number_of, place_of}
@@ -19,11 +24,12 @@ use Rattle.df_mirror.specs.declared.ending.Ending.{Ending}
 use Rattle.df_mirror.specs.declared.ending.Ending.TheVariants.{First}
 use Rattle.df_mirror.specs.declared.superblock.Superblock.{Superblock}
 use Rattle.df_mirror.specs.Known.{IsDue, IsKnown, IsRecorded, IsShownAs}
-use Rattle.df_mirror.specs.Mends.{Answers, AreAt, Mend}
-use Rattle.df_mirror.specs.Outside.{Outside, Tell}
-use Rattle.df_mirror.specs.Taking.{ShowsUnit}
+use Rattle.df_mirror.specs.Mends.{AreAt}
+use Rattle.df_mirror.specs.Outside.{Outside, Tell, around}
+use Rattle.df_mirror.specs.Taking.{HoldsShown, IsFor, MendsUnit, ShowsUnit, count_in}
 use Rattle.df_mirror.specs.Walks.{HasNewer, IsNewer, MendsRecorded, content_of, units_of}
 use Rattle.df_mirror.proofs.Joined.{none_came, none_failed}
+use Rattle.df_mirror.proofs.Turns.{holds}
 
 -- ---- what is seen in a slot
 
@@ -70,25 +76,43 @@ reply_due b t k sum recorded = record { known = recorded; spare = λ lacks. at_k
     at_kind lacks Prepare (PreparePlace s) other known shown same = cc
     at_kind lacks kind at other known shown same = absurd known
 
-module _ (b : Superblock) (k : ℕ) (check : List ℕ) (t o : Told) (old new : Outside) (tell : Tell t o old) where
-  -- something newer is shown
-  pub recorded_newer : {T : Type 0} (room : T) → new.first ≡ old.first → new.written ≡ old.written → HasNewer b (units_of b t.shown) k → MendsRecorded b k check t o old new (Ok (room, 0))
-  recorded_newer room same silent newer = record {
-    answers = λ known. none_came b.file (content_of b) (AreAt Reply (ReplyPlace k)) tt t o new.first old.written new.written (same ∙ tell.first) silent (λ ms n. 0 ≡ length ms) refl;
-    shown = λ u is. inl (subst (λ (x : Told). HasNewer b (units_of b x.shown) k) (same_Some _ _ (sym (same ∙ tell.first) ∙ is)) newer);
-  }
+module _ (b : Superblock) (k : ℕ) (check : List ℕ) (t o : Told) (old : Outside) (tell : Tell t o old) (told : Option Told) (same : told ≡ old.first) where
+  abbrev mid : Outside
+  mid = around told old.second old.written
 
   -- the place can't be read
-  pub recorded_unread : {T : Type 0} → new.first ≡ old.first → new.written ≡ old.written → MendsRecorded b k check {T = T} t o old new (Err First)
-  recorded_unread same silent = record { answers = λ known. none_failed b.file (content_of b) (AreAt Reply (ReplyPlace k)) tt t o new.first old.written new.written (same ∙ tell.first) silent; shown = λ u is. tt }
+  pub recorded_unread : MendsRecorded b k check t o old mid (Err First)
+  recorded_unread = record { answers = λ known. none_failed b.file (content_of b) (AreAt Reply (ReplyPlace k)) tt t o told old.written old.written (same ∙ tell.first) refl; shown = λ u is. tt }
 
-  module _ (none : HasNewer b (units_of b t.shown) k → ⊥) where
-    pub recorded_mended : {T : Type 0} (room : T) (u : format.Message) (more : ℕ) → (IsRecorded (shape b.file) (units_of b t.shown) (content_of b) k (number_of check) → Answers b.file (content_of b) (AreAt Reply (ReplyPlace k)) t o new.first old.written new.written (Ok more))
-        → ((m : Told) → new.first ≡ Some m → ShowsUnit b.file Reply (ReplyPlace k) check m.shown u) → MendsRecorded b k check t o old new (Ok (room, more))
-    recorded_mended room u more mends shows = record {
-      answers = λ known. mends (known none);
-      shown = λ m is. let it = shows m is in inr (record { unit = it.unit; shown = it.shown; of_kind = it.of_kind; sum_is = it.sum_is });
+  module _ (identity : Identity) (is : identity ≡ record { layout = b.file.layout; cluster = b.file.cluster; place = place_of (ReplyPlace k); wanted = Checksum check }) (seen : Result Header Class)
+      (sees : IsSeen b.file.layout b.file.cluster old.first identity.place seen) where
+    seen_is : seen ≡ header_at b.file.layout b.file.cluster t.shown (place_of (ReplyPlace k))
+    seen_is =
+        let at : IsSeen b.file.layout b.file.cluster (Some t) identity.place seen = subst (λ (x : Option Told). IsSeen b.file.layout b.file.cluster x identity.place seen) tell.first sees in
+        subst (λ (p : FilePlace). seen ≡ header_at b.file.layout b.file.cluster t.shown p) (ap (λ (i : Identity). i.place) is) at
+
+    -- something newer is shown
+    pub recorded_newer : IsNewer b seen → MendsRecorded b k check t o old mid (Ok 0)
+    recorded_newer newer = record {
+      answers = λ known. none_came b.file (content_of b) (AreAt Reply (ReplyPlace k)) tt t o told old.written old.written (same ∙ tell.first) refl (λ ms n. 0 ≡ length ms) refl;
+      shown = λ u there. inl (subst (λ (x : Told). HasNewer b (units_of b x.shown) k) (same_Some _ _ (sym (same ∙ tell.first) ∙ there)) (newer_shown b t k seen seen_is newer));
     }
 
-    pub recorded_failed : {T : Type 0} (e : Ending) → (IsRecorded (shape b.file) (units_of b t.shown) (content_of b) k (number_of check) → Answers b.file (content_of b) (AreAt Reply (ReplyPlace k)) t o new.first old.written new.written (Err e)) → MendsRecorded b k check {T = T} t o old new (Err e)
-    recorded_failed e mends = record { answers = λ known. mends (known none); shown = λ u is. tt }
+    module _ (none : IsNewer b seen → ⊥) (fits : IsCheck check) (new : Outside) where
+      on : Tell t o mid
+      on = record { first = same ∙ tell.first; second = tell.second; whole = tell.whole; other = tell.other }
+
+      for : IsFor b.file Reply (ReplyPlace k) check identity
+      for = record { is = is; stands = tt; fits = fits }
+
+      is_shown : (m : Told) (result : Result (Holding × ℕ) Ending) → IfOk result (λ done. ShowsUnit b.file Reply (ReplyPlace k) check m.shown done.0.unit)
+          → OnOk (count_in result) (HasNewer b (units_of b m.shown) k ⊎ IsShownAs (units_of b m.shown) Reply (ReplyPlace k) (number_of check))
+      is_shown m (Ok done) it = inr (record { unit = it.unit; shown = it.shown; of_kind = it.of_kind; sum_is = it.sum_is })
+      is_shown m (Err e) it = tt
+
+      -- nothing newer is, and it is mended
+      pub recorded_mended : (result : Result (Holding × ℕ) Ending) → MendsUnit Reply identity mid new (count_in result) → IfOk result (λ done. HoldsShown Reply identity told new.first done.0) → MendsRecorded b k check t o old new (count_in result)
+      recorded_mended result mends shown = record {
+        answers = λ known. mends b.file (content_of b) (ReplyPlace k) check t o for on (reply_due b t k (number_of check) (known (λ newer. none (newer_seen b t k seen seen_is newer))));
+        shown = λ m there. is_shown m result (holds b Reply (ReplyPlace k) check identity for t o mid new on result shown m there);
+      }

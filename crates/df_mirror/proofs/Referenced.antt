@@ -1,29 +1,32 @@
 -- A referenced block, as a turn over the addresses.
-use Rattle.std.proofs.Common.{◌≡◌, ℕ, ◌+◌, ◌<◌, ◌≤◌, List, length, Some, None, refl, sym, ◌∙◌, ap, subst, arith, inl, inr}
+use Rattle.std.proofs.Common.{◌≡◌, ℕ, ◌+◌, List, Some, None, sym, ◌∙◌, ap, subst, arith, inl, inr}
 use Rattle.std.proofs.lemmas.Bool.{cases_eq}
 use Rattle.std.proofs.lemmas.Option.{same_Some}
-use Rattle.std.specs.Prelude.{Result, Ok, Err}
+use Rattle.std.specs.Prelude.{Result, Ok, Err, IfOk, OnOk}
 use Rattle.df_disk.specs.Told.{Told}
 use Rattle.df_format.specs.declared.kind.Kind.{Kind}
 use Rattle.df_format.specs.declared.kind.Kind.TheVariants.{Block as AsBlock, Prepare, Reply, Trailer}
-use Rattle.df_format.specs.Message.{Message}
+use Rattle.df_format.specs.Spelling.{IsCheck}
+use Rattle.df_buffers.specs.declared.identity.Identity.{Identity}
+use Rattle.df_buffers.specs.Sounds.{Holding}
 use Rattle.df_model.specs.Blocks.{sum_at}
 use Rattle.df_theory.specs.Trailer.{InChain}
 use Rattle.df_theory.specs.Units.{Block, BlockPlace, Parts, Place, PreparePlace, ReplyPlace, Units}
 use Rattle.df_sessions.specs.declared.session.Session.{Session}
 use Rattle.df_units.specs.Meaning.{number_of}
 use Rattle.df_grid.specs.Grid.{GridState}
+use Rattle.df_grid.specs.Reads.{at_address}
 use Rattle.df_opening.specs.Below.{shape}
 use Rattle.df_mirror.specs.declared.ending.Ending.{Ending}
 use Rattle.df_mirror.specs.declared.superblock.Superblock.{Superblock}
 use Rattle.df_mirror.specs.Known.{IsDue, IsKnown, IsShownAs, IsSpare}
-use Rattle.df_mirror.specs.Mends.{Answers, AreAt, AreOfKind, Mend}
+use Rattle.df_mirror.specs.Mends.{AreOfKind}
 use Rattle.df_mirror.specs.Outside.{Outside, Tell}
-use Rattle.df_mirror.specs.Taking.{ShowsUnit}
-use Rattle.df_mirror.specs.Walks.{HasText, MendsBlock, ShowsBlocks, content_of, units_of}
+use Rattle.df_mirror.specs.Taking.{HoldsShown, MendsUnit, count_in}
+use Rattle.df_mirror.specs.Walks.{HasText, Mended, ShowsBlocks, content_of, units_of}
 use Rattle.df_mirror.proofs.Frames.{other_place}
-use Rattle.df_mirror.proofs.Joined.{answers_with, kind_at, none_came}
 use Rattle.df_mirror.proofs.Ones.{one_trailer, trailer_there, wanted_block}
+use Rattle.df_mirror.proofs.Turns.{MendsDue, due_mended, none_mended, of_one}
 
 -- a place that is as it was shows what it did
 pub shown_there : (image other : Units) (kind : Kind) (place : Place) (sum : ℕ) → other place ≡ image place → IsShownAs image kind place sum → IsShownAs other kind place sum
@@ -31,19 +34,14 @@ shown_there image other kind place sum same is = record { unit = is.unit; shown 
 
 module _ (b : Superblock) (grid : GridState) (ss : List Session) (before : ℕ) (t o : Told) (shows : ShowsBlocks b (units_of b t.shown) grid ss before) where
   -- nothing is referenced there
-  pub block_none : {T : Type 0} (room : T) (old new : Outside) → Tell t o old → sum_at (before + 1) grid.blocks.live ≡ None → new.first ≡ old.first → new.written ≡ old.written → MendsBlock b grid ss (before + 1) t o old new (Ok (room, 0))
-  block_none room old new tell none same silent = record {
-    answers = none_came b.file (content_of b) (AreOfKind AsBlock) tt t o new.first old.written new.written (same ∙ tell.first) silent (λ ms n. 0 ≡ length ms) refl;
-    shown = λ u is.
-        let one : t ≡ u = same_Some _ _ (sym (same ∙ tell.first) ∙ is) in
-        subst (λ (x : Told). ShowsBlocks b (units_of b x.shown) grid ss (before + 1)) one (record {
-          has = shows.has;
-          shown = λ a sum to known. elim (cases_eq a (before + 1)) [
-            | inl here ↦ absurd (let no : None ≡ Some sum = sym none ∙ ap (λ (n : ℕ). sum_at n grid.blocks.live) (sym here) ∙ known in cc)
-            | inr other ↦ shows.shown a sum (omega (arith, to, other)) known
-          ];
-        });
-  }
+  pub block_none : (old new : Outside) → Tell t o old → sum_at (before + 1) grid.blocks.live ≡ None → new.first ≡ old.first → new.written ≡ old.written → Mended b (AreOfKind AsBlock) t o old new (Ok 0) (λ image. ShowsBlocks b image grid ss (before + 1))
+  block_none old new tell none same silent = none_mended b (AreOfKind AsBlock) tt t o old new tell same silent (λ image. ShowsBlocks b image grid ss (before + 1)) (record {
+    has = shows.has;
+    shown = λ a sum to known. elim (cases_eq a (before + 1)) [
+      | inl here ↦ absurd (let no : None ≡ Some sum = sym none ∙ ap (λ (n : ℕ). sum_at n grid.blocks.live) (sym here) ∙ known in cc)
+      | inr other ↦ shows.shown a sum (omega (arith, to, other)) known
+    ];
+  })
 
   module _ (check : List ℕ) (live : sum_at (before + 1) grid.blocks.live ≡ Some (number_of check)) where
     referenced : shows.has.says.parts.references (before + 1) ≡ Some (number_of check)
@@ -72,19 +70,15 @@ module _ (b : Superblock) (grid : GridState) (ss : List Session) (before : ℕ) 
         at_kind Reply (ReplyPlace k) sum known shown same = cc
         at_kind kind at sum known shown same = absurd known
 
-    pub block_due : IsDue (shape b.file) (units_of b t.shown) (content_of b) AsBlock (BlockPlace (before + 1)) (number_of check)
+    block_due : IsDue (shape b.file) (units_of b t.shown) (content_of b) AsBlock (BlockPlace (before + 1)) (number_of check)
     block_due = record { known = record { says = shows.has.says; reference = referenced }; spare = spare }
 
-    pub block_failed : {T : Type 0} (old new : Outside) (e : Ending) → Answers b.file (content_of b) (AreAt AsBlock (BlockPlace (before + 1))) t o new.first old.written new.written (Err e) → MendsBlock b grid ss (before + 1) {T = T} t o old new (Err e)
-    block_failed old new e is = record { answers = answers_with b.file (content_of b) _ (AreOfKind AsBlock) t o new.first old.written new.written (Err e) (kind_at AsBlock (BlockPlace (before + 1))) is; shown = λ u is. tt }
-
-    pub block_mended : {T : Type 0} (room : T) (old new : Outside) (tell : Tell t o old) (u : Message) (more : ℕ) → Answers b.file (content_of b) (AreAt AsBlock (BlockPlace (before + 1))) t o new.first old.written new.written (Ok more)
-        → ((m : Told) → new.first ≡ Some m → ShowsUnit b.file AsBlock (BlockPlace (before + 1)) check m.shown u) → MendsBlock b grid ss (before + 1) t o old new (Ok (room, more))
-    block_mended room old new tell u more mends seen = record {
-      answers = answers_with b.file (content_of b) _ (AreOfKind AsBlock) t o new.first old.written new.written (Ok more) (kind_at AsBlock (BlockPlace (before + 1))) mends;
-      shown = λ m is.
+    module _ (identity : Identity) (is : identity ≡ at_address b.file.layout b.file.cluster (before + 1) check) (fits : IsCheck check) (old new : Outside) (tell : Tell t o old) where
+      one_more : (result : Result (Holding × ℕ) Ending) → MendsDue b AsBlock (BlockPlace (before + 1)) check t o old new result → (m : Told) → new.first ≡ Some m → OnOk (count_in result) (ShowsBlocks b (units_of b m.shown) grid ss (before + 1))
+      one_more (Err e) mends m is = tt
+      one_more (Ok done) mends m is =
           let same : (e : ℕ) → (e ≡ before + 1 → ⊥) → units_of b m.shown (BlockPlace e) ≡ units_of b t.shown (BlockPlace e) =
-          λ e other. other_place b.file (content_of b) t o m new.first old.written new.written tell.whole is (BlockPlace e) AsBlock (BlockPlace (before + 1)) more mends (λ (one : BlockPlace (before + 1) ≡ BlockPlace e). other (cc)) in
+          λ e other. other_place b.file (content_of b) t o m new.first old.written new.written tell.whole is (BlockPlace e) AsBlock (BlockPlace (before + 1)) done.1 mends.answers (λ (one : BlockPlace (before + 1) ≡ BlockPlace e). other (cc)) in
           record {
             has = record {
               says = trailer_there (shape b.file) (units_of b t.shown) (units_of b m.shown) (content_of b) shows.has.says (λ e x at. same e (apart e x at));
@@ -94,13 +88,19 @@ module _ (b : Superblock) (grid : GridState) (ss : List Session) (before : ℕ) 
             };
             shown = λ a sum to known. elim (cases_eq a (before + 1)) [
               | inl here ↦
-                  let it = seen m is in
+                  let it = mends.shows m is in
                   let one : number_of check ≡ sum = same_Some _ _ (sym live ∙ ap (λ (n : ℕ). sum_at n grid.blocks.live) (sym here) ∙ known) in
                   subst (λ (n : ℕ). IsShownAs (units_of b m.shown) AsBlock (BlockPlace n) sum) (sym here) (record { unit = it.unit; shown = it.shown; of_kind = it.of_kind; sum_is = it.sum_is ∙ one })
               | inr other ↦ shown_there (units_of b t.shown) (units_of b m.shown) AsBlock (BlockPlace a) sum (same a other) (shows.shown a sum (omega (arith, to, other)) known)
             ];
-          };
-    }
+          }
+
+      -- the block that is referenced is mended
+      pub block_mended : (result : Result (Holding × ℕ) Ending) → MendsUnit AsBlock identity old new (count_in result) → IfOk result (λ done. HoldsShown AsBlock identity old.first new.first done.0)
+          → Mended b (AreOfKind AsBlock) t o old new (count_in result) (λ image. ShowsBlocks b image grid ss (before + 1))
+      block_mended result mends shown =
+          let due = due_mended b AsBlock (BlockPlace (before + 1)) check identity (record { is = is; stands = tt; fits = fits }) t o old new tell block_due result mends shown in
+          of_one b AsBlock (BlockPlace (before + 1)) t o old new (count_in result) (λ image. ShowsBlocks b image grid ss (before + 1)) due.answers (one_more result due)
 
 -- no address is 0
 pub none_yet : (b : Superblock) (grid : GridState) (ss : List Session) (t : Told) → HasText b (units_of b t.shown) grid ss → ShowsBlocks b (units_of b t.shown) grid ss 0

@@ -1,7 +1,7 @@
 -- A known unit that is shown is shown at every moment of the mends of others.
-use Rattle.std.proofs.Common.{◌≡◌, ℕ, suc, ◌+◌, ◌-◌, ◌%◌, ◌<◌, ◌≤◌, ◌||◌, Bool, true, false, List, [], ◌∷◌, ◌++◌, length, Option, Some, None, refl, sym, ◌∙◌, ap, subst, arith, inl, inr, length-append}
+use Rattle.std.proofs.Common.{◌≡◌, ℕ, ◌+◌, ◌-◌, ◌%◌, ◌<◌, ◌≤◌, ◌||◌, Bool, List, [], ◌∷◌, ◌++◌, length, Option, Some, refl, sym, ◌∙◌, ap, subst, arith, inl, inr, length-append}
 use Rattle.std.specs.Prelude.{slice_index}
-use Rattle.df_base.specs.Image.{Image, IsImage, covers}
+use Rattle.df_base.specs.Image.{Image, IsImage}
 use Rattle.df_base.specs.Log.{Event, IsLeft, Log, Sync, Write, loose}
 use Rattle.df_base.specs.Moments.{EachMoment, Extends}
 use Rattle.df_base.proofs.Laws.{extends_on, extends_self, from_before, started, written_is_image}
@@ -12,11 +12,9 @@ use Rattle.df_format.specs.declared.kind.Kind.TheVariants.{Block as AsBlock, Pre
 use Rattle.df_theory.specs.Opens.{AreKnown, AreLinks, Arrives, IsLink, ReadsTo}
 use Rattle.df_theory.specs.Shape.{Shape, slots}
 use Rattle.df_theory.specs.Trailer.{InChain, IsCount, Links}
-use Rattle.df_theory.specs.UnitLog.{put_one}
 use Rattle.df_theory.specs.Units.{AnyUnit, Block, BlockPlace, BlockUnit, Content, CopyPlace, HeaderPlace, Message, Place, PreparePlace, PrepareUnit, ReplyPlace, Units, is_some, or_else}
 use Rattle.df_theory.proofs.Laws.{arrives_more, links_more}
 use Rattle.df_units.specs.Bytes.{first_at}
-use Rattle.df_units.specs.Format.{format_of}
 use Rattle.df_units.specs.Wanted.{checksum_of}
 use Rattle.df_units.proofs.Laws.{is_format}
 use Rattle.df_damage.specs.Anew.{IsStill, told_after}

@@ -1,5 +1,5 @@
 -- One unit is mended, or isn't: as a list of mends.
-use Rattle.std.proofs.Common.{◌≡◌, ℕ, ◌≤◌, List, [], ◌∷◌, ◌++◌, length, take, Option, Some, None, refl, sym, ◌∙◌, ap, subst, arith, inl, inr}
+use Rattle.std.proofs.Common.{◌≡◌, ℕ, List, [], ◌∷◌, length, take, Option, Some, refl, sym, ◌∙◌, ap, subst, arith}
 use Rattle.std.proofs.lemmas.List.{append-nil}
 use Rattle.std.proofs.lemmas.Option.{same_Some}
 use Rattle.std.specs.Prelude.{Result, Ok, Err, IfOk}
@@ -7,11 +7,9 @@ use Rattle.df_base.specs.Image.{IsImage}
 use Rattle.df_base.specs.Log.{Sync, Write}
 use Rattle.df_base.specs.Streams.{Appends, AppendsPart}
 use Rattle.df_base.proofs.Laws.{appends_none}
-use Rattle.df_disk.specs.Adds.{AddsPart, after_all}
 use Rattle.df_disk.specs.Told.{Told, did}
 use Rattle.df_disk.proofs.Laws.{all_is_part}
 use Rattle.df_layout.specs.declared.damage.Class.{Class}
-use Rattle.df_layout.specs.declared.layout.Layout.{Layout}
 use Rattle.df_layout.specs.declared.places.Place.{Place as FilePlace}
 use Rattle.df_format.specs.declared.kind.Kind.{Kind}
 use Rattle.df_format.specs.Message.{sectors_end}
@@ -21,19 +19,18 @@ use Rattle.df_places.specs.Shelves.{IsFound, shown_at}
 use Rattle.df_places.specs.Units.{unit_events}
 use Rattle.df_theory.specs.Device.{IsPut}
 use Rattle.df_theory.specs.UnitLog.{put_one}
-use Rattle.df_theory.specs.Units.{AnyUnit, Content, Place, Units, or_else}
+use Rattle.df_theory.specs.Units.{AnyUnit, Content, Place, or_else}
 use Rattle.df_theory.proofs.Laws.{put_one_law}
 use Rattle.df_units.specs.Bytes.{first_at}
 use Rattle.df_units.specs.Format.{format_of}
-use Rattle.df_units.specs.Meaning.{number_of, place_of, unit_of}
-use Rattle.df_units.specs.Wanted.{checksum_of}
+use Rattle.df_units.specs.Meaning.{number_of, place_of}
 use Rattle.df_opening.specs.Below.{DataFile, shape}
 use Rattle.df_mirror.specs.declared.ending.Ending.{Ending}
 use Rattle.df_mirror.specs.declared.ending.Ending.TheVariants.{First, Neither, Second, Sink, Unopened}
 use Rattle.df_mirror.specs.Known.{IsDue, IsKnown, IsShownAs}
 use Rattle.df_mirror.specs.Mends.{Answers, AreAt, Came, Failed, IsMend, IsNeither, Mend, units_in}
 use Rattle.df_mirror.specs.Outside.{Outside}
-use Rattle.df_mirror.specs.Taking.{IsFor, IsSame, LacksIt, PutsUnit, ShowsIt, ShowsUnit, Takes, TakesUnit, WritesUnit, count_in}
+use Rattle.df_mirror.specs.Taking.{IsFor, LacksIt, PutsUnit, ShowsIt, ShowsUnit, Takes, TakesUnit, WritesUnit}
 use Rattle.df_mirror.specs.Texts.{mended_text}
 use Rattle.df_mirror.proofs.Joined.{none_came, none_failed}
 use Rattle.df_mirror.proofs.Loaded.{IsUnitOf, class_is, found_unit, lacks_unit, shows_unit}

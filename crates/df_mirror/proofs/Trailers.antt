@@ -1,7 +1,6 @@
 -- What is read of the trailer, in the theory's words.
-use Rattle.std.proofs.Common.{◌≡◌, ◌≢◌, inl, inr, ℕ, zero, suc, ◌+◌, ◌-◌, ◌<◌, ◌≤◌, ◌==◌, ◌||◌, Bool, true, false, List, [], ◌∷◌, map, Option, Some, None, refl, sym, ◌∙◌, ap, subst, arith, eq-eqb, eqb-true}
+use Rattle.std.proofs.Common.{◌≡◌, ◌≢◌, inl, inr, ℕ, zero, suc, ◌-◌, ◌<◌, ◌≤◌, ◌==◌, ◌||◌, Bool, true, false, List, [], ◌∷◌, map, Option, Some, None, refl, sym, ◌∙◌, ap, subst, arith, eq-eqb, eqb-true}
 use Rattle.std.specs.Prelude.{◌^◌, min, Result, Ok, Err, slice_get}
-use Rattle.arrayvec.specs.ArrayVec.{ArrayVec}
 use Rattle.df_base.specs.Fields.{AreBytes}
 use Rattle.df_base.specs.Image.{Image, IsImage}
 use Rattle.df_disk.specs.Told.{Told}
@@ -12,10 +11,9 @@ use Rattle.df_format.specs.SuperRules.{IsSuper}
 use Rattle.df_format.specs.declared.superblock.SuperFields.{SuperFields}
 use Rattle.df_model.specs.Blocks.{Blocks, addresses, entries, sum_at}
 use Rattle.df_model.specs.declared.errors.OpenError.TheVariants.{BadField, BootSpent, Damaged, DiskFault, LayoutDiffers, NoQuorum, NotFormatted, Version}
-use Rattle.df_model.specs.Supply.{Shown}
 use Rattle.df_model.proofs.Laws.{entry_at, entry_in}
 use Rattle.df_theory.specs.Sessions.{Has}
-use Rattle.df_theory.specs.Trailer.{InChain, IsReference, IsTrailer, no_parts, text_of}
+use Rattle.df_theory.specs.Trailer.{no_parts, text_of}
 use Rattle.df_theory.specs.Units as model
 use Rattle.df_theory.specs.Units.{Block, BlockPlace, BlockUnit, Parts, Units}
 use Rattle.df_theory.proofs.Laws.{text_bytes}
@@ -32,7 +30,7 @@ use Rattle.df_trailer.proofs.Laws.{text_read}
 use Rattle.df_grid.specs.Grid.{GridState}
 use Rattle.df_grid.specs.Reads.{shown_of}
 use Rattle.df_grid.specs.Table.{no_blocks}
-use Rattle.df_checkpoint.specs.Chain.{OfTold, asked}
+use Rattle.df_checkpoint.specs.Chain.{OfTold}
 use Rattle.df_checkpoint.specs.Reads.{ChainAnswer, IsAdopted, IsComplete}
 use Rattle.df_checkpoint.specs.Waiting.{IsPending, has_op}
 use Rattle.df_checkpoint.specs.declared.fault.TrailerFault.{TrailerFault}
@@ -42,9 +40,9 @@ use Rattle.df_opening.specs.Below.{shape}
 use Rattle.df_mirror.specs.declared.ending.Ending.{Ending}
 use Rattle.df_mirror.specs.declared.ending.Ending.TheVariants.{First, Neither, Second, Sink, Unopened}
 use Rattle.df_mirror.specs.declared.superblock.Superblock.{Superblock}
-use Rattle.df_mirror.specs.Known.{AreShown, ShowsTrailer}
+use Rattle.df_mirror.specs.Known.{AreShown}
 use Rattle.df_mirror.specs.Refusals.{RefusesTrailer}
-use Rattle.df_mirror.specs.Trailers.{ReadsNamed, empty_grid, ending_of, pending_ending}
+use Rattle.df_mirror.specs.Trailers.{ReadsNamed, empty_grid, ending_of}
 use Rattle.df_mirror.specs.Walks.{HasText, ReadsText, content_of, units_of}
 use Rattle.df_mirror.proofs.Chains.{asked_shown, block_shown}
 use Rattle.df_mirror.proofs.Counts.{reference}

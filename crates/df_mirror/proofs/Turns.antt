@@ -1,31 +1,150 @@
--- A turn of a walk: what was mended so far, and what is mended next.
-use Rattle.std.proofs.Common.{◌≡◌, ℕ, List, Option, Some, refl, ◌∙◌}
-use Rattle.std.specs.Prelude.{Result, Ok}
+-- A turn of a walk over known units: what was mended so far and what it leaves, what is mended next, and both together.
+use Rattle.std.proofs.Common.{◌≡◌, ℕ, ◌+◌, ◌≤◌, List, [], ◌++◌, length, Option, Some, refl, sym, ◌∙◌, subst, arith}
+use Rattle.std.proofs.lemmas.Option.{same_Some}
+use Rattle.std.specs.Prelude.{Result, Ok, Err, IfOk, OnOk}
 use Rattle.df_disk.specs.Told.{Told}
 use Rattle.df_format.specs.declared.kind.Kind.{Kind}
-use Rattle.df_theory.specs.Units.{Content}
-use Rattle.df_opening.specs.Below.{DataFile}
+use Rattle.df_layout.specs.declared.layout.Layout.{Layout}
+use Rattle.df_buffers.specs.declared.identity.Identity.{Identity}
+use Rattle.df_buffers.specs.Sounds.{Holding}
+use Rattle.df_theory.specs.Units.{Place, Units}
+use Rattle.df_units.specs.Meaning.{number_of}
+use Rattle.df_telling.specs.Two.{Faults}
+use Rattle.df_opening.specs.Below.{shape}
 use Rattle.df_mirror.specs.declared.ending.Ending.{Ending}
-use Rattle.df_mirror.specs.Mends.{Answers, AreOfKind, Mend}
+use Rattle.df_mirror.specs.declared.ending.Ending.TheVariants.{First}
+use Rattle.df_mirror.specs.declared.superblock.Superblock.{Superblock}
+use Rattle.df_mirror.specs.Known.{IsDue}
+use Rattle.df_mirror.specs.Mends.{Answers, AreAt, AreOfKind, Mend}
 use Rattle.df_mirror.specs.Outside.{Outside, Tell}
-use Rattle.df_mirror.proofs.Joined.{answers_then, kinds_append, more, told_is_whole}
+use Rattle.df_mirror.specs.Taking.{HoldsShown, IsFor, MendsUnit, ShowsUnit, count_in}
+use Rattle.df_mirror.specs.Walks.{Mended, content_of, units_of}
+use Rattle.df_mirror.proofs.Joined.{answers_then, answers_with, kind_at, kinds_append, more, none_came, none_failed, told_is_whole}
 
-module _ (file : DataFile) (c : Content) (Of : List Mend → Type 0) (t o : Told) (old mid : Outside) (a : ℕ) (tell : Tell t o old) (came : Answers file c Of t o mid.first old.written mid.written (Ok a)) where
-  -- both files go on to tell
-  pub tells_on : mid.second ≡ old.second → Tell came.after o mid
-  tells_on same = record {
-    first = came.after_is;
-    second = same ∙ tell.second;
-    whole = told_is_whole file c Of t o came.after mid.first old.written mid.written a tell.whole came came.after_is;
-    other = tell.other;
+-- ---- nothing was mended
+
+module _ (b : Superblock) (Of : List Mend → Type 0) (none : Of []) (t o : Told) (old new : Outside) (tell : Tell t o old) (same : new.first ≡ old.first) (silent : new.written ≡ old.written) (Shows : Units → Type 0) where
+  -- what was shown is
+  pub none_mended : Shows (units_of b t.shown) → Mended b Of t o old new (Ok 0) Shows
+  none_mended shows = record {
+    answers = none_came b.file (content_of b) Of none t o new.first old.written new.written (same ∙ tell.first) silent (λ ms n. 0 ≡ length ms) refl;
+    shown = λ u is. subst (λ (x : Told). Shows (units_of b x.shown)) (same_Some _ _ (sym (same ∙ tell.first) ∙ is)) shows;
   }
 
--- so many of one kind were mended, and then as many more as are answered
-pub turn : (file : DataFile) (c : Content) (kind : Kind) (t o : Told) (old mid new : Outside) (a : ℕ) (result : Result ℕ Ending) (came : Answers file c (AreOfKind kind) t o mid.first old.written mid.written (Ok a))
-    → Answers file c (AreOfKind kind) came.after o new.first mid.written new.written result → Answers file c (AreOfKind kind) t o new.first old.written new.written (more a result)
-turn file c kind t o old mid new a result came rest =
-    answers_then file c (AreOfKind kind) (AreOfKind kind) (AreOfKind kind) (kinds_append kind) t o came.after mid.first new.first old.written mid.written new.written a result came came.after_is rest
+  -- the first file can't be read
+  pub none_read : Mended b Of t o old new (Err First) Shows
+  none_read = record { answers = none_failed b.file (content_of b) Of none t o new.first old.written new.written (same ∙ tell.first) silent; shown = λ u is. tt }
 
--- and behind a read they tell the same
-pub tells_also : (t o : Told) (old new : Outside) → new.first ≡ old.first → Tell t o old → new.second ≡ old.second → Tell t o new
-tells_also t o old new same tell also = record { first = same ∙ tell.first; second = also ∙ tell.second; whole = tell.whole; other = tell.other }
+-- ---- one behind the other
+
+on_more : (a : ℕ) (result : Result ℕ Ending) (P : Type 0) → OnOk result P → OnOk (more a result) P
+on_more a (Ok n) P is = is
+on_more a (Err e) P is = tt
+
+-- so many were mended, and then as many more as are answered
+pub then_mended : {b : Superblock} {Of Then All : List Mend → Type 0} {t o : Told} {old mid new : Outside} {a : ℕ} {Before After : Units → Type 0} → ((ms ls : List Mend) → Of ms → Then ls → All (ms ++ ls)) → Tell t o old → mid.second ≡ old.second
+    → Mended b Of t o old mid (Ok a) Before → (result : Result ℕ Ending) → ((m : Told) → Tell m o mid → Before (units_of b m.shown) → Mended b Then m o mid new result After) → Mended b All t o old new (more a result) After
+then_mended {b = b} {Of = Of} {Then = Then} {All = All} {t = t} {o = o} {old = old} {mid = mid} {new = new} {a = a} {After = After} closed tell same has result next =
+    let came = has.answers in
+    let on : Tell came.after o mid = record {
+      first = came.after_is;
+      second = same ∙ tell.second;
+      whole = told_is_whole b.file (content_of b) Of t o came.after mid.first old.written mid.written a tell.whole came came.after_is;
+      other = tell.other;
+    } in
+    let rest = next came.after on (has.shown came.after came.after_is) in
+    record {
+      answers = answers_then b.file (content_of b) Of Then All closed t o came.after mid.first new.first old.written mid.written new.written a result came came.after_is rest.answers;
+      shown = λ u is. on_more a result (After (units_of b u.shown)) (rest.shown u is);
+    }
+
+-- a read comes behind it
+pub read_behind : {b : Superblock} {Of : List Mend → Type 0} {t o : Told} {old mid new : Outside} {result : Result ℕ Ending} {Shows : Units → Type 0} → Mended b Of t o old mid result Shows → new.first ≡ mid.first → new.written ≡ mid.written → Mended b Of t o old new result Shows
+read_behind {b = b} {Of = Of} {t = t} {o = o} {old = old} {mid = mid} {new = new} {result = result} has same silent = record {
+  answers = subst (λ (x : Option Told). Answers b.file (content_of b) Of t o x old.written new.written result) (sym same)
+      (subst (λ (x : Option (List ℕ)). Answers b.file (content_of b) Of t o mid.first old.written x result) (sym silent) has.answers);
+  shown = λ u is. has.shown u (sym same ∙ is);
+}
+
+on_so : (result : Result ℕ Ending) (P Q : Type 0) → (P → Q) → OnOk result P → OnOk result Q
+on_so (Ok n) P Q says is = says is
+on_so (Err e) P Q says is = tt
+
+-- what is shown says more
+pub shows_more : {b : Superblock} {Of : List Mend → Type 0} {t o : Told} {old new : Outside} {result : Result ℕ Ending} {Before After : Units → Type 0} → ((image : Units) → Before image → After image) → Mended b Of t o old new result Before → Mended b Of t o old new result After
+shows_more {b = b} {result = result} {Before = Before} {After = After} says has = record { answers = has.answers; shown = λ u is. on_so result (Before (units_of b u.shown)) (After (units_of b u.shown)) (says (units_of b u.shown)) (has.shown u is) }
+
+-- it ends there, as a part of more
+pub ends_so : {b : Superblock} {Of All : List Mend → Type 0} {t o : Told} {old new : Outside} {e : Ending} {Before After : Units → Type 0} → ((ms : List Mend) → Of ms → All ms) → Mended b Of t o old new (Err e) Before → Mended b All t o old new (Err e) After
+ends_so {b = b} {Of = Of} {All = All} {t = t} {o = o} {old = old} {new = new} {e = e} of has = record { answers = answers_with b.file (content_of b) Of All t o new.first old.written new.written (Err e) of has.answers; shown = λ u is. tt }
+
+-- ---- one unit
+
+-- what was mended of a unit that was due; the image shows it, where it didn't end there
+pub record MendsDue (b : Superblock) (kind : Kind) (at : Place) (check : List ℕ) (t o : Told) (old new : Outside) (result : Result (Holding × ℕ) Ending) : Type 0 where
+  pub answers : Answers b.file (content_of b) (AreAt kind at) t o new.first old.written new.written (count_in result)
+  pub shows : (m : Told) → new.first ≡ Some m → IfOk result (λ done. ShowsUnit b.file kind at check m.shown done.0.unit)
+
+module _ (b : Superblock) (kind : Kind) (at : Place) (check : List ℕ) (identity : Identity) (for : IsFor b.file kind at check identity) (t o : Told) (old new : Outside) (tell : Tell t o old) where
+  pub holds : (result : Result (Holding × ℕ) Ending) → IfOk result (λ done. HoldsShown kind identity old.first new.first done.0) → (m : Told) → new.first ≡ Some m → IfOk result (λ done. ShowsUnit b.file kind at check m.shown done.0.unit)
+  holds (Ok done) shown m is = shown b.file at check t m for tell.first is tell.whole
+  holds (Err e) shown m is = tt
+
+  pub due_mended : IsDue (shape b.file) (units_of b t.shown) (content_of b) kind at (number_of check) → (result : Result (Holding × ℕ) Ending) → MendsUnit kind identity old new (count_in result) → IfOk result (λ done. HoldsShown kind identity old.first new.first done.0)
+      → MendsDue b kind at check t o old new result
+  due_mended due result mends shown = record { answers = mends b.file (content_of b) at check t o for tell due; shows = holds result shown }
+
+-- one of its kind
+pub of_one : (b : Superblock) (kind : Kind) (at : Place) (t o : Told) (old new : Outside) (result : Result ℕ Ending) (Shows : Units → Type 0) → Answers b.file (content_of b) (AreAt kind at) t o new.first old.written new.written result
+    → ((u : Told) → new.first ≡ Some u → OnOk result (Shows (units_of b u.shown))) → Mended b (AreOfKind kind) t o old new result Shows
+of_one b kind at t o old new result Shows is shown = record { answers = answers_with b.file (content_of b) (AreAt kind at) (AreOfKind kind) t o new.first old.written new.written result (kind_at kind at) is; shown = shown }
+
+-- ---- a walk
+
+-- the second file tells what it did, and no count of faults rose
+pub record IsCalm (old now : Outside) (before after : Faults) : Type 0 where
+  pub same : now.second ≡ old.second
+  pub first : after.first ≡ before.first
+  pub second : after.second ≡ before.second
+  pub sink : after.sink ≡ before.sink
+
+-- How far a walk over units of one kind has come: its room is one of the file, and where it began with what it needs, so many units were mended, not too many, and this is shown.
+pub record Walked (b : Superblock) (kind : Kind) (old now : Outside) (before after : Faults) (room : Layout) (mended most : ℕ) {X : Type 0} (Begins : X → Told → Type 0) (Shows : X → Units → Type 0) : Type 0 where
+  pub calm : IsCalm old now before after
+  pub room_is : room ≡ b.file.layout
+  pub few : mended ≤ most
+  pub mends : (x : X) (t o : Told) → Tell t o old → Begins x t → Mended b (AreOfKind kind) t o old now (Ok mended) (Shows x)
+
+module _ {b : Superblock} {kind : Kind} {old : Outside} {before : Faults} {X : Type 0} {Begins : X → Told → Type 0} where
+  pub begins : {room : Layout} {most : ℕ} {Shows : X → Units → Type 0} → room ≡ b.file.layout → ((x : X) (t : Told) → Begins x t → Shows x (units_of b t.shown)) → Walked b kind old old before before room 0 most Begins Shows
+  begins {Shows = Shows} same shows = record {
+    calm = record { same = refl; first = refl; second = refl; sink = refl };
+    room_is = same;
+    few = omega arith;
+    mends = λ x t o tell is. none_mended b (AreOfKind kind) tt t o old old tell refl refl (Shows x) (shows x t is);
+  }
+
+  module _ {mid : Outside} {between : Faults} {room : Layout} {a most : ℕ} {Shows : X → Units → Type 0} (walked : Walked b kind old mid before between room a most Begins Shows) where
+    -- what the next turn answers is answered
+    turn : {new : Outside} {After : X → Units → Type 0} (result : Result ℕ Ending) → ((x : X) (m o : Told) → Tell m o mid → Shows x (units_of b m.shown) → Mended b (AreOfKind kind) m o mid new result (After x))
+        → (x : X) (t o : Told) → Tell t o old → Begins x t → Mended b (AreOfKind kind) t o old new (more a result) (After x)
+    turn result next x t o tell is = then_mended (kinds_append kind) tell walked.calm.same (walked.mends x t o tell is) result (λ m. next x m o)
+
+    -- it ends there
+    pub stops : {new : Outside} {After : X → Units → Type 0} (e : Ending) → ((x : X) (m o : Told) → Tell m o mid → Shows x (units_of b m.shown) → Mended b (AreOfKind kind) m o mid new (Err e) (After x))
+        → (x : X) (t o : Told) → Tell t o old → Begins x t → (Says : Units → Type 0) → Mended b (AreOfKind kind) t o old new (Err e) Says
+    stops e next x t o tell is Says = ends_so (λ ms of. of) (turn (Err e) next x t o tell is)
+
+    -- or goes on
+    pub goes_on : {new : Outside} {after : Faults} {back : Layout} {one later : ℕ} {After : X → Units → Type 0} → IsCalm mid new between after → back ≡ b.file.layout → a + one ≤ later
+        → ((x : X) (m o : Told) → Tell m o mid → Shows x (units_of b m.shown) → Mended b (AreOfKind kind) m o mid new (Ok one) (After x)) → Walked b kind old new before after back (a + one) later Begins After
+    goes_on {one = one} calm back few next = record {
+      calm = record { same = calm.same ∙ walked.calm.same; first = calm.first ∙ walked.calm.first; second = calm.second ∙ walked.calm.second; sink = calm.sink ∙ walked.calm.sink };
+      room_is = back;
+      few = few;
+      mends = turn (Ok one) next;
+    }
+
+    -- or has come to its end, where what is shown says this
+    pub comes_to : {Says : X → Units → Type 0} → ((x : X) (image : Units) → Shows x image → Says x image) → (x : X) (t o : Told) → Tell t o old → Begins x t → Mended b (AreOfKind kind) t o old mid (Ok a) (Says x)
+    comes_to says x t o tell is = shows_more (says x) (walked.mends x t o tell is)

@@ -8,9 +8,7 @@ use Rattle.df_disk.specs.Told.{Told}
 use Rattle.df_format.specs.declared.kind.Kind.{Kind}
 use Rattle.df_format.specs.declared.kind.Kind.TheVariants.{Block as AsBlock, Prepare, Reply, Reserved, Trailer}
 use Rattle.df_layout.specs.declared.damage.Class.{Class}
-use Rattle.df_layout.specs.declared.layout.Layout.{Layout}
 use Rattle.df_layout.specs.declared.places.Place.{Place as FilePlace}
-use Rattle.df_model.specs.declared.errors.OpenError.{OpenError}
 use Rattle.df_theory.specs.Device.{IsPut}
 use Rattle.df_theory.specs.UnitLog.{put_one}
 use Rattle.df_theory.specs.Units.{AnyUnit, Content, Place, Units}

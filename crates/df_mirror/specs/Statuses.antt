@@ -2,7 +2,7 @@
 use Rattle.std.specs.Prelude.{◌≡◌, ℕ, Bool, true, false}
 use Rattle.df_model.specs.declared.errors.OpenError.TheVariants.{DiskFault}
 use Rattle.df_mirror.specs.declared.ending.Ending.{Ending}
-use Rattle.df_mirror.specs.declared.ending.Ending.TheVariants.{First, Neither, Second, Sink, Unopened}
+use Rattle.df_mirror.specs.declared.ending.Ending.TheVariants.{First, Second, Sink, Unopened}
 use Rattle.df_mirror.specs.declared.status.Status.{Status}
 use Rattle.df_mirror.specs.declared.status.Status.TheVariants as ends
 

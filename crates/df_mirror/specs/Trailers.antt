@@ -1,5 +1,5 @@
 -- What the reading of a trailer answers, before the ops that wait are tested.
-use Rattle.std.specs.Prelude.{◌≡◌, ℕ, List, Result, Ok, Err}
+use Rattle.std.specs.Prelude.{ℕ, Result, Ok, Err}
 use Rattle.df_base.specs.Image.{Image}
 use Rattle.arrayvec.specs.ArrayVec.{ArrayVec}
 use Rattle.df_format.specs.Own.{place_in}

@@ -1,8 +1,8 @@
 -- What each walk has come to: how far the chain is read, which blocks and prepares are shown, and the sessions at the superblock's head.
-use Rattle.std.specs.Prelude.{◌≡◌, ◌⊎◌, ◌-◌, ◌+◌, ◌<◌, ◌≤◌, ℕ, List, ◌∷◌, [], ◌++◌, length, map, take, Option, Some, Result, Ok, Err, IfOk, OnOk}
+use Rattle.std.specs.Prelude.{◌≡◌, ◌⊎◌, ◌+◌, ◌<◌, ◌≤◌, ℕ, List, ◌∷◌, [], ◌++◌, length, map, take, Some, Result, Ok, Err, IfOk, OnOk}
 use Rattle.df_base.specs.Image.{Image}
 use Rattle.df_disk.specs.Told.{Told}
-use Rattle.df_format.specs.declared.kind.Kind.TheVariants.{Block as AsBlock, Prepare, Reply, Trailer}
+use Rattle.df_format.specs.declared.kind.Kind.TheVariants.{Block as AsBlock, Prepare, Reply}
 use Rattle.df_format.specs.declared.header.Header.{Header}
 use Rattle.df_format.specs.declared.reference.Reference.{Reference}
 use Rattle.df_format.specs.Message as format
@@ -28,10 +28,9 @@ use Rattle.df_mirror.specs.declared.ending.Ending.TheVariants.{First, Unopened}
 use Rattle.df_mirror.specs.declared.superblock.Superblock.{Superblock}
 use Rattle.df_mirror.specs.declared.trailer.Text.{Text}
 use Rattle.df_mirror.specs.Known.{AreShown, HasSessions, IsRecorded, IsShownAs, ShowsTrailer}
-use Rattle.df_mirror.specs.Mends.{Answers, AreAt, AreOfKind, units_in}
+use Rattle.df_mirror.specs.Mends.{Answers, AreAt, Mend, units_in}
 use Rattle.df_mirror.specs.Outside.{Outside}
 use Rattle.df_mirror.specs.Refusals.{RefusesTrailer}
-use Rattle.df_mirror.specs.Taking.{count_in}
 
 -- what the superblock says, in the words of the theory
 abbrev pub content_of : Superblock → Content
@@ -40,6 +39,11 @@ content_of b = content_in b.content
 -- what an image of its file shows
 abbrev pub units_of : Superblock → Image → Units
 units_of b image = units_in b.file image
+
+-- What a walk or a part of it does: units are mended, of such a kind or in such an order; and where it ends well, this is shown then.
+pub record Mended (b : Superblock) (Of : List Mend → Type 0) (t o : Told) (old new : Outside) (answer : Result ℕ Ending) (Shows : Units → Type 0) : Type 0 where
+  pub answers : Answers b.file (content_of b) Of t o new.first old.written new.written answer
+  pub shown : (u : Told) → new.first ≡ Some u → OnOk answer (Shows (units_of b u.shown))
 
 -- the address is one of the grid
 abbrev pub IsInside : Superblock → ℕ → Type 0
@@ -65,10 +69,9 @@ abbrev pub GoesOn : Superblock → (at : Reference) → (read : List ℕ) → �
 GoesOn b at read index u (Ok walk) = IsLink (shape b.file) (content_of b) index (block_of u) × (walk.at ≡ before_of u) × (walk.read.items ≡ read ++ at.address ∷ [])
 GoesOn b at read index u (Err e) = (e ≡ broken_at at.address) × (IsLink (shape b.file) (content_of b) index (block_of u) → ⊥)
 
--- one link more is mended
-pub record MendsLink (b : Superblock) (n : ℕ) (t o : Told) (old new : Outside) (result : Result (Walk × ℕ) Ending) : Type 0 where
-  pub answers : Answers b.file (content_of b) (AreOfKind Trailer) t o new.first old.written new.written (count_in result)
-  pub walked : (u : Told) → new.first ≡ Some u → IfOk result (λ done. HasWalked b (units_of b u.shown) n done.0)
+-- the walk goes on, where the link is mended
+abbrev pub WalksTo : Superblock → ℕ → Result (Walk × ℕ) Ending → Units → Type 0
+WalksTo b n result image = IfOk result (λ done. HasWalked b image n done.0)
 
 -- ---- the trailer
 
@@ -92,11 +95,6 @@ ReadsText b image (Err e) = ⊥
 pub record ShowsBlocks (b : Superblock) (image : Units) (grid : GridState) (sessions : List Session) (to : ℕ) : Type 0 where
   pub has : HasText b image grid sessions
   pub shown : (a sum : ℕ) → a ≤ to → sum_at a grid.blocks.live ≡ Some sum → IsShownAs image AsBlock (BlockPlace a) sum
-
--- the block at the next address is mended, if one is referenced there
-pub record MendsBlock (b : Superblock) (grid : GridState) (sessions : List Session) (address : ℕ) {T : Type 0} (t o : Told) (old new : Outside) (result : Result (T × ℕ) Ending) : Type 0 where
-  pub answers : Answers b.file (content_of b) (AreOfKind AsBlock) t o new.first old.written new.written (count_in result)
-  pub shown : (u : Told) → new.first ≡ Some u → OnOk result (ShowsBlocks b (units_of b u.shown) grid sessions address)
 
 -- ---- the prepares
 
@@ -138,14 +136,9 @@ abbrev pub HasNewer : Superblock → Units → ℕ → Type 0
 HasNewer b image k = (r : Message) × (image (ReplyPlace k) ≡ Some (ReplyUnit r)) × (r.header.boot ≡ (content_of b).boot) × ((content_of b).replies < r.header.op)
 
 -- the reply with this checksum is mended, where it is known if its slot shows nothing newer: it is shown then, or something newer is
-pub record MendsRecorded (b : Superblock) (k : ℕ) (check : List ℕ) {T : Type 0} (t o : Told) (old new : Outside) (result : Result (T × ℕ) Ending) : Type 0 where
-  pub answers : ((HasNewer b (units_of b t.shown) k → ⊥) → IsRecorded (shape b.file) (units_of b t.shown) (content_of b) k (number_of check)) → Answers b.file (content_of b) (AreAt Reply (ReplyPlace k)) t o new.first old.written new.written (count_in result)
-  pub shown : (u : Told) → new.first ≡ Some u → OnOk result (HasNewer b (units_of b u.shown) k ⊎ IsShownAs (units_of b u.shown) Reply (ReplyPlace k) (number_of check))
-
--- the reply of the session at the next place is mended, if it is known
-pub record MendsReply (b : Superblock) (slots : Scan) (table : Table) (place : ℕ) {T : Type 0} (t o : Told) (old new : Outside) (result : Result (T × ℕ) Ending) : Type 0 where
-  pub answers : Answers b.file (content_of b) (AreOfKind Reply) t o new.first old.written new.written (count_in result)
-  pub shown : (u : Told) → new.first ≡ Some u → OnOk result (ShowsReplies b (units_of b u.shown) slots table (place + 1))
+pub record MendsRecorded (b : Superblock) (k : ℕ) (check : List ℕ) (t o : Told) (old new : Outside) (answer : Result ℕ Ending) : Type 0 where
+  pub answers : ((HasNewer b (units_of b t.shown) k → ⊥) → IsRecorded (shape b.file) (units_of b t.shown) (content_of b) k (number_of check)) → Answers b.file (content_of b) (AreAt Reply (ReplyPlace k)) t o new.first old.written new.written answer
+  pub shown : (u : Told) → new.first ≡ Some u → OnOk answer (HasNewer b (units_of b u.shown) k ⊎ IsShownAs (units_of b u.shown) Reply (ReplyPlace k) (number_of check))
 
 -- a prepare of the superblock's boot above its head, of this client
 pub record IsLater (b : Superblock) (client : ℕ) (p : Message) : Type 0 where

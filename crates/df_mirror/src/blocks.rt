@@ -1,13 +1,14 @@
 // The blocks that the trailer references, in order of address.
-ghost use Rattle.std.specs.Prelude.{◌≡◌, ◌+◌, ◌<◌, ◌≤◌, List, Some, IfOk, OnOk};
+ghost use Rattle.std.specs.Prelude.{◌≡◌, ◌+◌, ◌<◌, ◌≤◌, List, IfOk};
 ghost use Rattle.df_base.specs.Causes.{IsBlamed};
 ghost use Rattle.df_disk.specs.Told.{Told};
 ghost use Rattle.df_format.specs.declared.kind.Kind.TheVariants.{Block as AsBlock};
 ghost use Rattle.df_sessions.specs.declared.session.Session.{Session};
-ghost use Rattle.df_mirror.specs.Mends.{Answers, AreOfKind};
+ghost use Rattle.df_mirror.specs.Mends.{AreOfKind};
 ghost use Rattle.df_mirror.specs.Outside.{Tell, around};
 ghost use Rattle.df_mirror.specs.Statuses.{is_first, is_second, is_sink};
-ghost use Rattle.df_mirror.specs.Walks.{HasText, MendsBlock, ShowsBlocks, content_of, units_of};
+ghost use Rattle.df_mirror.specs.Taking.{count_in};
+ghost use Rattle.df_mirror.specs.Walks.{HasText, Mended, ShowsBlocks, units_of};
 
 use crate::chain::block_at;
 use crate::ending::Ending;
@@ -31,7 +32,7 @@ fn mend_at<A: Disk, B: Disk, W: Sink>(
     requires inside { before < base.now.file.layout.blocks }
     requires room { room.layout ≡ base.now.file.layout }
     ensures mends { (sessions : List Session) (t o : Told) → Tell t o (around (A.told first.old) (B.told second.old) (W.written sink.old)) → ShowsBlocks base.now (units_of base.now t.shown) grid.now sessions before
-        → MendsBlock base.now grid.now sessions (before + 1) t o (around (A.told first.old) (B.told second.old) (W.written sink.old)) (around (A.told first.new) (B.told second.new) (W.written sink.new)) result }
+        → Mended base.now (AreOfKind AsBlock) t o (around (A.told first.old) (B.told second.old) (W.written sink.old)) (around (A.told first.new) (B.told second.new) (W.written sink.new)) (count_in result) (λ image. ShowsBlocks base.now image grid.now sessions (before + 1)) }
     ensures back { IfOk result (λ done. (done.0.layout ≡ base.now.file.layout) × (done.1 ≤ 1)) }
     ensures same { B.told second.new ≡ B.told second.old }
     ensures first { IsBlamed is_first (A.faults first.old) (A.faults first.new) result }
@@ -62,9 +63,7 @@ pub(crate) fn mend_blocks<A: Disk, B: Disk, W: Sink>(
 ) -> Result<u64, Ending>
     requires room { room.layout ≡ base.now.file.layout }
     ensures mends { (sessions : List Session) (t o : Told) → Tell t o (around (A.told first.old) (B.told second.old) (W.written sink.old)) → HasText base.now (units_of base.now t.shown) grid.now sessions
-        → Answers base.now.file (content_of base.now) (AreOfKind AsBlock) t o (A.told first.new) (W.written sink.old) (W.written sink.new) result }
-    ensures shown { (sessions : List Session) (t o u : Told) → Tell t o (around (A.told first.old) (B.told second.old) (W.written sink.old)) → HasText base.now (units_of base.now t.shown) grid.now sessions → A.told first.new ≡ Some u
-        → OnOk result (ShowsBlocks base.now (units_of base.now u.shown) grid.now sessions base.now.file.layout.blocks) }
+        → Mended base.now (AreOfKind AsBlock) t o (around (A.told first.old) (B.told second.old) (W.written sink.old)) (around (A.told first.new) (B.told second.new) (W.written sink.new)) result (λ image. ShowsBlocks base.now image grid.now sessions base.now.file.layout.blocks) }
     ensures few { IfOk result (λ mended. mended ≤ base.now.file.layout.blocks) }
     ensures same { B.told second.new ≡ B.told second.old }
     ensures first { IsBlamed is_first (A.faults first.old) (A.faults first.new) result }

@@ -1,21 +1,22 @@
 // The chain of trailer blocks: each is mended, from the last to the first, before the one that it names is known.
-ghost use Rattle.std.specs.Prelude.{◌≡◌, ◌==◌, ◌+◌, ◌-◌, ◌<◌, ◌≤◌, ℕ, length, IfNone, IfOk, IfSome, OnOk, Some};
-ghost use Rattle.df_mirror.specs.Mends.{Answers, AreOfKind};
+ghost use Rattle.std.specs.Prelude.{◌≡◌, ◌==◌, ◌+◌, ◌-◌, ◌<◌, ◌≤◌, ℕ, length, IfNone, IfOk, IfSome};
 ghost use Rattle.std.specs.List.{list_any};
 ghost use Rattle.arrayvec.specs.ArrayVec.{array_vec_len};
 ghost use Rattle.df_base.specs.Causes.{IsBlamed};
-ghost use Rattle.df_mirror.specs.Outside.{Tell, around};
 ghost use Rattle.df_disk.specs.Told.{Told};
 ghost use Rattle.df_format.specs.declared.kind.Kind.TheVariants.{Trailer as AsTrailer};
 ghost use Rattle.df_format.specs.Spelling.{IsCheck};
 ghost use Rattle.df_grid.specs.Reads.{at_address};
-ghost use Rattle.df_theory.specs.Trailer.{IsCount, piece_size};
 ghost use Rattle.df_opening.specs.Below.{shape};
-ghost use Rattle.df_mirror.specs.Statuses.{is_first, is_second, is_sink};
 ghost use Rattle.df_theory.specs.Opens.{IsLink};
+ghost use Rattle.df_theory.specs.Trailer.{IsCount, piece_size};
 ghost use Rattle.df_units.specs.Meaning.{block_of};
 ghost use Rattle.df_mirror.specs.Known.{AreShown};
-ghost use Rattle.df_mirror.specs.Walks.{GoesOn, HasWalked, IsInside, MendsLink, before_of, broken_at, content_of, units_of};
+ghost use Rattle.df_mirror.specs.Mends.{AreOfKind};
+ghost use Rattle.df_mirror.specs.Outside.{Tell, around};
+ghost use Rattle.df_mirror.specs.Statuses.{is_first, is_second, is_sink};
+ghost use Rattle.df_mirror.specs.Taking.{count_in};
+ghost use Rattle.df_mirror.specs.Walks.{GoesOn, HasWalked, IsInside, Mended, WalksTo, before_of, broken_at, content_of, units_of};
 
 use crate::ending::Ending;
 use crate::superblock::Superblock;
@@ -152,7 +153,7 @@ fn mend_link<A: Disk, B: Disk, W: Sink>(
     requires room { walk.room.layout ≡ base.now.file.layout }
     ensures mends { (t o : Told) (n : ℕ) → Tell t o (around (A.told first.old) (B.told second.old) (W.written sink.old)) → IsCount (base.now.file.layout.block_size - 256) base.now.content.trailer_size n
         → n ≡ length walk.read.items + (index + 1) → HasWalked base.now (units_of base.now t.shown) n walk
-        → MendsLink base.now n t o (around (A.told first.old) (B.told second.old) (W.written sink.old)) (around (A.told first.new) (B.told second.new) (W.written sink.new)) result }
+        → Mended base.now (AreOfKind AsTrailer) t o (around (A.told first.old) (B.told second.old) (W.written sink.old)) (around (A.told first.new) (B.told second.new) (W.written sink.new)) (count_in result) (WalksTo base.now n result) }
     ensures inside { IfOk result (λ done. 0 < index → IsInside base.now done.0.at.address) }
     ensures more { IfOk result (λ done. (array_vec_len done.0.read ≡ array_vec_len walk.read + 1) × (done.0.room.layout ≡ base.now.file.layout) × (done.1 ≤ 1)) }
     ensures same { B.told second.new ≡ B.told second.old }
@@ -204,9 +205,7 @@ pub(crate) fn mend_chain<A: Disk, B: Disk, W: Sink>(
 ) -> Result<u64, Ending>
     requires room { room.layout ≡ base.now.file.layout }
     ensures mends { (t o : Told) → Tell t o (around (A.told first.old) (B.told second.old) (W.written sink.old))
-        → Answers base.now.file (content_of base.now) (AreOfKind AsTrailer) t o (A.told first.new) (W.written sink.old) (W.written sink.new) result }
-    ensures shown { (t o u : Told) → Tell t o (around (A.told first.old) (B.told second.old) (W.written sink.old)) → A.told first.new ≡ Some u
-        → OnOk result (AreShown (shape base.now.file) (units_of base.now u.shown) (content_of base.now) AsTrailer) }
+        → Mended base.now (AreOfKind AsTrailer) t o (around (A.told first.old) (B.told second.old) (W.written sink.old)) (around (A.told first.new) (B.told second.new) (W.written sink.new)) result (λ image. AreShown (shape base.now.file) image (content_of base.now) AsTrailer) }
     ensures few { IfOk result (λ mended. mended ≤ 70) }
     ensures same { B.told second.new ≡ B.told second.old }
     ensures first { IsBlamed is_first (A.faults first.old) (A.faults first.new) result }

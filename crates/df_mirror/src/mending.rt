@@ -1,14 +1,14 @@
 // All known units, in their order: the trailer, what it references, the prepares, and the replies.
-ghost use Rattle.std.specs.Prelude.{◌≡◌, ◌≤◌, ◌+◌, ◌^◌, length, List, Some, IfOk, OnOk};
-ghost use Rattle.df_mirror.specs.Statuses.{is_first, is_second, is_sink};
+ghost use Rattle.std.specs.Prelude.{◌≡◌, ◌≤◌, ◌+◌, ◌^◌, length, IfOk};
 ghost use Rattle.df_base.specs.Causes.{IsBlamed};
 ghost use Rattle.df_disk.specs.Told.{Told};
-ghost use Rattle.df_mirror.specs.Mends.{Answers, AreInOrder, AreLate};
 ghost use Rattle.df_opening.specs.Below.{shape};
 ghost use Rattle.df_sessions.specs.Requests.{sessions_of};
 ghost use Rattle.df_mirror.specs.Known.{AllShown, ShowsTrailer};
+ghost use Rattle.df_mirror.specs.Mends.{AreInOrder, AreLate};
 ghost use Rattle.df_mirror.specs.Outside.{Tell, around};
-ghost use Rattle.df_mirror.specs.Walks.{ShowsLog, content_of, units_of};
+ghost use Rattle.df_mirror.specs.Statuses.{is_first, is_second, is_sink};
+ghost use Rattle.df_mirror.specs.Walks.{Mended, ShowsLog, content_of, units_of};
 
 use crate::blocks::mend_blocks;
 use crate::chain::mend_chain;
@@ -59,12 +59,10 @@ fn mend_log<A: Disk, B: Disk, W: Sink>(
     requires rooms { rooms.layout ≡ base.now.file.layout }
     requires places { sessions.max ≡ base.now.file.layout.clients }
     requires few { length sessions.sessions ≤ sessions.max }
-    ensures same { B.told second.new ≡ B.told second.old }
     ensures mends { (t o : Told) → Tell t o (around (A.told first.old) (B.told second.old) (W.written sink.old)) → (says : ShowsTrailer (shape base.now.file) (units_of base.now t.shown) (content_of base.now)) → says.parts.sessions ≡ sessions_of sessions.sessions
-        → Answers base.now.file (content_of base.now) AreLate t o (A.told first.new) (W.written sink.old) (W.written sink.new) result }
-    ensures shown { (t o u : Told) → Tell t o (around (A.told first.old) (B.told second.old) (W.written sink.old)) → (says : ShowsTrailer (shape base.now.file) (units_of base.now t.shown) (content_of base.now)) → says.parts.sessions ≡ sessions_of sessions.sessions → A.told first.new ≡ Some u
-        → OnOk result (ShowsLog base.now (units_of base.now t.shown) (units_of base.now u.shown)) }
+        → Mended base.now AreLate t o (around (A.told first.old) (B.told second.old) (W.written sink.old)) (around (A.told first.new) (B.told second.new) (W.written sink.new)) result (ShowsLog base.now (units_of base.now t.shown)) }
     ensures few { IfOk result (λ mended. mended ≤ base.now.file.layout.slots + 64) }
+    ensures same { B.told second.new ≡ B.told second.old }
     ensures first { IsBlamed is_first (A.faults first.old) (A.faults first.new) result }
     ensures second { IsBlamed is_second (B.faults second.old) (B.faults second.new) result }
     ensures sink { IsBlamed is_sink (W.faults sink.old) (W.faults sink.new) result }
@@ -110,8 +108,8 @@ pub(crate) fn mend_all<A: Disk, B: Disk, W: Sink>(
     requires rooms { reserved.rooms.layout ≡ base.now.file.layout }
     requires trailer { reserved.trailer.layout ≡ base.now.file.layout }
     requires block { reserved.block.layout ≡ base.now.file.layout }
-    ensures mends { (t o : Told) → Tell t o (around (A.told first.old) (B.told second.old) (W.written sink.old)) → Answers base.now.file (content_of base.now) AreInOrder t o (A.told first.new) (W.written sink.old) (W.written sink.new) result }
-    ensures shown { (t o u : Told) → Tell t o (around (A.told first.old) (B.told second.old) (W.written sink.old)) → A.told first.new ≡ Some u → OnOk result (AllShown (shape base.now.file) (units_of base.now u.shown) (content_of base.now)) }
+    ensures mends { (t o : Told) → Tell t o (around (A.told first.old) (B.told second.old) (W.written sink.old))
+        → Mended base.now AreInOrder t o (around (A.told first.old) (B.told second.old) (W.written sink.old)) (around (A.told first.new) (B.told second.new) (W.written sink.new)) result (λ image. AllShown (shape base.now.file) image (content_of base.now)) }
     ensures same { B.told second.new ≡ B.told second.old }
     ensures first { IsBlamed is_first (A.faults first.old) (A.faults first.new) result }
     ensures second { IsBlamed is_second (B.faults second.old) (B.faults second.new) result }

@@ -1,18 +1,18 @@
 // The prepares that the superblock names above its checkpoint, from its head down: each names the one before it.
-ghost use Rattle.std.specs.Prelude.{◌≡◌, ◌≤◌, ◌%◌, Some, IfOk, OnOk};
-ghost use Rattle.df_buffers.specs.declared.identity.Wanted.TheVariants.{Checksum as WithChecksum};
+ghost use Rattle.std.specs.Prelude.{◌≡◌, ◌≤◌, ◌%◌, IfOk};
 ghost use Rattle.df_base.specs.Causes.{IsBlamed};
-ghost use Rattle.df_mirror.specs.Mends.{Answers, AreOfKind};
 ghost use Rattle.df_disk.specs.Told.{Told};
-ghost use Rattle.df_format.specs.Spelling.{IsCheck};
-ghost use Rattle.df_mirror.specs.Outside.{Tell, around};
 ghost use Rattle.df_format.specs.declared.kind.Kind.TheVariants.{Prepare as AsPrepare};
+ghost use Rattle.df_format.specs.Spelling.{IsCheck};
+ghost use Rattle.df_buffers.specs.declared.identity.Wanted.TheVariants.{Checksum as WithChecksum};
 ghost use Rattle.df_layout.specs.Spans.{HasPlace};
-ghost use Rattle.df_mirror.specs.Statuses.{is_first, is_second, is_sink};
 ghost use Rattle.df_theory.specs.Units.{PreparePlace};
 ghost use Rattle.df_units.specs.Meaning.{place_of};
+ghost use Rattle.df_mirror.specs.Mends.{AreOfKind};
+ghost use Rattle.df_mirror.specs.Outside.{Tell, around};
+ghost use Rattle.df_mirror.specs.Statuses.{is_first, is_second, is_sink};
 ghost use Rattle.df_mirror.specs.Taking.{count_in};
-ghost use Rattle.df_mirror.specs.Walks.{ShowsNamed, content_of, units_of};
+ghost use Rattle.df_mirror.specs.Walks.{Mended, ShowsNamed};
 
 use crate::ending::Ending;
 use crate::superblock::Superblock;
@@ -50,8 +50,7 @@ pub(crate) fn mend_prepares<A: Disk, B: Disk, W: Sink>(
 ) -> Result<(Raw<Prepare>, u64), Ending>
     requires room { room.layout ≡ base.now.file.layout }
     ensures mends { (t o : Told) → Tell t o (around (A.told first.old) (B.told second.old) (W.written sink.old))
-        → Answers base.now.file (content_of base.now) (AreOfKind AsPrepare) t o (A.told first.new) (W.written sink.old) (W.written sink.new) (count_in result) }
-    ensures named { (t o u : Told) → Tell t o (around (A.told first.old) (B.told second.old) (W.written sink.old)) → A.told first.new ≡ Some u → OnOk result (ShowsNamed base.now (units_of base.now u.shown)) }
+        → Mended base.now (AreOfKind AsPrepare) t o (around (A.told first.old) (B.told second.old) (W.written sink.old)) (around (A.told first.new) (B.told second.new) (W.written sink.new)) (count_in result) (ShowsNamed base.now) }
     ensures back { IfOk result (λ done. (done.0.layout ≡ base.now.file.layout) × (done.1 ≤ base.now.file.layout.slots)) }
     ensures same { B.told second.new ≡ B.told second.old }
     ensures first { IsBlamed is_first (A.faults first.old) (A.faults first.new) result }

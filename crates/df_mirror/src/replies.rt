@@ -1,18 +1,19 @@
 // The replies that the superblock records, of the sessions at its head, in order of place.
-ghost use Rattle.std.specs.Prelude.{◌≡◌, ◌<◌, ◌≤◌, length, slice_get, Some, IfOk, IsFalse, IsTrue, OnOk};
-ghost use Rattle.df_mirror.specs.Mends.{Answers, AreOfKind};
+ghost use Rattle.std.specs.Prelude.{◌≡◌, ◌+◌, ◌<◌, ◌≤◌, length, slice_get, Some, IfOk, IsFalse, IsTrue};
 ghost use Rattle.df_base.specs.Causes.{IsBlamed};
-ghost use Rattle.df_buffers.specs.declared.identity.Wanted.TheVariants.{Checksum as WithChecksum};
-ghost use Rattle.df_mirror.specs.Outside.{Tell, around};
 ghost use Rattle.df_disk.specs.Told.{Told};
 ghost use Rattle.df_format.specs.declared.kind.Kind.TheVariants.{Reply as AsReply};
-ghost use Rattle.df_mirror.specs.Statuses.{is_first, is_second, is_sink};
 ghost use Rattle.df_format.specs.Spelling.{IsCheck};
+ghost use Rattle.df_buffers.specs.declared.identity.Wanted.TheVariants.{Checksum as WithChecksum};
 ghost use Rattle.df_opening.specs.Below.{shape};
 ghost use Rattle.df_theory.specs.Units.{ReplyPlace};
 ghost use Rattle.df_units.specs.Meaning.{place_of};
 ghost use Rattle.df_mirror.specs.Known.{AreShown};
-ghost use Rattle.df_mirror.specs.Walks.{HasHead, IsNewer, MendsRecorded, MendsReply, ShowsReplies, content_of, units_of};
+ghost use Rattle.df_mirror.specs.Mends.{AreOfKind};
+ghost use Rattle.df_mirror.specs.Outside.{Tell, around};
+ghost use Rattle.df_mirror.specs.Statuses.{is_first, is_second, is_sink};
+ghost use Rattle.df_mirror.specs.Taking.{count_in};
+ghost use Rattle.df_mirror.specs.Walks.{HasHead, IsNewer, Mended, MendsRecorded, ShowsReplies, content_of, units_of};
 
 use crate::ending::Ending;
 use crate::sessions::has_later;
@@ -76,7 +77,7 @@ fn mend_recorded<A: Disk, B: Disk, W: Sink>(
 ) -> Result<(Raw<Reply>, u64), Ending>
     requires place { place < base.now.file.layout.clients }
     requires room { room.layout ≡ base.now.file.layout }
-    ensures mends { (t o : Told) → Tell t o (around (A.told first.old) (B.told second.old) (W.written sink.old)) → MendsRecorded base.now place checksum t o (around (A.told first.old) (B.told second.old) (W.written sink.old)) (around (A.told first.new) (B.told second.new) (W.written sink.new)) result }
+    ensures mends { (t o : Told) → Tell t o (around (A.told first.old) (B.told second.old) (W.written sink.old)) → MendsRecorded base.now place checksum t o (around (A.told first.old) (B.told second.old) (W.written sink.old)) (around (A.told first.new) (B.told second.new) (W.written sink.new)) (count_in result) }
     ensures back { IfOk result (λ done. (done.0.layout ≡ base.now.file.layout) × (done.1 ≤ 1)) }
     ensures same { B.told second.new ≡ B.told second.old }
     ensures first { IsBlamed is_first (A.faults first.old) (A.faults first.new) result }
@@ -121,7 +122,7 @@ fn mend_reply<A: Disk, B: Disk, W: Sink>(
     requires table { length slots.now.slots ≡ base.now.file.layout.slots }
     requires room { room.layout ≡ base.now.file.layout }
     ensures mends { (t o : Told) → Tell t o (around (A.told first.old) (B.told second.old) (W.written sink.old)) → ShowsReplies base.now (units_of base.now t.shown) slots.now sessions.now place
-        → MendsReply base.now slots.now sessions.now place t o (around (A.told first.old) (B.told second.old) (W.written sink.old)) (around (A.told first.new) (B.told second.new) (W.written sink.new)) result }
+        → Mended base.now (AreOfKind AsReply) t o (around (A.told first.old) (B.told second.old) (W.written sink.old)) (around (A.told first.new) (B.told second.new) (W.written sink.new)) (count_in result) (λ image. ShowsReplies base.now image slots.now sessions.now (place + 1)) }
     ensures back { IfOk result (λ done. (done.0.layout ≡ base.now.file.layout) × (done.1 ≤ 1)) }
     ensures same { B.told second.new ≡ B.told second.old }
     ensures first { IsBlamed is_first (A.faults first.old) (A.faults first.new) result }
@@ -157,12 +158,10 @@ pub(crate) fn mend_replies<A: Disk, B: Disk, W: Sink>(
     requires places { sessions.now.max ≡ base.now.file.layout.clients }
     requires table { length slots.now.slots ≡ base.now.file.layout.slots }
     requires room { room.layout ≡ base.now.file.layout }
-    ensures same { B.told second.new ≡ B.told second.old }
     ensures mends { (t o : Told) → Tell t o (around (A.told first.old) (B.told second.old) (W.written sink.old)) → HasHead base.now (units_of base.now t.shown) slots.now sessions.now
-        → Answers base.now.file (content_of base.now) (AreOfKind AsReply) t o (A.told first.new) (W.written sink.old) (W.written sink.new) result }
-    ensures shown { (t o u : Told) → Tell t o (around (A.told first.old) (B.told second.old) (W.written sink.old)) → HasHead base.now (units_of base.now t.shown) slots.now sessions.now → A.told first.new ≡ Some u
-        → OnOk result (AreShown (shape base.now.file) (units_of base.now u.shown) (content_of base.now) AsReply) }
+        → Mended base.now (AreOfKind AsReply) t o (around (A.told first.old) (B.told second.old) (W.written sink.old)) (around (A.told first.new) (B.told second.new) (W.written sink.new)) result (λ image. AreShown (shape base.now.file) image (content_of base.now) AsReply) }
     ensures few { IfOk result (λ mended. mended ≤ 64) }
+    ensures same { B.told second.new ≡ B.told second.old }
     ensures first { IsBlamed is_first (A.faults first.old) (A.faults first.new) result }
     ensures second { IsBlamed is_second (B.faults second.old) (B.faults second.new) result }
     ensures sink { IsBlamed is_sink (W.faults sink.old) (W.faults sink.new) result }

@@ -1,5 +1,5 @@
 -- What was mended is told.
-use Rattle.std.proofs.Common.{◌≡◌, ℕ, refl, subst}
+use Rattle.std.proofs.Common.{ℕ, refl, subst}
 use Rattle.std.specs.Prelude.{Result, OnOk}
 use Rattle.df_opening.specs.Below.{shape}
 use Rattle.df_telling.specs.Two.{counts}
@@ -16,8 +16,8 @@ returns-in-Ok-clause-mirrors g c = λ t o tell no.
     record {
       text = g.W.Sink.written c.mend_all-mended.new.sink;
       result = c.mend_all-mended.result;
-      answers = c.mend_all-mended.ensures.mends t o tell;
-      shown = λ count n is same. subst (λ (r : Result ℕ Ending). OnOk r (AllShown (shape b.file) (units_of b n.shown) (content_of b))) is (c.mend_all-mended.ensures.shown t o n tell same);
+      answers = (c.mend_all-mended.ensures.mends t o tell).answers;
+      shown = λ count n is same. subst (λ (r : Result ℕ Ending). OnOk r (AllShown (shape b.file) (units_of b n.shown) (content_of b))) is ((c.mend_all-mended.ensures.mends t o tell).shown n same);
       tells = c.tell.ensures.tells;
     }
 
