@@ -1,21 +1,19 @@
 -- What the status of a copy blames, and what becomes of a source that isn't opened.
 use Rattle.std.proofs.Common.{◌≡◌, inl, inr, ℕ, ◌<◌, ◌≤◌, Bool, true, false, List, [], ◌∷◌, length, map, Option, Some, None, Err, refl, sym, ◌∙◌, ap, subst, arith}
 use Rattle.std.specs.Prelude.{IfNone, get_or}
-use Rattle.df_base.specs.Causes.{Blamed, IsBlamed, Rose}
+use Rattle.df_base.specs.Causes.{Blamed}
 use Rattle.df_base.specs.Image.{IsImage}
 use Rattle.df_base.specs.Log.{Sync}
 use Rattle.df_disk.specs.Told.{Told, after}
-use Rattle.df_inspect.specs.Opening.{open_refusal}
 use Rattle.df_layout.specs.declared.layout.Layout.{Layout}
 use Rattle.df_model.specs.declared.errors.OpenError.{OpenError}
 use Rattle.df_model.specs.declared.errors.OpenError.TheVariants as opens
-use Rattle.df_model.specs.Faults.{is_open_fault}
 use Rattle.df_opening.specs.Below.{Refuses, TellsLayout}
 use Rattle.df_opening.specs.Opened.{StopsOpening}
 use Rattle.df_opening.specs.Surveying.{TellsSurvey}
 use Rattle.df_telling.specs.Telling.{Blames, PrintsError, Writes}
 use Rattle.df_telling.specs.Two.{Faults, HasCauses, Outside}
-use Rattle.df_telling.proofs.Laws.{open_fault, refusal_ends, text_ends}
+use Rattle.df_telling.proofs.Laws.{first_causes, open_fault, printed_causes, refusal_ends, second_causes, text_ends}
 use Rattle.df_words.specs.Names.{NamesLayout, OneLayout}
 use Rattle.df_copy.specs.declared.ending.Ending.{Ending}
 use Rattle.df_copy.specs.declared.ending.Ending.TheVariants.{BlockTooLong, Damaged, NotAtRest, NotBlank, ReplyTooLong, Source, Target, TooFewBlocks, TooFewClients}
@@ -31,44 +29,22 @@ module _ (before now : Faults) (old new : Option (List ℕ)) (status : Status) (
   abbrev Causes : Type 0
   Causes = HasCauses ends.DiskFault ends.WriteFault before now status
 
-  -- a text was printed
-  pub printed_causes : (text : List ℕ) (given : Status) → (given ≡ ends.DiskFault → ⊥) → now.first ≡ before.first → now.second ≡ before.second → Writes ends.WriteFault text given old new status → Causes
-  printed_causes text given other one two printed = record {
-    by_disks = record {
-      rose = λ is. absurd (text_ends ends.WriteFault text given ends.DiskFault old new status printed other (λ no. cc) is);
-      later = (omega (arith, one), omega (arith, two));
-      same = λ no. (one, two);
-    };
-    by_sink = blame;
-  }
-
-  -- the source's disk failed
-  pub first_causes : status ≡ ends.DiskFault → (before.first ≤ now.first) × Rose before.first now.first → now.second ≡ before.second → Causes
-  first_causes is rose two = record { by_disks = record { rose = λ yes. inl rose.1; later = (rose.0, omega (arith, two)); same = λ no. absurd (no is) }; by_sink = blame }
-
-  -- or the target's
-  second_causes : status ≡ ends.DiskFault → now.first ≡ before.first → (before.second ≤ now.second) × Rose before.second now.second → Causes
-  second_causes is one rose = record { by_disks = record { rose = λ yes. inr rose.1; later = (omega (arith, one), rose.0); same = λ no. absurd (no is) }; by_sink = blame }
-
-  -- a source isn't opened
-  pub open_causes : (T : Type 0) (e : OpenError) → IsBlamed {T = T} is_open_fault before.first now.first (Err e) → now.second ≡ before.second → PrintsError ends.Refused ends.DiskFault ends.WriteFault e old new status → Causes
-  open_causes T e blamed two prints = elim (open_fault e) [
-    | inl fault ↦ first_causes (prints.failing fault).0 (subst (λ (x : OpenError). Blamed (is_open_fault x) before.first now.first) fault blamed) two
-    | inr other ↦ printed_causes (open_refusal e) ends.Refused (λ no. cc) (subst (λ (b : Bool). Blamed b before.first now.first) other.1 blamed) two (prints.other other.0)
-  ]
+  -- a refusal was printed
+  refused_causes : (e : Ending) → now.first ≡ before.first → now.second ≡ before.second → Writes ends.WriteFault (ending_text e) ends.Refused old new status → Causes
+  refused_causes e one two printed = printed_causes ends.DiskFault ends.WriteFault before now status blame (λ no. cc) old new (ending_text e) ends.Refused (λ no. cc) one two printed
 
   -- no copy is made, or none whole
   pub ending_causes : (e : Ending) → Blamed (is_source e) before.first now.first → Blamed (is_target e) before.second now.second → (is_fault e ≡ false → Writes ends.WriteFault (ending_text e) ends.Refused old new status)
       → (is_fault e ≡ true → (status ≡ ends.DiskFault) × (new ≡ old)) → Causes
-  ending_causes Source one two refused fault = first_causes (fault refl).0 one two
-  ending_causes Target one two refused fault = second_causes (fault refl).0 one two
-  ending_causes (NotAtRest a b c) one two refused fault = printed_causes (ending_text (NotAtRest a b c)) ends.Refused (λ no. cc) one two (refused refl)
-  ending_causes (TooFewClients a b) one two refused fault = printed_causes (ending_text (TooFewClients a b)) ends.Refused (λ no. cc) one two (refused refl)
-  ending_causes (TooFewBlocks a b) one two refused fault = printed_causes (ending_text (TooFewBlocks a b)) ends.Refused (λ no. cc) one two (refused refl)
-  ending_causes (NotBlank a) one two refused fault = printed_causes (ending_text (NotBlank a)) ends.Refused (λ no. cc) one two (refused refl)
-  ending_causes (ReplyTooLong a b) one two refused fault = printed_causes (ending_text (ReplyTooLong a b)) ends.Refused (λ no. cc) one two (refused refl)
-  ending_causes (BlockTooLong a b) one two refused fault = printed_causes (ending_text (BlockTooLong a b)) ends.Refused (λ no. cc) one two (refused refl)
-  ending_causes (Damaged a b) one two refused fault = printed_causes (ending_text (Damaged a b)) ends.Refused (λ no. cc) one two (refused refl)
+  ending_causes Source one two refused fault = first_causes ends.DiskFault ends.WriteFault before now status blame (fault refl).0 one two
+  ending_causes Target one two refused fault = second_causes ends.DiskFault ends.WriteFault before now status blame (fault refl).0 one two
+  ending_causes (NotAtRest a b c) one two refused fault = refused_causes (NotAtRest a b c) one two (refused refl)
+  ending_causes (TooFewClients a b) one two refused fault = refused_causes (TooFewClients a b) one two (refused refl)
+  ending_causes (TooFewBlocks a b) one two refused fault = refused_causes (TooFewBlocks a b) one two (refused refl)
+  ending_causes (NotBlank a) one two refused fault = refused_causes (NotBlank a) one two (refused refl)
+  ending_causes (ReplyTooLong a b) one two refused fault = refused_causes (ReplyTooLong a b) one two (refused refl)
+  ending_causes (BlockTooLong a b) one two refused fault = refused_causes (BlockTooLong a b) one two (refused refl)
+  ending_causes (Damaged a b) one two refused fault = refused_causes (Damaged a b) one two (refused refl)
 
 -- ---- what is printed, and how it ends
 

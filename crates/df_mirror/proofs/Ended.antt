@@ -1,11 +1,10 @@
 -- What the end of a mending says, and whom it blames.
-use Rattle.std.proofs.Common.{◌≡◌, ◌⊎◌, ◌==◌, inl, inr, ℕ, ◌≤◌, Bool, true, false, List, Option, None, Some, refl, sym, ◌∙◌, ap, subst, arith, eqb-true}
+use Rattle.std.proofs.Common.{◌≡◌, ◌⊎◌, ◌==◌, inl, inr, ℕ, Bool, true, false, List, Option, None, Some, refl, sym, ◌∙◌, ap, subst, eqb-true}
 use Rattle.std.specs.Prelude.{Result, Ok, Err, if◌then◌else◌}
 use Rattle.df_base.specs.Causes.{Blamed, IsBlamed, Rose}
 use Rattle.df_base.specs.Image.{Image}
 use Rattle.df_base.specs.Log.{Sync}
 use Rattle.df_disk.specs.Told.{Told, after, did}
-use Rattle.df_inspect.specs.Opening.{open_refusal}
 use Rattle.df_model.specs.declared.errors.OpenError.{OpenError}
 use Rattle.df_model.specs.declared.errors.OpenError.TheVariants as opens
 use Rattle.df_model.specs.Faults.{is_open_fault}
@@ -16,9 +15,9 @@ use Rattle.df_format.specs.declared.superblock.SuperFault.TheVariants.{Version a
 use Rattle.df_opening.specs.Below.{Refuses}
 use Rattle.df_damage.specs.Found.{Syncs, TellsFoundAs}
 use Rattle.df_damage.specs.Opening.{HasSuperAs}
-use Rattle.df_telling.specs.Telling.{Blames, PrintsError, Writes}
+use Rattle.df_telling.specs.Telling.{Blames, PrintsError}
 use Rattle.df_telling.specs.Two.{Faults, HasCauses, Outside}
-use Rattle.df_telling.proofs.Laws.{its_blame, no_blame, open_fault, refusal_ends, text_ends}
+use Rattle.df_telling.proofs.Laws.{first_causes, its_blame, neither_causes, no_blame, open_fault, printed_causes, refusal_ends, second_causes, text_ends, unopened_causes}
 use Rattle.df_mirror.specs.declared.ending.Ending.{Ending}
 use Rattle.df_mirror.specs.declared.ending.Ending.TheVariants.{First, Neither, Second, Sink, Unopened}
 use Rattle.df_mirror.specs.declared.status.Status.{Status}
@@ -78,10 +77,7 @@ tells_otherwise (Err Sink) old new status tells = let is = tells.0 in (λ memory
 
 -- nothing failed
 pub nothing_causes : (before now : Faults) (status : Status) → now.first ≡ before.first → now.second ≡ before.second → now.sink ≡ before.sink → (status ≡ ends.DiskFault → ⊥) → (status ≡ ends.WriteFault → ⊥) → HasCauses ends.DiskFault ends.WriteFault before now status
-nothing_causes before now status one two three disk sink = record {
-  by_disks = record { rose = λ is. absurd (disk is); later = (omega (arith, one), omega (arith, two)); same = λ no. (one, two) };
-  by_sink = no_blame ends.WriteFault before.sink now.sink status three sink;
-}
+nothing_causes before now status one two three disk sink = neither_causes ends.DiskFault ends.WriteFault before now status (no_blame ends.WriteFault before.sink now.sink status three sink) one two disk
 
 first_open : (e : OpenError) → is_first (Unopened e) ≡ is_open_fault e
 first_open opens.DiskFault = refl
@@ -94,50 +90,24 @@ first_open (opens.Damaged a b) = refl
 first_open opens.BootSpent = refl
 
 module _ (before now : Faults) (old new : Option (List ℕ)) (status : Status) where
-  abbrev Causes : Type 0
-  Causes = HasCauses ends.DiskFault ends.WriteFault before now status
-
-  printed_causes : (text : List ℕ) (given : Status) → (given ≡ ends.DiskFault → ⊥) → now.first ≡ before.first → now.second ≡ before.second → Blames ends.WriteFault before.sink now.sink status → Writes ends.WriteFault text given old new status → Causes
-  printed_causes text given other one two blame printed = record {
-    by_disks = record {
-      rose = λ is. absurd (text_ends ends.WriteFault text given ends.DiskFault old new status printed other (λ no. cc) is);
-      later = (omega (arith, one), omega (arith, two));
-      same = λ no. (one, two);
-    };
-    by_sink = blame;
-  }
-
-  first_causes : status ≡ ends.DiskFault → (before.first ≤ now.first) × Rose before.first now.first → now.second ≡ before.second → Blames ends.WriteFault before.sink now.sink status → Causes
-  first_causes is rose two blame = record { by_disks = record { rose = λ yes. inl rose.1; later = (rose.0, omega (arith, two)); same = λ no. absurd (no is) }; by_sink = blame }
-
-  second_causes : status ≡ ends.DiskFault → now.first ≡ before.first → (before.second ≤ now.second) × Rose before.second now.second → Blames ends.WriteFault before.sink now.sink status → Causes
-  second_causes is one rose blame = record { by_disks = record { rose = λ yes. inr rose.1; later = (omega (arith, one), rose.0); same = λ no. absurd (no is) }; by_sink = blame }
-
-  -- a file isn't opened
-  pub open_causes : (T : Type 0) (e : OpenError) → IsBlamed {T = T} is_open_fault before.first now.first (Err e) → now.second ≡ before.second → Blames ends.WriteFault before.sink now.sink status → PrintsError ends.Refused ends.DiskFault ends.WriteFault e old new status → Causes
-  open_causes T e blamed two blame prints = elim (open_fault e) [
-    | inl fault ↦ first_causes (prints.failing fault).0 (subst (λ (x : OpenError). Blamed (is_open_fault x) before.first now.first) fault blamed) two blame
-    | inr other ↦ printed_causes (open_refusal e) ends.Refused (λ no. cc) (subst (λ (b : Bool). Blamed b before.first now.first) other.1 blamed) two blame (prints.other other.0)
-  ]
+  since_then : (mid : ℕ) → mid ≡ before.sink → Blames ends.WriteFault mid now.sink status → Blames ends.WriteFault before.sink now.sink status
+  since_then mid is blame = subst (λ (n : ℕ). Blames ends.WriteFault n now.sink status) is blame
 
   -- a mending ended so; the sink's count in between is this
   pub mended_causes : (mid : ℕ) (result : Result ℕ Ending) → IsBlamed is_first before.first now.first result → IsBlamed is_second before.second now.second result → IsBlamed is_sink before.sink mid result
-      → ((result ≡ Err Sink → ⊥) → Blames ends.WriteFault mid now.sink status) → (result ≡ Err Sink → now.sink ≡ mid) → Tells result old new status → Causes
+      → ((result ≡ Err Sink → ⊥) → Blames ends.WriteFault mid now.sink status) → (result ≡ Err Sink → now.sink ≡ mid) → Tells result old new status → HasCauses ends.DiskFault ends.WriteFault before now status
   mended_causes mid (Ok count) one two three blame failed tells =
-      printed_causes (count_text count) (ended count) (ended_not count ends.DiskFault (λ no. cc) (λ no. cc)) one two (subst (λ (n : ℕ). Blames ends.WriteFault n now.sink status) three (blame (λ no. cc))) tells
+      printed_causes ends.DiskFault ends.WriteFault before now status (since_then mid three (blame (λ no. cc))) (λ no. cc) old new (count_text count) (ended count) (ended_not count ends.DiskFault (λ no. cc) (λ no. cc)) one two tells
   mended_causes mid (Err (Neither place class)) one two three blame failed tells =
-      printed_causes (neither_text place class) ends.Refused (λ no. cc) one two (subst (λ (n : ℕ). Blames ends.WriteFault n now.sink status) three (blame (λ no. cc))) tells
+      printed_causes ends.DiskFault ends.WriteFault before now status (since_then mid three (blame (λ no. cc))) (λ no. cc) old new (neither_text place class) ends.Refused (λ no. cc) one two tells
   mended_causes mid (Err (Unopened e)) one two three blame failed tells =
-      open_causes ℕ e (subst (λ (b : Bool). Blamed b before.first now.first) (first_open e) one) two (subst (λ (n : ℕ). Blames ends.WriteFault n now.sink status) three (blame (λ no. cc))) tells
-  mended_causes mid (Err First) one two three blame failed tells = first_causes tells.0 one two (subst (λ (n : ℕ). Blames ends.WriteFault n now.sink status) three (blame (λ no. cc)))
-  mended_causes mid (Err Second) one two three blame failed tells = second_causes tells.0 one two (subst (λ (n : ℕ). Blames ends.WriteFault n now.sink status) three (blame (λ no. cc)))
+      unopened_causes ends.DiskFault ends.WriteFault before now status (since_then mid three (blame (λ no. cc))) (λ no. cc) old new ℕ e ends.Refused (λ no. cc) (subst (λ (b : Bool). Blamed b before.first now.first) (first_open e) one) two tells
+  mended_causes mid (Err First) one two three blame failed tells = first_causes ends.DiskFault ends.WriteFault before now status (since_then mid three (blame (λ no. cc))) tells.0 one two
+  mended_causes mid (Err Second) one two three blame failed tells = second_causes ends.DiskFault ends.WriteFault before now status (since_then mid three (blame (λ no. cc))) tells.0 one two
   mended_causes mid (Err Sink) one two three blame failed tells =
       let is : status ≡ ends.WriteFault = tells.0 in
       let same : now.sink ≡ mid = failed refl in
-      record {
-        by_disks = record { rose = λ no. absurd (cc (is, no)); later = (omega (arith, one), omega (arith, two)); same = λ no. (one, two) };
-        by_sink = its_blame ends.WriteFault before.sink now.sink status is (subst (λ (n : ℕ). Rose before.sink n) (sym same) three.1);
-      }
+      neither_causes ends.DiskFault ends.WriteFault before now status (its_blame ends.WriteFault before.sink now.sink status is (subst (λ (n : ℕ). Rose before.sink n) (sym same) three.1)) one two (λ no. cc (is, no))
 
 -- ---- the barrier
 

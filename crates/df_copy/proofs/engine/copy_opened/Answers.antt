@@ -5,10 +5,11 @@ use Rattle.df_layout.specs.declared.layout.Layout.{Layout}
 use Rattle.df_layout.specs.Zones.{file_sectors}
 use Rattle.df_opening.specs.Opened.{MendsAll}
 use Rattle.df_telling.specs.Two.{counts}
+use Rattle.df_telling.proofs.Laws.{printed_causes}
 use Rattle.df_copy.specs.declared.status.Status.TheVariants as ends
 use Rattle.df_copy.specs.Copying.{CopiesInto}
 use Rattle.df_copy.specs.Texts.{copied_text}
-use Rattle.df_copy.proofs.Ended.{copied_ends, ending_causes, ending_ends, ending_prints, printed_causes}
+use Rattle.df_copy.proofs.Ended.{copied_ends, ending_causes, ending_ends, ending_prints}
 use Rattle.df_copy.proofs.Opening.{file_copied, opened_apart}
 use Rattle.df_copy.proofs.engine.copy_opened.Goals as goal
 
@@ -30,8 +31,8 @@ returns-in-Ok-clause-copies g c = λ t whole mends.
 pub returns-in-Ok-clause-causes : goal.returns-in-Ok-clause-causes
 returns-in-Ok-clause-causes g c =
     let ok = c.in-Ok.ensures {u = tt} in
-    printed_causes (counts (g.A.Disk.faults c.args.from.now) (g.B.Disk.faults c.args.to.now) (g.W.Sink.faults c.args.sink.now)) (counts (g.A.Disk.faults c.copy_into.new.from) (g.B.Disk.faults c.copy_into.new.to) (g.W.Sink.faults c.tell_copied.new.sink))
-    (g.W.Sink.written c.args.sink.now) (g.W.Sink.written c.tell_copied.new.sink) c.tell_copied.result c.tell_copied.ensures.sink (copied_text (file_sectors c.args.rooms.layout)) ends.Done (λ no. cc) ok.leaves.blames_source ok.leaves.blames_target c.tell_copied.ensures.line
+    printed_causes ends.DiskFault ends.WriteFault (counts (g.A.Disk.faults c.args.from.now) (g.B.Disk.faults c.args.to.now) (g.W.Sink.faults c.args.sink.now)) (counts (g.A.Disk.faults c.copy_into.new.from) (g.B.Disk.faults c.copy_into.new.to) (g.W.Sink.faults c.tell_copied.new.sink))
+    c.tell_copied.result c.tell_copied.ensures.sink (λ no. cc) (g.W.Sink.written c.args.sink.now) (g.W.Sink.written c.tell_copied.new.sink) (copied_text (file_sectors c.args.rooms.layout)) ends.Done (λ no. cc) ok.leaves.blames_source ok.leaves.blames_target c.tell_copied.ensures.line
 
 pub returns-in-Ok-clause-ends : goal.returns-in-Ok-clause-ends
 returns-in-Ok-clause-ends g c = copied_ends (g.W.Sink.written c.args.sink.now) (g.W.Sink.written c.tell_copied.new.sink) c.tell_copied.result (copied_text (file_sectors c.args.rooms.layout)) c.tell_copied.ensures.line

@@ -3,9 +3,10 @@ use Rattle.std.proofs.Common.{ℕ, inr, Option, refl, subst, sym}
 use Rattle.df_disk.specs.Told.{Told}
 use Rattle.df_opening.specs.Below.{State}
 use Rattle.df_telling.specs.Two.{HasCauses, around, counts}
+use Rattle.df_telling.proofs.Laws.{unopened_causes}
 use Rattle.df_copy.specs.declared.status.Status.TheVariants as ends
 use Rattle.df_copy.specs.Run.{CopiesFile}
-use Rattle.df_copy.proofs.Ended.{not_opened, open_causes, refused_ends}
+use Rattle.df_copy.proofs.Ended.{not_opened, refused_ends}
 use Rattle.df_copy.proofs.engine.copy_reserved.Goals as goal
 
 -- ---- it is opened
@@ -32,8 +33,8 @@ returns-in-Err-clause-does g c = λ t told whole.
 pub returns-in-Err-clause-causes : goal.returns-in-Err-clause-causes
 returns-in-Err-clause-causes g c =
     let to = g.B.Disk.faults c.args.to.now in
-    open_causes (counts (g.A.Disk.faults c.args.from.now) to (g.W.Sink.faults c.args.sink.now)) (counts (g.A.Disk.faults c.open.new.disk) to (g.W.Sink.faults c.refuse_source.new.sink)) (g.W.Sink.written c.args.sink.now)
-    (g.W.Sink.written c.refuse_source.new.sink) c.refuse_source.result c.refuse_source.ensures.sink State c.in-Err.error (c.in-Err.ensures {u = tt}).cause refl c.refuse_source.ensures.prints
+    unopened_causes ends.DiskFault ends.WriteFault (counts (g.A.Disk.faults c.args.from.now) to (g.W.Sink.faults c.args.sink.now)) (counts (g.A.Disk.faults c.open.new.disk) to (g.W.Sink.faults c.refuse_source.new.sink)) c.refuse_source.result c.refuse_source.ensures.sink (λ no. cc)
+    (g.W.Sink.written c.args.sink.now) (g.W.Sink.written c.refuse_source.new.sink) State c.in-Err.error ends.Refused (λ no. cc) (c.in-Err.ensures {u = tt}).cause refl c.refuse_source.ensures.prints
 
 pub returns-in-Err-clause-ends : goal.returns-in-Err-clause-ends
 returns-in-Err-clause-ends g c = refused_ends (g.W.Sink.written c.args.sink.now) (g.W.Sink.written c.refuse_source.new.sink) c.refuse_source.result c.in-Err.error c.refuse_source.ensures.prints

@@ -4,8 +4,9 @@ use Rattle.df_base.specs.Log.{Sync}
 use Rattle.df_disk.specs.Told.{Told, after, did}
 use Rattle.df_damage.specs.Found.{TellsFoundAs}
 use Rattle.df_telling.specs.Two.{HasCauses, around, counts}
+use Rattle.df_telling.proofs.Laws.{unopened_causes}
 use Rattle.df_mirror.specs.declared.status.Status.TheVariants as ends
-use Rattle.df_mirror.proofs.Ended.{has_file, mirrored_then, not_found, nothing_causes, open_causes, refusal_otherwise, version_found}
+use Rattle.df_mirror.proofs.Ended.{has_file, mirrored_then, not_found, nothing_causes, refusal_otherwise, version_found}
 use Rattle.df_mirror.proofs.engine.mend_first.Goals as goal
 
 -- ---- it is found
@@ -67,9 +68,9 @@ returns-clause-runs g c = λ t o tell.
 
 pub returns-clause-causes : goal.returns-clause-causes
 returns-clause-causes g c =
-    open_causes (counts (g.A.Disk.faults c.args.first.now) (g.B.Disk.faults c.args.second.now) (g.W.Sink.faults c.args.sink.now))
-    (counts (g.A.Disk.faults c.survey_superblock.new.disk) (g.B.Disk.faults c.args.second.now) (g.W.Sink.faults c.refuse.new.sink)) (g.W.Sink.written c.args.sink.now) (g.W.Sink.written c.refuse.new.sink) c.refuse.result
-    (Unit {0}) c.in-Err.error c.in-Err.ensures.cause refl c.refuse.ensures.sink c.refuse.ensures.prints
+    unopened_causes ends.DiskFault ends.WriteFault (counts (g.A.Disk.faults c.args.first.now) (g.B.Disk.faults c.args.second.now) (g.W.Sink.faults c.args.sink.now))
+    (counts (g.A.Disk.faults c.survey_superblock.new.disk) (g.B.Disk.faults c.args.second.now) (g.W.Sink.faults c.refuse.new.sink)) c.refuse.result c.refuse.ensures.sink (λ no. cc) (g.W.Sink.written c.args.sink.now) (g.W.Sink.written c.refuse.new.sink)
+    (Unit {0}) c.in-Err.error ends.Refused (λ no. cc) c.in-Err.ensures.cause refl c.refuse.ensures.prints
 
 pub returns-clause-memory : goal.returns-clause-memory
 returns-clause-memory g c = λ is.
