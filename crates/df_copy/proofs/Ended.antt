@@ -8,9 +8,10 @@ use Rattle.df_disk.specs.Told.{Told, after}
 use Rattle.df_layout.specs.declared.layout.Layout.{Layout}
 use Rattle.df_model.specs.declared.errors.OpenError.{OpenError}
 use Rattle.df_model.specs.declared.errors.OpenError.TheVariants as opens
-use Rattle.df_opening.specs.Below.{Refuses, TellsLayout}
+use Rattle.df_opening.specs.Below.{TellsLayout}
 use Rattle.df_opening.specs.Opened.{StopsOpening}
 use Rattle.df_opening.specs.Surveying.{TellsSurvey}
+use Rattle.df_opening.proofs.Laws.{superblock_refused}
 use Rattle.df_telling.specs.Telling.{Blames, PrintsError, Writes}
 use Rattle.df_telling.specs.Two.{Faults, HasCauses, Outside}
 use Rattle.df_telling.proofs.Laws.{first_causes, open_fault, printed_causes, refusal_ends, second_causes, text_ends}
@@ -94,24 +95,13 @@ not_opened layout own t old new status e whole told answer silent barrier stops 
   })
 ]
 
--- what a probe says of a refusal
-probe_refuses : (t : Told) (e : OpenError) → (e ≡ opens.DiskFault → ⊥) → TellsLayout (Some t) (Err e) → Refuses t.shown e
-probe_refuses t opens.DiskFault other tells = absurd (other refl)
-probe_refuses t opens.NotFormatted other tells = tells
-probe_refuses t (opens.NoQuorum a) other tells = tells
-probe_refuses t (opens.Version a) other tells = tells
-probe_refuses t (opens.BadField a b) other tells = tells
-probe_refuses t (opens.LayoutDiffers a b) other tells = absurd tells
-probe_refuses t (opens.Damaged a b) other tells = absurd tells
-probe_refuses t opens.BootSpent other tells = absurd tells
-
 pub not_probed : (layout : Layout) (t : Told) (old new : Outside) (status : Status) (e : OpenError) → old.first ≡ Some t → TellsLayout old.first (Err e) → new.first ≡ old.first → new.second ≡ old.second
     → PrintsError ends.Refused ends.DiskFault ends.WriteFault e old.written new.written status → Outcome layout t old new status
 not_probed layout t old new status e told answer same silent prints = elim (open_fault e) [
   | inl fault ↦ inl ((λ i. record { first = same i; second = silent i; written = (prints.failing fault).1 i }), inr (prints.failing fault).0)
   | inr other ↦ inr (inl (record {
     error = e;
-    why = probe_refuses t e other.0 (subst (λ (o : Option Told). TellsLayout o (Err e)) told answer);
+    why = superblock_refused t e other.0 (subst (λ (o : Option Told). TellsLayout o (Err e)) told answer);
     other = other.0;
     prints = prints.other other.0;
     second = silent;

@@ -12,7 +12,7 @@ use Rattle.df_damage.specs.Surveys.{HasFile}
 use Rattle.df_format.specs.SuperRules.{fault_of}
 use Rattle.df_format.specs.declared.superblock.SuperFields.{SuperFields}
 use Rattle.df_format.specs.declared.superblock.SuperFault.TheVariants.{Version as OtherVersion}
-use Rattle.df_opening.specs.Below.{Refuses}
+use Rattle.df_opening.proofs.Laws.{superblock_refused}
 use Rattle.df_damage.specs.Found.{Syncs, TellsFoundAs}
 use Rattle.df_damage.specs.Opening.{HasSuperAs}
 use Rattle.df_telling.specs.Telling.{Blames, PrintsError}
@@ -124,16 +124,6 @@ synced T old new opens.BootSpent other is = is
 syncs_part : (T : Type 0) (old new : Option Told) (e : OpenError) → e ≡ opens.DiskFault → Syncs {T = T} old new (Err e) → (new ≡ old) ⊎ (new ≡ after Sync old)
 syncs_part T old new e fault is = subst (λ (x : OpenError). Syncs {T = T} old new (Err x)) fault is
 
-refused_of : (t : Told) (e : OpenError) → (e ≡ opens.DiskFault → ⊥) → TellsFoundAs 2 (Some t) (Err e) → Refuses t.shown e
-refused_of t opens.DiskFault other tells = absurd (other refl)
-refused_of t opens.NotFormatted other tells = tells
-refused_of t (opens.NoQuorum a) other tells = tells
-refused_of t (opens.Version a) other tells = tells
-refused_of t (opens.BadField a b) other tells = tells
-refused_of t (opens.LayoutDiffers a b) other tells = absurd tells
-refused_of t (opens.Damaged a b) other tells = absurd tells
-refused_of t opens.BootSpent other tells = absurd tells
-
 -- ---- the superblock can't be used
 
 module _ (T : Type 0) (e : OpenError) (old new : Outside) (status : Status) (barrier : Syncs {T = T} old.first new.first (Err e)) (prints : PrintsError ends.Refused ends.DiskFault ends.WriteFault e old.written new.written status) where
@@ -142,7 +132,7 @@ module _ (T : Type 0) (e : OpenError) (old new : Outside) (status : Status) (bar
     | inl fault ↦ inl (record { undone = record { written = (prints.failing fault).1; told = syncs_part T old.first new.first e fault barrier }; why = inr (prints.failing fault).0 })
     | inr other ↦ inr (record {
       error = e;
-      is = refused_of t e other.0 (subst (λ (o : Option Told). TellsFoundAs 2 o (Err e)) told answer);
+      is = superblock_refused t e other.0 (subst (λ (o : Option Told). TellsFoundAs 2 o (Err e)) told answer);
       prints = prints.other other.0;
       barrier = synced T old.first new.first e other.0 barrier ∙ ap (after Sync) told;
     })
