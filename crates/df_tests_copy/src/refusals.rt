@@ -2,7 +2,7 @@
 use crate::shown::{LEAST, WORKED, copy_failing, done, expect, file_behind, refused, with_body};
 use df_copy::Status;
 use df_memdisk::Strike;
-use df_runs::{blank, expect_words, words};
+use df_runs::{blank, expect_words, long_session, words};
 use std::test::Fail;
 
 // A script over a new small file, and why its copy to the least layout is refused.
@@ -45,6 +45,17 @@ fn a_source_that_does_not_fit_is_refused(rt: HostRuntime) -> Result<(), Fail> {
         }
     }
     Ok(())
+}
+
+// Two hundred ops of four clients, over ten checkpoints of which the last reaches the head.
+#[test]
+fn a_long_session_has_more_clients_than_the_least_layout(rt: HostRuntime) -> Result<(), Fail> {
+    let alloc = rt.alloc();
+    let script = long_session(alloc)?;
+    let mut from = file_behind(alloc, &script)?;
+    let mut to = blank(alloc, &[])?;
+    let text = "refused TooFewClients sessions 4 clients 1\n";
+    expect(alloc, &mut from, &mut to, LEAST, refused(text))
 }
 
 #[test]
