@@ -5,3 +5,4 @@ pub mod State
 pub mod Refusals
 pub mod Strikes
 pub mod Dropping
+pub mod Settled

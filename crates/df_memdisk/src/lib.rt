@@ -4,6 +4,7 @@
 #![tactic(auto)]
 
 mod change;
+mod counted;
 mod dropping;
 mod history;
 mod memory;

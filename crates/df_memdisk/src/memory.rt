@@ -22,7 +22,7 @@ pub struct MemoryDisk {
     alloc: Global,
     pub(crate) past: Vec<Happened>,
     pub(crate) strikes: Vec<Struck>,
-    plan: FaultPlan,
+    pub(crate) plan: FaultPlan,
     refused: u64,
 }
 

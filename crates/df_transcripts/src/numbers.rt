@@ -1,0 +1,102 @@
+// Numbers of a line: plain ones, sectors from one to another, and expressions over what a definition is given.
+use crate::filling::Given;
+use crate::trouble::Trouble;
+use std::alloc::Global;
+
+/// A plain number.
+pub fn number(word: &str) -> Result<u64, Trouble> {
+    match word.parse::<u64>() {
+        Ok(number) => Ok(number),
+        Err(_) => Err(Trouble::NoMeaning("a number is wanted")),
+    }
+}
+
+/// The first and the last of the sectors that a word names: `5`, or `0-3`.
+pub fn span(word: &str) -> Result<(u64, u64), Trouble> {
+    match word.split_once('-') {
+        Some((first, last)) => Ok((number(first)?, number(last)?)),
+        None => {
+            let only = number(word)?;
+            Ok((only, only))
+        }
+    }
+}
+
+/// Two hex digits.
+pub fn byte(word: &str) -> Result<u8, Trouble> {
+    let [high, low] = word.as_bytes() else {
+        return Err(Trouble::NoMeaning("two hex digits are wanted"));
+    };
+    Ok(digit(*high)?.wrapping_mul(16) | digit(*low)?)
+}
+
+fn digit(letter: u8) -> Result<u8, Trouble> {
+    match letter {
+        b'0'..=b'9' => Ok(letter.wrapping_sub(b'0')),
+        b'a'..=b'f' => Ok(letter.wrapping_sub(b'a').wrapping_add(10)),
+        _ => Err(Trouble::NoMeaning("a hex digit is wanted")),
+    }
+}
+
+/// The bytes that hex digits spell.
+pub fn bytes(alloc: Global, words: &[String]) -> Result<Vec<u8>, Trouble> {
+    let mut bytes = Vec::new(alloc);
+    for word in words {
+        add_bytes(&mut bytes, word.as_str())?;
+    }
+    Ok(bytes)
+}
+
+fn add_bytes(bytes: &mut Vec<u8>, word: &str) -> Result<(), Trouble> {
+    let mut high = None;
+    for letter in word.as_bytes() {
+        let half = digit(*letter)?;
+        match high {
+            None => high = Some(half),
+            Some(first) => {
+                bytes.push(half | u8::wrapping_mul(first, 16))?;
+                high = None;
+            }
+        }
+    }
+    match high {
+        None => Ok(()),
+        Some(_) => Err(Trouble::NoMeaning("an even number of hex digits is wanted")),
+    }
+}
+
+// What one step of an expression gives.
+fn step(sign: char, before: u64, number: u64) -> Result<u64, Trouble> {
+    let after = match sign {
+        '+' => before.checked_add(number),
+        '-' => before.checked_sub(number),
+        '*' => before.checked_mul(number),
+        '/' => before.checked_div(number),
+        _ => before.checked_rem(number),
+    };
+    match after {
+        Some(after) => Ok(after),
+        None => Err(Trouble::NoMeaning("an expression has no value")),
+    }
+}
+
+fn is_sign(letter: char) -> bool {
+    matches!(letter, '+' | '-' | '*' | '/' | '%')
+}
+
+/// The value of an expression: numbers and names with signs between them, from left to right.
+pub fn value(alloc: Global, text: &str, given: &Given) -> Result<u64, Trouble> {
+    let mut total = 0u64;
+    let mut sign = '+';
+    let mut part = String::new(alloc);
+    for letter in text.chars() {
+        if is_sign(letter) {
+            total = step(sign, total, given.number(part.as_str())?)?;
+            part = String::new(alloc);
+            sign = letter;
+        } else {
+            part.push(letter)?;
+        }
+    }
+    step(sign, total, given.number(part.as_str())?)
+}
