@@ -137,7 +137,12 @@ pub fn is_said(word: &str) -> bool {
 }
 
 /// Whether what a line says that begins with this word is so.
-pub fn holds(alloc: Global, disks: &mut Disks, what: &str, words: &[String]) -> Result<bool, Trouble> {
+pub fn holds(
+    alloc: Global,
+    disks: &mut Disks,
+    what: &str,
+    words: &[String],
+) -> Result<bool, Trouble> {
     match (what, words) {
         ("calls", [name, count]) => {
             let named = disks.get(name.as_str())?;

@@ -49,7 +49,9 @@ impl Disks {
     }
 
     fn place(&self, name: &str) -> Option<usize> {
-        self.list.iter().position(|named| named.name.as_str() == name)
+        self.list
+            .iter()
+            .position(|named| named.name.as_str() == name)
     }
 
     /// Takes the disk of this name out.
@@ -69,7 +71,11 @@ impl Disks {
 
     /// The disk of this name.
     pub fn get(&mut self, name: &str) -> Result<&mut Named, Trouble> {
-        match self.list.iter_mut().find(|named| named.name.as_str() == name) {
+        match self
+            .list
+            .iter_mut()
+            .find(|named| named.name.as_str() == name)
+        {
             Some(named) => Ok(named),
             None => Err(Trouble::NoMeaning("no such disk")),
         }

@@ -112,7 +112,12 @@ impl Run {
 
     /// How many lines it is to print.
     pub fn answers(&self) -> u64 {
-        let lines = self.wanted.text.as_bytes().iter().filter(|byte| **byte == b'\n');
+        let lines = self
+            .wanted
+            .text
+            .as_bytes()
+            .iter()
+            .filter(|byte| **byte == b'\n');
         lines.count() as u64
     }
 }

@@ -10,29 +10,31 @@ use df_memdisk::{Change, MemoryDisk, Strike};
 use std::alloc::Global;
 use std::mem;
 
+// A read of one sector, and a write, of which a caller's proof is told nothing.
+fn read_in(disk: &mut MemoryDisk, sector: u32, bytes: &mut [u8; SECTOR]) -> bool {
+    disk.read(u64::from(sector), bytes).is_ok()
+}
+
+fn write_in(disk: &mut MemoryDisk, sector: u32, bytes: &[u8; SECTOR]) -> bool {
+    disk.write(u64::from(sector), bytes).is_ok()
+}
+
+const FAILS: Trouble = Trouble::NoMeaning("the disk fails, or has no such sector");
+
 /// What a sector shows.
 pub fn shown(disk: &mut MemoryDisk, sector: u64) -> Result<[u8; SECTOR], Trouble> {
     let mut bytes = [0u8; SECTOR];
-    match read_in(disk, sector, &mut bytes) {
-        true => Ok(bytes),
-        false => Err(Trouble::NoMeaning("the disk fails, or has no such sector")),
+    match u32::try_from(sector) {
+        Ok(sector) if read_in(disk, sector, &mut bytes) => Ok(bytes),
+        _ => Err(FAILS),
     }
-}
-
-// A read of one sector, and a write, of which a caller's proof is told nothing.
-fn read_in(disk: &mut MemoryDisk, sector: u64, bytes: &mut [u8; SECTOR]) -> bool {
-    disk.read(sector, bytes).is_ok()
-}
-
-fn write_in(disk: &mut MemoryDisk, sector: u64, bytes: &[u8; SECTOR]) -> bool {
-    disk.write(sector, bytes).is_ok()
 }
 
 /// Writes a sector, and doesn't sync it.
 pub fn write(disk: &mut MemoryDisk, sector: u64, bytes: &[u8; SECTOR]) -> Result<(), Trouble> {
-    match write_in(disk, sector, bytes) {
-        true => Ok(()),
-        false => Err(Trouble::NoMeaning("the disk fails")),
+    match u32::try_from(sector) {
+        Ok(sector) if write_in(disk, sector, bytes) => Ok(()),
+        _ => Err(FAILS),
     }
 }
 
@@ -168,7 +170,13 @@ pub fn put(disk: &mut MemoryDisk, sector: &str, at: &str, over: &[u8]) -> Result
 }
 
 /// Some bytes of a sector: its number, the first byte's place and how many they are.
-pub fn part(alloc: Global, disk: &mut MemoryDisk, sector: &str, at: &str, size: u64) -> Result<Vec<u8>, Trouble> {
+pub fn part(
+    alloc: Global,
+    disk: &mut MemoryDisk,
+    sector: &str,
+    at: &str,
+    size: u64,
+) -> Result<Vec<u8>, Trouble> {
     let bytes = shown(disk, number(sector)?)?;
     let mut part = Vec::new(alloc);
     let at = number(at)? as usize;
@@ -186,7 +194,7 @@ fn transfer(from: &mut MemoryDisk, to: &mut MemoryDisk, count: u64) -> Result<()
     }
     match to.sync() {
         Ok(()) => Ok(()),
-        Err(_) => Err(Trouble::NoMeaning("the disk fails")),
+        Err(_) => Err(FAILS),
     }
 }
 

@@ -1,4 +1,6 @@
 // Checksums of forged sectors: those of a superblock copy, and of a header with the body behind it.
+ghost use Rattle.std.specs.Prelude.{◌≤◌, IfOk};
+
 use crate::numbers::number;
 use crate::sectors::{overlay, shown, write};
 use crate::trouble::Trouble;
@@ -8,19 +10,30 @@ use df_memdisk::MemoryDisk;
 // Where a superblock copy's content begins, behind its checksum and its number.
 const CONTENT: usize = 32;
 
-// The checksum of the body behind a header at this place, of which the header says the size.
-fn seal_body(bytes: &mut [u8; SECTOR], at: usize) {
-    let size = u32_at(bytes, at.saturating_add(112)) as usize;
-    let from = at.saturating_add(HEADER).min(SECTOR);
-    let to = at.saturating_add(size).clamp(from, SECTOR);
-    let sum = check(&bytes[from..to]);
-    overlay(bytes, at.saturating_add(16), &sum);
+// A place in a sector that has room for a header.
+fn place(word: &str) -> Result<usize, Trouble>
+    ensures { IfOk result (λ at. at ≤ 3840) }
+{
+    match number(word)? {
+        at if at <= 3840 => Ok(at as usize),
+        _ => Err(Trouble::NoMeaning("no header has room there")),
+    }
 }
 
-fn seal_header(bytes: &mut [u8; SECTOR], at: usize) {
-    let from = at.saturating_add(16).min(SECTOR);
-    let to = at.saturating_add(HEADER).clamp(from, SECTOR);
-    let sum = check(&bytes[from..to]);
+// The checksum of the body behind a header at this place, of which the header says the size.
+fn seal_body(bytes: &mut [u8; SECTOR], at: usize)
+    requires { at ≤ 3840 }
+{
+    let size = u32_at(bytes, at + 112) as usize;
+    let behind = &bytes[at + HEADER..];
+    let sum = check(&behind[..size.saturating_sub(HEADER).min(behind.len())]);
+    overlay(bytes, at + 16, &sum);
+}
+
+fn seal_header(bytes: &mut [u8; SECTOR], at: usize)
+    requires { at ≤ 3840 }
+{
+    let sum = check(&bytes[at + 16..at + HEADER]);
     overlay(bytes, at, &sum);
 }
 
@@ -37,12 +50,12 @@ pub fn seal(disk: &mut MemoryDisk, words: &[String]) -> Result<(), Trouble> {
             overlay(&mut bytes, 0, &sum);
         }
         [kind, at] if kind.as_str() == "unit" => {
-            let at = number(at.as_str())? as usize;
+            let at = place(at.as_str())?;
             seal_body(&mut bytes, at);
             seal_header(&mut bytes, at);
         }
         [kind, at] if kind.as_str() == "header" => {
-            seal_header(&mut bytes, number(at.as_str())? as usize);
+            seal_header(&mut bytes, place(at.as_str())?);
         }
         _ => return Err(Trouble::NoMeaning("no such checksum")),
     }
