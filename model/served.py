@@ -10,7 +10,7 @@ from tries import filecopies, filemirrors, form, objects, recovery, units
 from tries.disks import Disk, Failed
 from tries.form import CLIENT_REPLIES, COPIES, GRID, SECTOR, WAL_PREPARES, Place
 from tries.superblock import Content
-from tries.units import NO_BYTES, PREPARE, REPLY, Unit
+from tries.units import NO_BYTES, REPLY, Unit
 from tries.words import layout_of, meaning
 
 STATUSES = ("Done", "Found", "Words", "Script", "Refused", "DiskFault", "ReadFault", "WriteFault", "Memory")
@@ -81,22 +81,24 @@ def pieces(text: bytes) -> list:
 
 
 class Done(list):
-    """Events that are done when they are added; none is kept."""
+    """Events that are done when they are added; none is kept. What a machine writes of the superblock is read back."""
 
     def __init__(self, file: File, machine=None):
         super().__init__()
         self.file, self.machine = file, machine
 
     def append(self, event) -> None:
-        imitation.perform(self.file, self.machine, [event])
+        self.__iadd__([event])
 
     def __iadd__(self, events):
         if self.machine is not None:
             imitation.perform(self.file, self.machine, list(events))
             return self
-        # Nothing of a second file is read back.
         for event in events:
-            self.append(event)
+            if event.kind == "write":
+                self.file.write(event.at, event.data)
+            else:
+                self.file.sync()
         return self
 
 
@@ -205,14 +207,6 @@ class Mirror(filemirrors.Mirror):
             one = self.shown(Place(CLIENT_REPLIES, place))
             if not recovery.is_own(one, content) or one.op <= content.replies:
                 self.unit(Place(CLIENT_REPLIES, place), REPLY, checksum)
-
-    def prepares(self) -> list:
-        content, wanted, found = self.content, self.content.pin_checksum(), []
-        for op in range(content.pin(), content.op, -1):
-            one = self.unit(Place(WAL_PREPARES, op % content.slots), PREPARE, wanted)
-            found.insert(0, one)
-            wanted = one.parent
-        return found
 
 
 def filemirror(files: list, words: list) -> int:
