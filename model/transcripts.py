@@ -4,8 +4,8 @@
     python3 model/transcripts.py FILE.. [--bugs]
 
 Prints for each file how many cases and answers it has, or each line that the model doesn't confirm and what came; ends with status 1 then.
-With `--bugs` it says which of the model's own bugs each file tells, and which of them no file does. With BUG in the environment the model
-has that bug. See docs/evidence/MODEL-TRIES.md.
+With `--bugs` it says of each of the model's own bugs which file finds it first, if one does. With BUG in the environment the model has that
+bug. See docs/evidence/MODEL-TRIES.md.
 """
 
 import sys
@@ -244,33 +244,27 @@ def told(paths: list) -> int:
 
 
 def told_bugs(paths: list) -> int:
-    """Tells which bugs of the model each file finds, and which ones none of them does."""
-    names, left = [name for names in bugs.LEVELS.values() for name in names], set()
-    left.update(names)
-    for path in paths:
-        for name in names:
-            bugs.BUG = name
-            if found(path):
-                left.discard(name)
-                print(f"{os.path.basename(path)}: {name}", flush=True)
-    for name in sorted(left):
-        print(f"not found: {name}")
+    """Tells of each bug of the model which file finds it first, and where, or that none does."""
+    for bugs.BUG in bugs.ALL:
+        where = next((where for where in map(found, paths) if where), "not found")
+        print(f"{bugs.BUG}: {where}", flush=True)
     return 0
 
 
-def found(path: str) -> bool:
-    """Whether a file tells the bug that the model has."""
+def found(path: str) -> str:
+    """Where a file finds the bug that the model has; nothing where it doesn't."""
     try:
-        return bool(played(path, True).failures)
-    except Exception:
+        failures = played(path, True).failures
+    except Exception as error:
         # A bug may also break the model.
-        return True
+        failures = [type(error).__name__]
+    return f"{os.path.basename(path)}, {failures[0].splitlines()[0]}" if failures else ""
 
 
 def main() -> int:
     parser = argparse.ArgumentParser(description="Plays transcripts with the independent model in the place of the programs.")
     parser.add_argument("files", nargs="+", help="the transcripts")
-    parser.add_argument("--bugs", action="store_true", help="say which of the model's own bugs are told")
+    parser.add_argument("--bugs", action="store_true", help="say which of the model's own bugs are found")
     given = parser.parse_args()
     bugs.refuse_unknown()
     return told_bugs(given.files) if given.bugs else told(given.files)
