@@ -11,6 +11,20 @@ class End(Exception):
     """The run ends with this status."""
 
 
+class Streams:
+    """Standard input and output."""
+
+    def read(self, most: int) -> bytes:
+        return os.read(0, most)
+
+    def write(self, text: bytes) -> int:
+        return os.write(1, text)
+
+
+# What `served.py` puts others in the place of.
+STREAMS = [Streams()]
+
+
 class File:
     """The data file, opened on first use."""
 
@@ -65,7 +79,7 @@ def tell(text: bytes) -> None:
     """Writes one answer."""
     while text:
         try:
-            taken = os.write(1, text)
+            taken = STREAMS[0].write(text)
         except OSError:
             raise End(WRITE) from None
         if not taken:
@@ -79,7 +93,8 @@ def refuse(words: str) -> None:
 
 
 def lines_of(longest: int):
-    """Each line of standard input, with whether it had its byte 10; a line that grows too long comes early."""
+    """Each line of standard input; a line that grows too long comes early. What is read fits into the room of one longest line with its
+    byte 10, beside what is held."""
     kept, ended = b"", False
     while True:
         at = kept.find(b"\n")
@@ -92,7 +107,7 @@ def lines_of(longest: int):
             return
         else:
             try:
-                piece = os.read(0, 65536)
+                piece = STREAMS[0].read(longest + 1 - len(kept))
             except OSError:
                 raise End(READ) from None
             kept, ended = kept + piece, not piece

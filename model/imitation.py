@@ -23,6 +23,9 @@ from tries.words import USAGE, meaning
 from wrong import Machine, Rules, choose, read, seen_copies
 from wrong_scrub import counted, inspection, tour
 
+# The lines of a summary.
+SUMMARY = 8
+
 
 def copies_of(file: File) -> list:
     """The four copies."""
@@ -265,9 +268,15 @@ def tell_all(lines: list) -> None:
         tell(line.encode() + b"\n")
 
 
+def tell_summary(lines: list) -> list:
+    """Writes the eight lines of a summary as one; gives those behind it."""
+    tell(b"".join(line.encode() + b"\n" for line in lines[:SUMMARY]))
+    return lines[SUMMARY:]
+
+
 def recover(file: File) -> int:
     """The word `recover`."""
-    tell_all(reports.summary(opened(file).view()))
+    tell_summary(reports.summary(opened(file).view()))
     return DONE
 
 
@@ -276,16 +285,17 @@ def inspect(file: File) -> int:
     _, found = survey(file)
     if has("inspect mends"):
         opened(file)
-    lines = inspection(found)
-    tell_all(lines)
+    tell_all(tell_summary(inspection(found)))
     return FOUND if found.to_mend and not has("findings don't count for the status") else DONE
 
 
 def scrub(file: File) -> int:
-    """The word `scrub`."""
-    lines = tour(opened(file))
-    tell_all(lines)
-    return FOUND if len(lines) > 1 and not has("findings don't count for the status") else DONE
+    """The word `scrub`. Each line is told before the next block is read."""
+    count = 0
+    for line in tour(opened(file)):
+        tell_all([line])
+        count += 1
+    return FOUND if count > 1 and not has("findings don't count for the status") else DONE
 
 
 def upgrade(file: File) -> int:
@@ -297,7 +307,8 @@ def upgrade(file: File) -> int:
 def work(file: File, seed: int, count: int) -> int:
     """The word `workload`."""
     machine = opened(file)
-    tell_all(counted(machine, seed, count, Performed(file, machine), []))
+    lines = counted(machine, seed, count, Performed(file, machine), [])
+    tell(b"".join(line.encode() + b"\n" for line in lines))
     return DONE
 
 
@@ -329,6 +340,17 @@ def perform(file: File, machine: Machine, events: list) -> None:
             read_back(file, machine)
 
 
+CALLS = {"run": run, "format": make, "recover": recover, "inspect": inspect, "scrub": scrub, "upgrade": upgrade, "workload": work, "paced": run}
+
+
+def act(asked, file_of) -> int:
+    """Does what the words ask for, over the file that is opened for it."""
+    if asked is None:
+        tell(USAGE)
+        return WORDS
+    return CALLS[asked[0]](file_of(), *asked[1:])
+
+
 def main() -> int:
     refuse_unknown()
     fill_streams()
@@ -343,12 +365,7 @@ def main() -> int:
     if has("leading zeros are taken") and asked is None and len(words) == 4:
         asked = meaning([words[1], words[2], words[3].lstrip(b"0") or b"0"])
     try:
-        if asked is None:
-            tell(USAGE)
-            return WORDS
-        file = File(words[0])
-        calls = {"run": run, "format": make, "recover": recover, "inspect": inspect, "scrub": scrub, "upgrade": upgrade, "workload": work, "paced": run}
-        return calls[asked[0]](file, *asked[1:])
+        return act(asked, lambda: File(words[0]))
     except End as end:
         return end.args[0]
 

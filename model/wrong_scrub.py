@@ -1,6 +1,6 @@
 """The model's scrubber, reports and workload for `imitation.py`, with the one bug that is named."""
 
-from typing import Optional, Union
+from typing import Iterator, Optional, Union
 
 import wrong_grid
 from tries import reports, units, workload
@@ -86,13 +86,13 @@ class Machine(wrong_grid.Machine):
         return super().recent()
 
 
-def tour(machine: Machine) -> list:
-    """The lines of a whole tour."""
-    lines = reports.tour(machine)
-    if has("scrub stops at the first failing block") and len(lines) > 1:
-        count = int(lines[0].split()[1])
-        return [lines[0], f"tour {count} 1"]
-    return lines
+def tour(machine: Machine) -> Iterator[str]:
+    """The lines of a whole tour, each as it is found."""
+    for line in reports.tour(machine):
+        yield line
+        if has("scrub stops at the first failing block") and line.startswith("failing"):
+            yield f"tour {line.split()[1]} 1"
+            return
 
 
 def inspection(found) -> list:

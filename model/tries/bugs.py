@@ -232,12 +232,13 @@ GROUPS = (
     "an append passes over what is staged",
     "nothing is flushed without a word",
 )
+ALL = (*NAMES, *BLOCKS, *WORDS, *GROUPS)
 BUG = os.environ.get("BUG", "")
 
 
 def has(name: str) -> bool:
     """Whether this is the bug that was asked for."""
-    assert name in (*NAMES, *BLOCKS, *WORDS, *GROUPS), name
+    assert name in ALL, name
     return name == BUG
 
 

@@ -1,6 +1,6 @@
 """The words `recover`, `inspect`, `scrub` and `upgrade`, as docs/SCRIPT.md has them: what they print, and what they do to the file."""
 
-from typing import Optional
+from typing import Iterator, Optional
 
 from . import recovery, script
 from .form import Image
@@ -31,15 +31,15 @@ def inspection(found: Found) -> list:
     return [*listed, f"findings {len(found.to_mend)}"]
 
 
-def tour(machine: Machine) -> list:
-    """The lines of a whole tour."""
-    listed = []
+def tour(machine: Machine) -> Iterator[str]:
+    """The lines of a whole tour, each as it is found."""
     while True:
         word, *rest = machine.scrub()[0].data.decode().split()
         if word == "tour":
-            return [*listed, " ".join([word, *rest])]
+            yield " ".join([word, *rest])
+            return
         if rest[1] != "Sound":
-            listed.append("failing " + " ".join(rest))
+            yield "failing " + " ".join(rest)
 
 
 def told(lines: list) -> list:
@@ -88,5 +88,5 @@ def scrub(data: Optional[bytes]) -> Outcome:
         return refused
     machine = Machine(found, Image(data))
     events = opens(found, machine)
-    lines = tour(machine)
+    lines = list(tour(machine))
     return Outcome(data, DONE if len(lines) == 1 else FOUND, events + told(lines), [(found.view, 0, 0)], machine)
