@@ -11,7 +11,7 @@ use std::alloc::Global;
 const MOST_SECTORS: u64 = 4096;
 
 /// These numbers.
-pub fn numbers(alloc: Global, words: &[String]) -> Result<Vec<u64>, Trouble> {
+pub(crate) fn numbers(alloc: Global, words: &[String]) -> Result<Vec<u64>, Trouble> {
     let mut numbers = Vec::new(alloc);
     for word in words {
         numbers.push(number(word.as_str())?)?;
@@ -73,7 +73,12 @@ fn act_on(alloc: Global, named: &mut Named, act: &str, words: &[String]) -> Resu
 }
 
 /// Does what a line says that begins with this word.
-pub fn act(alloc: Global, disks: &mut Disks, act: &str, words: &[String]) -> Result<(), Trouble> {
+pub(crate) fn act(
+    alloc: Global,
+    disks: &mut Disks,
+    act: &str,
+    words: &[String],
+) -> Result<(), Trouble> {
     let [name, rest @ ..] = words else {
         return Err(Trouble::NoMeaning("no disk is named"));
     };
@@ -132,12 +137,12 @@ fn are_loose(named: &Named, words: &[String]) -> Result<bool, Trouble> {
 }
 
 /// Whether a line begins with a word that says what a disk was asked or shows.
-pub fn is_said(word: &str) -> bool {
+pub(crate) fn is_said(word: &str) -> bool {
     matches!(word, "calls" | "events" | "bytes" | "same" | "loose")
 }
 
 /// Whether what a line says that begins with this word is so.
-pub fn holds(
+pub(crate) fn holds(
     alloc: Global,
     disks: &mut Disks,
     what: &str,

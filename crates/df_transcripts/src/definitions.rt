@@ -15,7 +15,7 @@ struct Definition {
 
 /// All that a transcript has defined so far.
 #[derive(Drop)]
-pub struct Definitions {
+pub(crate) struct Definitions {
     list: Vec<Definition>,
 }
 
@@ -30,14 +30,14 @@ fn copied(alloc: Global, words: &[String]) -> Result<Vec<String>, Trouble> {
 
 impl Definitions {
     /// None.
-    pub fn new(alloc: Global) -> Definitions {
+    pub(crate) fn new(alloc: Global) -> Definitions {
         Definitions {
             list: Vec::new(alloc),
         }
     }
 
     /// Takes a definition off the lines that are still to be played, up to its `end`. The words are its name and its parameters.
-    pub fn take(
+    pub(crate) fn take(
         &mut self,
         alloc: Global,
         words: &[String],
@@ -73,7 +73,7 @@ impl Definitions {
     }
 
     /// Puts the lines of a definition before those that are still to be played. The words are its name and its arguments.
-    pub fn unfold(
+    pub(crate) fn unfold(
         &self,
         alloc: Global,
         words: &[String],
@@ -122,7 +122,7 @@ fn turn(alloc: Global, name: &str, number: u64, arguments: &[String]) -> Result<
 
 /// Puts a line for each number from the first to the last before those that are still to be played. The words are the
 /// definition's name and its further arguments.
-pub fn unfold_each(
+pub(crate) fn unfold_each(
     alloc: Global,
     at: u64,
     (first, last): (u64, u64),

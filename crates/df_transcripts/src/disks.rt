@@ -5,7 +5,7 @@ use std::alloc::Global;
 
 /// A disk with a name.
 #[derive(Drop)]
-pub struct Named {
+pub(crate) struct Named {
     pub name: String,
     pub disk: MemoryDisk,
     /// How many events its log had when that was last marked.
@@ -18,7 +18,7 @@ pub struct Named {
 
 impl Named {
     /// A disk of this name.
-    pub fn new(alloc: Global, name: &str, disk: MemoryDisk) -> Result<Named, Trouble> {
+    pub(crate) fn new(alloc: Global, name: &str, disk: MemoryDisk) -> Result<Named, Trouble> {
         Ok(Named {
             name: String::from_str(alloc, name)?,
             disk,
@@ -29,20 +29,20 @@ impl Named {
     }
 
     /// Remembers what it was asked so far.
-    pub fn begin_run(&mut self) {
+    pub(crate) fn begin_run(&mut self) {
         self.before = (self.disk.calls(), self.disk.events());
     }
 }
 
 /// The disks of a case.
 #[derive(Drop)]
-pub struct Disks {
+pub(crate) struct Disks {
     list: Vec<Named>,
 }
 
 impl Disks {
     /// None.
-    pub fn new(alloc: Global) -> Disks {
+    pub(crate) fn new(alloc: Global) -> Disks {
         Disks {
             list: Vec::new(alloc),
         }
@@ -55,7 +55,7 @@ impl Disks {
     }
 
     /// Takes the disk of this name out.
-    pub fn take(&mut self, name: &str) -> Result<Named, Trouble> {
+    pub(crate) fn take(&mut self, name: &str) -> Result<Named, Trouble> {
         match self.place(name) {
             Some(place) if place < self.list.len() => Ok(self.list.swap_remove(place)),
             _ => Err(Trouble::NoMeaning("no such disk")),
@@ -63,14 +63,14 @@ impl Disks {
     }
 
     /// Puts a disk in the place of one of its name, if there is one.
-    pub fn put(&mut self, named: Named) -> Result<(), Trouble> {
+    pub(crate) fn put(&mut self, named: Named) -> Result<(), Trouble> {
         let _ = self.take(named.name.as_str());
         self.list.push(named)?;
         Ok(())
     }
 
     /// The disk of this name.
-    pub fn get(&mut self, name: &str) -> Result<&mut Named, Trouble> {
+    pub(crate) fn get(&mut self, name: &str) -> Result<&mut Named, Trouble> {
         match self
             .list
             .iter_mut()
@@ -82,14 +82,14 @@ impl Disks {
     }
 
     /// Remembers what each was asked so far.
-    pub fn begin_run(&mut self) {
+    pub(crate) fn begin_run(&mut self) {
         for named in self.list.iter_mut() {
             named.begin_run();
         }
     }
 
     /// Whether a disk was refused memory.
-    pub fn are_refused(&self) -> bool {
+    pub(crate) fn are_refused(&self) -> bool {
         self.list.iter().any(|named| named.disk.refused() != 0)
     }
 }

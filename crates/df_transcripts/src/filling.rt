@@ -5,14 +5,14 @@ use std::alloc::Global;
 
 /// What a definition is given: its parameters, each with its argument.
 #[derive(Drop)]
-pub struct Given {
+pub(crate) struct Given {
     pub names: Vec<String>,
     pub texts: Vec<String>,
 }
 
 impl Given {
     /// Nothing.
-    pub fn none(alloc: Global) -> Given {
+    pub(crate) fn none(alloc: Global) -> Given {
         Given {
             names: Vec::new(alloc),
             texts: Vec::new(alloc),
@@ -20,7 +20,7 @@ impl Given {
     }
 
     /// What a parameter of this name is given.
-    pub fn text(&self, name: &str) -> Option<&str> {
+    pub(crate) fn text(&self, name: &str) -> Option<&str> {
         for (known, text) in self.names.iter().zip(self.texts.iter()) {
             if known.as_str() == name {
                 return Some(text.as_str());
@@ -30,7 +30,7 @@ impl Given {
     }
 
     /// The number that a parameter is given, or that the word is.
-    pub fn number(&self, word: &str) -> Result<u64, Trouble> {
+    pub(crate) fn number(&self, word: &str) -> Result<u64, Trouble> {
         match self.text(word) {
             Some(text) => number(text),
             None => number(word),
@@ -71,7 +71,7 @@ fn add_value(alloc: Global, line: &mut String, inner: &str, given: &Given) -> Re
 }
 
 /// The line with all its braces replaced.
-pub fn fill(alloc: Global, line: &str, given: &Given) -> Result<String, Trouble> {
+pub(crate) fn fill(alloc: Global, line: &str, given: &Given) -> Result<String, Trouble> {
     let mut filled = String::new(alloc);
     let mut rest = line;
     for _ in 0..line.len() {

@@ -5,7 +5,7 @@ use std::alloc::Global;
 
 /// A line, with its number in the file. In one that comes from a definition the braces are replaced already.
 #[derive(Drop)]
-pub struct Line {
+pub(crate) struct Line {
     pub number: u64,
     pub text: String,
     pub filled: bool,
@@ -13,7 +13,7 @@ pub struct Line {
 
 impl Line {
     /// Its text, with braces replaced.
-    pub fn full(&self, alloc: Global) -> Result<String, Trouble> {
+    pub(crate) fn full(&self, alloc: Global) -> Result<String, Trouble> {
         if self.filled {
             Ok(String::from_str(alloc, self.text.as_str())?)
         } else {
@@ -35,7 +35,7 @@ fn unindented(text: &str) -> &str {
 }
 
 /// All lines of a text, the first one last.
-pub fn lines_of(alloc: Global, text: &str) -> Result<Vec<Line>, Trouble> {
+pub(crate) fn lines_of(alloc: Global, text: &str) -> Result<Vec<Line>, Trouble> {
     let mut lines = Vec::new(alloc);
     let mut number = 0u64;
     for line in text.lines() {

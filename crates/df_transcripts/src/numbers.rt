@@ -4,7 +4,7 @@ use crate::trouble::Trouble;
 use std::alloc::Global;
 
 /// A plain number.
-pub fn number(word: &str) -> Result<u64, Trouble> {
+pub(crate) fn number(word: &str) -> Result<u64, Trouble> {
     match word.parse::<u64>() {
         Ok(number) => Ok(number),
         Err(_) => Err(Trouble::NoMeaning("a number is wanted")),
@@ -12,7 +12,7 @@ pub fn number(word: &str) -> Result<u64, Trouble> {
 }
 
 /// The first and the last of the sectors that a word names: `5`, or `0-3`.
-pub fn span(word: &str) -> Result<(u64, u64), Trouble> {
+pub(crate) fn span(word: &str) -> Result<(u64, u64), Trouble> {
     match word.split_once('-') {
         Some((first, last)) => Ok((number(first)?, number(last)?)),
         None => {
@@ -23,7 +23,7 @@ pub fn span(word: &str) -> Result<(u64, u64), Trouble> {
 }
 
 /// Two hex digits.
-pub fn byte(word: &str) -> Result<u8, Trouble> {
+pub(crate) fn byte(word: &str) -> Result<u8, Trouble> {
     let [high, low] = word.as_bytes() else {
         return Err(Trouble::NoMeaning("two hex digits are wanted"));
     };
@@ -39,7 +39,7 @@ fn digit(letter: u8) -> Result<u8, Trouble> {
 }
 
 /// The bytes that hex digits spell.
-pub fn bytes(alloc: Global, words: &[String]) -> Result<Vec<u8>, Trouble> {
+pub(crate) fn bytes(alloc: Global, words: &[String]) -> Result<Vec<u8>, Trouble> {
     let mut bytes = Vec::new(alloc);
     for word in words {
         add_bytes(&mut bytes, word.as_str())?;
@@ -85,7 +85,7 @@ fn is_sign(letter: char) -> bool {
 }
 
 /// The value of an expression: numbers and names with signs between them, from left to right.
-pub fn value(alloc: Global, text: &str, given: &Given) -> Result<u64, Trouble> {
+pub(crate) fn value(alloc: Global, text: &str, given: &Given) -> Result<u64, Trouble> {
     let mut total = 0u64;
     let mut sign = '+';
     let mut part = String::new(alloc);

@@ -148,12 +148,12 @@ fn run_two(
 }
 
 /// Whether a line of this first word is a run.
-pub fn is_program(word: &str) -> bool {
+pub(crate) fn is_program(word: &str) -> bool {
     matches!(word, "datafile" | "objecttable" | "filecopy" | "filemirror")
 }
 
 /// Runs it.
-pub fn run_program(alloc: Global, disks: &mut Disks, run: &Run) -> Result<Ended, Trouble> {
+pub(crate) fn run_program(alloc: Global, disks: &mut Disks, run: &Run) -> Result<Ended, Trouble> {
     let [program, words @ ..] = run.words.as_slice() else {
         return Err(Trouble::NoMeaning("no program is named"));
     };

@@ -5,7 +5,7 @@ use std::alloc::Global;
 
 /// A text that a run may print, and how it ends then.
 #[derive(Drop)]
-pub struct Wanted {
+pub(crate) struct Wanted {
     pub text: String,
     /// Whether more may follow.
     pub more: bool,
@@ -22,6 +22,9 @@ impl Wanted {
     }
 
     fn add_line(&mut self, line: &str) -> Result<(), Trouble> {
+        if self.more {
+            return Err(Trouble::NoMeaning("whatever else is printed comes last"));
+        }
         if line == "..." {
             self.more = true;
             return Ok(());
@@ -51,14 +54,14 @@ impl Wanted {
 
 /// What a run printed, and how it ended.
 #[derive(Drop)]
-pub struct Ended {
+pub(crate) struct Ended {
     pub text: Vec<u8>,
     pub status: String,
 }
 
 /// A run: the program with its words, and all that is said of it. The last of the texts is the one that is being told.
 #[derive(Drop)]
-pub struct Run {
+pub(crate) struct Run {
     pub at: u64,
     pub words: Vec<String>,
     pub script: String,
@@ -70,7 +73,7 @@ pub struct Run {
 
 impl Run {
     /// A run of these words, of which nothing more is said yet.
-    pub fn new(alloc: Global, at: u64, words: Vec<String>) -> Result<Run, Trouble> {
+    pub(crate) fn new(alloc: Global, at: u64, words: Vec<String>) -> Result<Run, Trouble> {
         Ok(Run {
             at,
             words,
@@ -83,35 +86,35 @@ impl Run {
     }
 
     /// A line of the script.
-    pub fn add_script(&mut self, line: &str) -> Result<(), Trouble> {
+    pub(crate) fn add_script(&mut self, line: &str) -> Result<(), Trouble> {
         add_script_line(&mut self.script, line)
     }
 
     /// A line that is printed.
-    pub fn add_printed(&mut self, line: &str) -> Result<(), Trouble> {
+    pub(crate) fn add_printed(&mut self, line: &str) -> Result<(), Trouble> {
         self.wanted.add_line(line)
     }
 
     /// How it ends.
-    pub fn end(&mut self, alloc: Global, status: &str) -> Result<(), Trouble> {
+    pub(crate) fn end(&mut self, alloc: Global, status: &str) -> Result<(), Trouble> {
         self.wanted.status = String::from_str(alloc, status)?;
         Ok(())
     }
 
     /// What is told from here on will do in place of what was told.
-    pub fn begin_other(&mut self, alloc: Global) -> Result<(), Trouble> {
+    pub(crate) fn begin_other(&mut self, alloc: Global) -> Result<(), Trouble> {
         let told = std::mem::replace(&mut self.wanted, Wanted::new(alloc)?);
         self.others.push(told)?;
         Ok(())
     }
 
     /// Whether it may print this and end so.
-    pub fn wants(&self, ended: &Ended) -> bool {
+    pub(crate) fn wants(&self, ended: &Ended) -> bool {
         self.wanted.is(ended) || self.others.iter().any(|wanted| wanted.is(ended))
     }
 
     /// How many lines it is to print.
-    pub fn answers(&self) -> u64 {
+    pub(crate) fn answers(&self) -> u64 {
         let lines = self
             .wanted
             .text

@@ -22,7 +22,7 @@ fn write_in(disk: &mut MemoryDisk, sector: u32, bytes: &[u8; SECTOR]) -> bool {
 const FAILS: Trouble = Trouble::NoMeaning("the disk fails, or has no such sector");
 
 /// What a sector shows.
-pub fn shown(disk: &mut MemoryDisk, sector: u64) -> Result<[u8; SECTOR], Trouble> {
+pub(crate) fn shown(disk: &mut MemoryDisk, sector: u64) -> Result<[u8; SECTOR], Trouble> {
     let mut bytes = [0u8; SECTOR];
     match u32::try_from(sector) {
         Ok(sector) if read_in(disk, sector, &mut bytes) => Ok(bytes),
@@ -31,7 +31,11 @@ pub fn shown(disk: &mut MemoryDisk, sector: u64) -> Result<[u8; SECTOR], Trouble
 }
 
 /// Writes a sector, and doesn't sync it.
-pub fn write(disk: &mut MemoryDisk, sector: u64, bytes: &[u8; SECTOR]) -> Result<(), Trouble> {
+pub(crate) fn write(
+    disk: &mut MemoryDisk,
+    sector: u64,
+    bytes: &[u8; SECTOR],
+) -> Result<(), Trouble> {
     match u32::try_from(sector) {
         Ok(sector) if write_in(disk, sector, bytes) => Ok(()),
         _ => Err(FAILS),
@@ -66,7 +70,7 @@ fn strike_in(disk: &mut MemoryDisk, sector: u64, strike: Strike) -> Result<(), T
 }
 
 /// Strikes the sectors of the first word as the others say.
-pub fn strike(named: &mut Named, words: &[String]) -> Result<(), Trouble> {
+pub(crate) fn strike(named: &mut Named, words: &[String]) -> Result<(), Trouble> {
     let [sectors, how @ ..] = words else {
         return Err(Trouble::NoMeaning("no sector is named"));
     };
@@ -142,7 +146,7 @@ fn changes_of(
 }
 
 /// Stops a disk, whose loose sectors are left as the words say.
-pub fn stop(alloc: Global, named: &mut Named, words: &[String]) -> Result<(), Trouble> {
+pub(crate) fn stop(alloc: Global, named: &mut Named, words: &[String]) -> Result<(), Trouble> {
     let changes = changes_of(alloc, &mut named.disk, words)?;
     let disk = mem::replace(&mut named.disk, MemoryDisk::new(alloc, Vec::new(alloc)));
     match disk.stop(changes) {
@@ -155,22 +159,31 @@ pub fn stop(alloc: Global, named: &mut Named, words: &[String]) -> Result<(), Tr
 }
 
 /// Puts bytes into a sector from a place on, as far as they fit.
-pub fn overlay(bytes: &mut [u8; SECTOR], at: usize, over: &[u8]) {
+pub(crate) fn overlay(bytes: &mut [u8; SECTOR], at: usize, over: &[u8]) {
     for (place, byte) in bytes.iter_mut().skip(at).zip(over.iter()) {
         *place = *byte;
     }
 }
 
 /// Writes a sector with some of its bytes changed: the words are the sector, the first byte's place and the bytes.
-pub fn put(disk: &mut MemoryDisk, sector: &str, at: &str, over: &[u8]) -> Result<(), Trouble> {
+pub(crate) fn put(
+    disk: &mut MemoryDisk,
+    sector: &str,
+    at: &str,
+    over: &[u8],
+) -> Result<(), Trouble> {
     let sector = number(sector)?;
+    let at = number(at)?;
+    if at.saturating_add(over.len() as u64) > SECTOR as u64 {
+        return Err(Trouble::NoMeaning("the bytes run past the sector's end"));
+    }
     let mut bytes = shown(disk, sector)?;
-    overlay(&mut bytes, number(at)? as usize, over);
+    overlay(&mut bytes, at as usize, over);
     write(disk, sector, &bytes)
 }
 
 /// Some bytes of a sector: its number, the first byte's place and how many they are.
-pub fn part(
+pub(crate) fn part(
     alloc: Global,
     disk: &mut MemoryDisk,
     sector: &str,
@@ -199,7 +212,11 @@ fn transfer(from: &mut MemoryDisk, to: &mut MemoryDisk, count: u64) -> Result<()
 }
 
 /// A new disk with the first sectors of another one.
-pub fn copy(alloc: Global, from: &mut MemoryDisk, count: u64) -> Result<MemoryDisk, Trouble> {
+pub(crate) fn copy(
+    alloc: Global,
+    from: &mut MemoryDisk,
+    count: u64,
+) -> Result<MemoryDisk, Trouble> {
     let mut to = MemoryDisk::new(alloc, Vec::new(alloc));
     transfer(from, &mut to, count)?;
     to.fail_at(Vec::new(alloc));

@@ -38,7 +38,7 @@ fn seal_header(bytes: &mut [u8; SECTOR], at: usize)
 }
 
 /// Writes a sector with the right checksum: of a copy, of the unit at a place, or of the header there alone.
-pub fn seal(disk: &mut MemoryDisk, words: &[String]) -> Result<(), Trouble> {
+pub(crate) fn seal(disk: &mut MemoryDisk, words: &[String]) -> Result<(), Trouble> {
     let [sector, what @ ..] = words else {
         return Err(Trouble::NoMeaning("no sector is named"));
     };

@@ -3,7 +3,7 @@ use crate::trouble::Trouble;
 use std::alloc::Global;
 
 /// The words of a line, which blanks separate; one in double quotes may hold blanks, or nothing.
-pub fn words_of(alloc: Global, line: &str) -> Result<Vec<String>, Trouble> {
+pub(crate) fn words_of(alloc: Global, line: &str) -> Result<Vec<String>, Trouble> {
     let mut words = Vec::new(alloc);
     let mut word = String::new(alloc);
     let mut quoted = false;
@@ -40,7 +40,7 @@ fn escaped(letter: char) -> char {
 }
 
 /// Adds a line of a script, with its end unless the line's last letter says that there is none.
-pub fn add_script_line(script: &mut String, line: &str) -> Result<(), Trouble> {
+pub(crate) fn add_script_line(script: &mut String, line: &str) -> Result<(), Trouble> {
     let mut escapes = false;
     for letter in line.chars() {
         if escapes {
