@@ -64,7 +64,7 @@ fn act_on(alloc: Global, named: &mut Named, act: &str, words: &[String]) -> Resu
             Ok(())
         }
         "stop" => stop(alloc, named, words),
-        "strike" => strike(named, words),
+        "strike" => strike(alloc, named, words),
         "put" => put_bytes(alloc, &mut named.disk, words),
         "paste" => paste(alloc, &mut named.disk, words),
         "seal" => seal(&mut named.disk, words),

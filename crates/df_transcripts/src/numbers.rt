@@ -22,46 +22,15 @@ pub(crate) fn span(word: &str) -> Result<(u64, u64), Trouble> {
     }
 }
 
-/// Two hex digits.
-pub(crate) fn byte(word: &str) -> Result<u8, Trouble> {
-    let [high, low] = word.as_bytes() else {
-        return Err(Trouble::NoMeaning("two hex digits are wanted"));
-    };
-    Ok(digit(*high)?.wrapping_mul(16) | digit(*low)?)
-}
-
-fn digit(letter: u8) -> Result<u8, Trouble> {
-    match letter {
-        b'0'..=b'9' => Ok(letter.wrapping_sub(b'0')),
-        b'a'..=b'f' => Ok(letter.wrapping_sub(b'a').wrapping_add(10)),
-        _ => Err(Trouble::NoMeaning("a hex digit is wanted")),
-    }
-}
-
-/// The bytes that hex digits spell.
+/// The bytes that hex digits spell, of all words together.
 pub(crate) fn bytes(alloc: Global, words: &[String]) -> Result<Vec<u8>, Trouble> {
-    let mut bytes = Vec::new(alloc);
+    let mut digits = Vec::new(alloc);
     for word in words {
-        add_bytes(&mut bytes, word.as_str())?;
+        digits.extend_from_slice(word.as_bytes())?;
     }
-    Ok(bytes)
-}
-
-fn add_bytes(bytes: &mut Vec<u8>, word: &str) -> Result<(), Trouble> {
-    let mut high = None;
-    for letter in word.as_bytes() {
-        let half = digit(*letter)?;
-        match high {
-            None => high = Some(half),
-            Some(first) => {
-                bytes.push(half | u8::wrapping_mul(first, 16))?;
-                high = None;
-            }
-        }
-    }
-    match high {
-        None => Ok(()),
-        Some(_) => Err(Trouble::NoMeaning("an even number of hex digits is wanted")),
+    match hex::decode(alloc, digits.as_slice()) {
+        Ok(bytes) => Ok(bytes),
+        Err(_) => Err(Trouble::NoMeaning("pairs of hex digits are wanted")),
     }
 }
 

@@ -1,8 +1,8 @@
 // What becomes of the sectors of a disk between two runs: strikes, stops and writes of their own.
-ghost use Rattle.std.specs.Prelude.{◌≤◌};
+ghost use Rattle.std.specs.Prelude.{◌+◌, ◌≤◌, length};
 
 use crate::disks::Named;
-use crate::numbers::{byte, number, span};
+use crate::numbers::{bytes, number, span};
 use crate::trouble::Trouble;
 use df_base::SECTOR;
 use df_disk::Disk;
@@ -18,6 +18,8 @@ fn read_in(disk: &mut MemoryDisk, sector: u32, bytes: &mut [u8; SECTOR]) -> bool
 fn write_in(disk: &mut MemoryDisk, sector: u32, bytes: &[u8; SECTOR]) -> bool {
     disk.write(u64::from(sector), bytes).is_ok()
 }
+
+const PAST_END: Trouble = Trouble::NoMeaning("the bytes run past the sector's end");
 
 const FAILS: Trouble = Trouble::NoMeaning("the disk fails, or has no such sector");
 
@@ -42,25 +44,29 @@ pub(crate) fn write(
     }
 }
 
-// The strike that the words say; events of `settled` are counted from the mark.
-fn strike_of(words: &[String], mark: u64) -> Result<Strike, Trouble> {
+// The strike that two words say; events of `settled` are counted from the mark.
+fn strike_by(how: &str, what: u64, mark: u64) -> Result<Strike, Trouble> {
+    match how {
+        "earlier" => Ok(Strike::Earlier { events: what }),
+        "settled" => Ok(Strike::Earlier {
+            events: mark.saturating_add(what),
+        }),
+        "like" => Ok(Strike::Like { sector: what }),
+        _ => Err(Trouble::NoMeaning("no such strike")),
+    }
+}
+
+// The strike that the words say.
+fn strike_of(alloc: Global, words: &[String], mark: u64) -> Result<Strike, Trouble> {
     match words {
         [how] if how.as_str() == "heal" => Ok(Strike::Earlier { events: u64::MAX }),
-        [how, what] => match how.as_str() {
-            "fill" => Ok(Strike::Fill {
-                byte: byte(what.as_str())?,
-            }),
-            "earlier" => Ok(Strike::Earlier {
-                events: number(what.as_str())?,
-            }),
-            "settled" => Ok(Strike::Earlier {
-                events: mark.saturating_add(number(what.as_str())?),
-            }),
-            "like" => Ok(Strike::Like {
-                sector: number(what.as_str())?,
-            }),
-            _ => Err(Trouble::NoMeaning("no such strike")),
-        },
+        [how, digits] if how.as_str() == "fill" => {
+            match bytes(alloc, std::slice::from_ref(digits))?.as_slice() {
+                [byte] => Ok(Strike::Fill { byte: *byte }),
+                _ => Err(Trouble::NoMeaning("one byte is wanted")),
+            }
+        }
+        [how, what] => strike_by(how.as_str(), number(what.as_str())?, mark),
         _ => Err(Trouble::NoMeaning("no such strike")),
     }
 }
@@ -70,12 +76,12 @@ fn strike_in(disk: &mut MemoryDisk, sector: u64, strike: Strike) -> Result<(), T
 }
 
 /// Strikes the sectors of the first word as the others say.
-pub(crate) fn strike(named: &mut Named, words: &[String]) -> Result<(), Trouble> {
+pub(crate) fn strike(alloc: Global, named: &mut Named, words: &[String]) -> Result<(), Trouble> {
     let [sectors, how @ ..] = words else {
         return Err(Trouble::NoMeaning("no sector is named"));
     };
     let (first, last) = span(sectors.as_str())?;
-    let strike = strike_of(how, named.mark)?;
+    let strike = strike_of(alloc, how, named.mark)?;
     for sector in first..last.saturating_add(1) {
         strike_in(&mut named.disk, sector, strike)?;
     }
@@ -158,11 +164,11 @@ pub(crate) fn stop(alloc: Global, named: &mut Named, words: &[String]) -> Result
     }
 }
 
-/// Puts bytes into a sector from a place on, as far as they fit.
-pub(crate) fn overlay(bytes: &mut [u8; SECTOR], at: usize, over: &[u8]) {
-    for (place, byte) in bytes.iter_mut().skip(at).zip(over.iter()) {
-        *place = *byte;
-    }
+/// Puts bytes into a sector from a place on.
+pub(crate) fn overlay(bytes: &mut [u8; SECTOR], at: usize, over: &[u8])
+    requires { at + length over.now ≤ 4096 }
+{
+    bytes[at..at + over.len()].copy_from_slice(over);
 }
 
 /// Writes a sector with some of its bytes changed: the words are the sector, the first byte's place and the bytes.
@@ -174,10 +180,10 @@ pub(crate) fn put(
 ) -> Result<(), Trouble> {
     let sector = number(sector)?;
     let at = number(at)?;
-    if at.saturating_add(over.len() as u64) > SECTOR as u64 {
-        return Err(Trouble::NoMeaning("the bytes run past the sector's end"));
-    }
     let mut bytes = shown(disk, sector)?;
+    if at > SECTOR as u64 || over.len() > SECTOR - at as usize {
+        return Err(PAST_END);
+    }
     overlay(&mut bytes, at as usize, over);
     write(disk, sector, &bytes)
 }
@@ -191,12 +197,12 @@ pub(crate) fn part(
     size: u64,
 ) -> Result<Vec<u8>, Trouble> {
     let bytes = shown(disk, number(sector)?)?;
-    let mut part = Vec::new(alloc);
-    let at = number(at)? as usize;
-    for byte in bytes.iter().skip(at).take(size as usize) {
-        part.push(*byte)?;
+    let at = number(at)?;
+    if at > SECTOR as u64 || size > SECTOR as u64 - at {
+        return Err(PAST_END);
     }
-    Ok(part)
+    let from = at as usize;
+    Ok(Vec::from_slice(alloc, &bytes[from..from + size as usize])?)
 }
 
 // Copies so many sectors of one disk to a new one.

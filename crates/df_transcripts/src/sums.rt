@@ -1,5 +1,5 @@
 // Checksums of forged sectors: those of a superblock copy, and of a header with the body behind it.
-ghost use Rattle.std.specs.Prelude.{◌≤◌, IfOk};
+ghost use Rattle.std.specs.Prelude.{◌≤◌};
 
 use crate::numbers::number;
 use crate::sectors::{overlay, shown, write};
@@ -9,16 +9,6 @@ use df_memdisk::MemoryDisk;
 
 // Where a superblock copy's content begins, behind its checksum and its number.
 const CONTENT: usize = 32;
-
-// A place in a sector that has room for a header.
-fn place(word: &str) -> Result<usize, Trouble>
-    ensures { IfOk result (λ at. at ≤ 3840) }
-{
-    match number(word)? {
-        at if at <= 3840 => Ok(at as usize),
-        _ => Err(Trouble::NoMeaning("no header has room there")),
-    }
-}
 
 // The checksum of the body behind a header at this place, of which the header says the size.
 fn seal_body(bytes: &mut [u8; SECTOR], at: usize)
@@ -37,26 +27,36 @@ fn seal_header(bytes: &mut [u8; SECTOR], at: usize)
     overlay(bytes, at, &sum);
 }
 
+// The checksum of a header at a place, and before it that of its body where that is asked for.
+fn seal_unit(bytes: &mut [u8; SECTOR], at: u64, is_whole: bool) -> Result<(), Trouble> {
+    if at > (SECTOR - HEADER) as u64 {
+        return Err(Trouble::NoMeaning("no header has room there"));
+    }
+    let at = at as usize;
+    if is_whole {
+        seal_body(bytes, at);
+    }
+    seal_header(bytes, at);
+    Ok(())
+}
+
+// The checksum of a copy.
+fn seal_copy(bytes: &mut [u8; SECTOR]) {
+    let sum = check(&bytes[CONTENT..]);
+    overlay(bytes, 0, &sum);
+}
+
 /// Writes a sector with the right checksum: of a copy, of the unit at a place, or of the header there alone.
 pub(crate) fn seal(disk: &mut MemoryDisk, words: &[String]) -> Result<(), Trouble> {
-    let [sector, what @ ..] = words else {
-        return Err(Trouble::NoMeaning("no sector is named"));
+    let [sector, kind, rest @ ..] = words else {
+        return Err(Trouble::NoMeaning("a sector and a kind are wanted"));
     };
     let sector = number(sector.as_str())?;
     let mut bytes = shown(disk, sector)?;
-    match what {
-        [kind] if kind.as_str() == "copy" => {
-            let sum = check(&bytes[CONTENT..]);
-            overlay(&mut bytes, 0, &sum);
-        }
-        [kind, at] if kind.as_str() == "unit" => {
-            let at = place(at.as_str())?;
-            seal_body(&mut bytes, at);
-            seal_header(&mut bytes, at);
-        }
-        [kind, at] if kind.as_str() == "header" => {
-            seal_header(&mut bytes, place(at.as_str())?);
-        }
+    match (kind.as_str(), rest) {
+        ("copy", []) => seal_copy(&mut bytes),
+        ("unit", [at]) => seal_unit(&mut bytes, number(at.as_str())?, true)?,
+        ("header", [at]) => seal_unit(&mut bytes, number(at.as_str())?, false)?,
         _ => return Err(Trouble::NoMeaning("no such checksum")),
     }
     write(disk, sector, &bytes)
