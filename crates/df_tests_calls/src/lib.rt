@@ -13,6 +13,8 @@ mod opened;
 #[cfg(test)]
 mod reads;
 #[cfg(test)]
+mod staged;
+#[cfg(test)]
 mod steps;
 #[cfg(test)]
 mod stops;
