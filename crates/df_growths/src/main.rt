@@ -3,6 +3,7 @@
 #![tactic(auto)]
 
 mod outcome;
+mod runs;
 mod worked;
 
 use outcome::{Outcome, carry_out};

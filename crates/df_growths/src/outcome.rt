@@ -1,8 +1,8 @@
 // What came of words: how they ended, and what they left of the disk, of the script and of the sink.
+use crate::runs::{ended, run_in};
 use crate::worked::{SCRIPT, file_for};
 use df_base::{MemorySink, MemorySource, Source};
 use df_memdisk::MemoryDisk;
-use df_runs::{run_in, run_words};
 use df_top::Status;
 use std::alloc::Global;
 use std::test::Fail;
@@ -39,7 +39,7 @@ pub fn carry_out(alloc: Global, words: &[String]) -> Result<Outcome, Fail> {
     let status = run_in(alloc, words, &mut source, &mut sink, &mut disk);
     let events = disk.events();
     let disk_refused = disk.refused();
-    let recovered = run_words(alloc, &mut disk, &["recover"])?.status;
+    let recovered = ended(alloc, &mut disk, &["recover"], b"")?;
     Ok(Outcome {
         status,
         events_before,

@@ -1,7 +1,7 @@
 // The file and the script of the tries: an open of the file has something to mend, a scrub something to find, and the script has each
 // kind of line.
+use crate::runs::{ended, small_file};
 use df_memdisk::{MemoryDisk, Strike};
-use df_runs::{blank, run_script, small_file};
 use df_top::Status;
 use std::alloc::Global;
 use std::test::Fail;
@@ -19,9 +19,8 @@ const HURT: [u64; 3] = [1, 4, 80];
 
 // A small file behind that, with sectors that show other bytes.
 fn hurt_file(alloc: Global) -> Result<MemoryDisk, Fail> {
-    let mut disk = small_file(alloc, &[])?;
-    let ran = run_script(alloc, &mut disk, BEFORE)?;
-    if ran.status != Status::Done {
+    let mut disk = small_file(alloc)?;
+    if ended(alloc, &mut disk, &["run"], BEFORE)? != Status::Done {
         return Err("the file isn't made".into());
     }
     for sector in HURT {
@@ -33,7 +32,7 @@ fn hurt_file(alloc: Global) -> Result<MemoryDisk, Fail> {
 /// The file that these words are tried on: a blank disk for `format`, and else that file.
 pub fn file_for(alloc: Global, words: &[String]) -> Result<MemoryDisk, Fail> {
     match words.first() {
-        Some(word) if word.as_str() == "format" => blank(alloc, &[]),
+        Some(word) if word.as_str() == "format" => Ok(MemoryDisk::new(alloc, Vec::new(alloc))),
         _ => hurt_file(alloc),
     }
 }

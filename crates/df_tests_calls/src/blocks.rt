@@ -1,6 +1,7 @@
 // Calls of blocks and checkpoints of a replica in order, with what each answers, and how many device calls and events it makes.
 use crate::steps::{Step, first_other_of};
-use df_images::{BeginError, BlockError, NotLive, Progress, ReadError, StepError, small_file};
+use crate::files::small_file;
+use df_replica::{BeginError, BlockError, NotLive, Progress, ReadError, StepError};
 use std::test::Fail;
 
 // A block is written by one device call and read by one. The last step of a checkpoint is a sync, a write and a sync for each of

@@ -1,6 +1,8 @@
 // A replica of a file that opens, and calls that are all done. A replica is held where no `?` follows, since at each all that is
 // held is let go of.
-use df_images::{Call, Replica, make_call, open};
+use crate::calls::{Call, make_call};
+use crate::files::open;
+use df_replica::Replica;
 use df_layout::Layout;
 use df_memdisk::MemoryDisk;
 use std::alloc::Global;

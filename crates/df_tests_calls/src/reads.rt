@@ -2,10 +2,9 @@
 // which may fail.
 use crate::opened::{do_all, opened};
 use crate::steps::{Step, Unit, first_other, first_other_of};
-use df_images::{
-    AppendError, Call, LookupError, PrepareError, Replica, ReplyError, found, served_file,
-    small_file,
-};
+use crate::calls::{Call, served_file};
+use crate::files::{found, small_file};
+use df_replica::{AppendError, LookupError, PrepareError, Replica, ReplyError};
 use df_layout::Layout;
 use df_memdisk::MemoryDisk;
 use std::alloc::Global;

@@ -1,5 +1,6 @@
 // The calls of a replica that stage and flush: what each answers, and how many device calls and events it makes.
-use df_images::{AppendError, FlushError, Replica, found, open, small_file};
+use crate::files::{found, open, small_file};
+use df_replica::{AppendError, FlushError, Replica};
 use df_layout::Layout;
 use df_memdisk::MemoryDisk;
 use std::alloc::Global;
