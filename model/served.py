@@ -106,6 +106,17 @@ def datafile(files: list, words: list) -> int:
     return imitation.act(meaning(words), lambda: files[0])
 
 
+def served(files: list, words: list) -> int:
+    """The word `run` in rooms that were taken for the layout of the first word."""
+    reserved = layout_of(words[0])
+    files[0].sync()
+    _, content = imitation.tested(files[0], 2)
+    found = form.Layout(*(getattr(content, name) for name in form.Layout._fields))
+    if found != reserved:
+        refuse("LayoutDiffers " + " ".join(map(str, (*reserved, *found))))
+    return datafile(files, words[1:])
+
+
 class Table(objects.Session):
     """The object table over a file."""
 
@@ -233,7 +244,7 @@ class Program(NamedTuple):
 
 
 PROGRAMS = {
-    "datafile": Program(datafile, 1), "objecttable": Program(objecttable, 1), "filecopy": Program(filecopy, 2),
+    "datafile": Program(datafile, 1), "serve": Program(served, 1), "objecttable": Program(objecttable, 1), "filecopy": Program(filecopy, 2),
     "filemirror": Program(filemirror, 2),
 }
 

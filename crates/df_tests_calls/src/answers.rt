@@ -1,10 +1,10 @@
 // Calls of a replica in order, with what each answers: appends and replies, and their refusals.
-use crate::opened::opened;
 use crate::calls::{Answer, Call, make_call};
 use crate::files::new_file;
-use df_replica::{AppendError, Replica, ReplyError};
+use crate::opened::opened;
 use df_layout::Layout;
 use df_memdisk::MemoryDisk;
+use df_replica::{AppendError, Replica, ReplyError};
 use std::alloc::Global;
 use std::test::Fail;
 

@@ -1,6 +1,6 @@
 // Calls of blocks and checkpoints of a replica in order, with what each answers, and how many device calls and events it makes.
-use crate::steps::{Step, first_other_of};
 use crate::files::small_file;
+use crate::steps::{Step, first_other_of};
 use df_replica::{BeginError, BlockError, NotLive, Progress, ReadError, StepError};
 use std::test::Fail;
 

@@ -17,7 +17,10 @@ pub(crate) fn format_in(
     format(disk, rooms, cluster)
 }
 
-pub(crate) fn survey_in(disk: &mut MemoryDisk, rooms: Rooms) -> Result<Surveyed, (Rooms, OpenError)> {
+pub(crate) fn survey_in(
+    disk: &mut MemoryDisk,
+    rooms: Rooms,
+) -> Result<Surveyed, (Rooms, OpenError)> {
     survey(disk, rooms)
 }
 
@@ -34,7 +37,11 @@ pub(crate) fn rooms_of(alloc: Global, layout: &Layout) -> Result<Rooms, Fail> {
 }
 
 /// A disk with a new file; the listed device calls, counted from the first of its making, fail.
-pub(crate) fn new_file(alloc: Global, layout: &Layout, failing: &[u64]) -> Result<MemoryDisk, Fail> {
+pub(crate) fn new_file(
+    alloc: Global,
+    layout: &Layout,
+    failing: &[u64],
+) -> Result<MemoryDisk, Fail> {
     let mut disk = MemoryDisk::new(alloc, Vec::from_slice(alloc, failing)?);
     let mut rooms = rooms_of(alloc, layout)?;
     match format_in(&mut disk, &mut rooms, 7) {
@@ -62,7 +69,10 @@ pub(crate) fn open(
 }
 
 /// What a small file is opened with.
-pub(crate) fn found(alloc: Global, disk: &mut MemoryDisk) -> Result<Result<Summary, OpenError>, Fail> {
+pub(crate) fn found(
+    alloc: Global,
+    disk: &mut MemoryDisk,
+) -> Result<Result<Summary, OpenError>, Fail> {
     match open(alloc, disk, &Layout::small())? {
         Ok(replica) => Ok(Ok(replica.summary())),
         Err(refusal) => Ok(Err(refusal)),

@@ -2,9 +2,9 @@
 // held is let go of.
 use crate::calls::{Call, make_call};
 use crate::files::open;
-use df_replica::Replica;
 use df_layout::Layout;
 use df_memdisk::MemoryDisk;
+use df_replica::Replica;
 use std::alloc::Global;
 use std::test::Fail;
 

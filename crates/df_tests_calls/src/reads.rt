@@ -1,12 +1,12 @@
 // Reads of a replica among its other calls: the units that are lent, byte by byte, what refuses a read, and its one device call,
 // which may fail.
-use crate::opened::{do_all, opened};
-use crate::steps::{Step, Unit, first_other, first_other_of};
 use crate::calls::{Call, served_file};
 use crate::files::{found, small_file};
-use df_replica::{AppendError, LookupError, PrepareError, Replica, ReplyError};
+use crate::opened::{do_all, opened};
+use crate::steps::{Step, Unit, first_other, first_other_of};
 use df_layout::Layout;
 use df_memdisk::MemoryDisk;
+use df_replica::{AppendError, LookupError, PrepareError, Replica, ReplyError};
 use std::alloc::Global;
 use std::test::Fail;
 

@@ -1,7 +1,7 @@
 // A survey in rooms of another layout: it is refused, and the rooms come back.
 use crate::files::{rooms_of, small_file, survey_in};
-use df_replica::OpenError;
 use df_layout::Layout;
+use df_replica::OpenError;
 use std::test::Fail;
 
 fn other_layout() -> Result<Layout, Fail> {

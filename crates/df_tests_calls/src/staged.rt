@@ -1,8 +1,8 @@
 // The calls of a replica that stage and flush: what each answers, and how many device calls and events it makes.
 use crate::files::{found, open, small_file};
-use df_replica::{AppendError, FlushError, Replica};
 use df_layout::Layout;
 use df_memdisk::MemoryDisk;
+use df_replica::{AppendError, FlushError, Replica};
 use std::alloc::Global;
 use std::test::Fail;
 

@@ -4,9 +4,12 @@ ghost use Rattle.std.specs.Prelude.{◌≡◌, true};
 
 use crate::opened::opened;
 use df_format::Header;
-use df_replica::{AppendError, BeginError, BlockError, LookupError, NotLive, PrepareError, Progress, ReadError, Replica, ReplyError, StepError};
 use df_layout::Layout;
 use df_memdisk::MemoryDisk;
+use df_replica::{
+    AppendError, BeginError, BlockError, LookupError, NotLive, PrepareError, Progress, ReadError,
+    Replica, ReplyError, StepError,
+};
 use std::alloc::Global;
 use std::test::Fail;
 

@@ -1,15 +1,15 @@
 // Sectors that are struck between two reads of a replica: the unit there is told by the class of what is shown, the other one is
 // still lent whole, and both are again once the old bytes are written back.
+use crate::calls::Call::{Append, Reply};
+use crate::calls::{Call, served_file};
+use crate::files::small_file;
 use crate::opened::{do_all, opened};
 use crate::steps::{Step, Unit, is_answered};
 use df_base::SECTOR;
 use df_disk::Disk;
-use crate::calls::Call::{Append, Reply};
-use crate::calls::{Call, served_file};
-use crate::files::small_file;
-use df_replica::{LookupError, PrepareError, Replica};
 use df_layout::{Class, Layout, Place, Zone};
 use df_memdisk::{MemoryDisk, Strike};
+use df_replica::{LookupError, PrepareError, Replica};
 use std::alloc::Global;
 use std::test::Fail;
 

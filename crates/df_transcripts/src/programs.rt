@@ -4,7 +4,10 @@ use crate::running::{Ended, Run};
 use crate::trouble::Trouble;
 use df_base::{MemorySink, MemorySource};
 use df_disk::Disk;
+use df_layout::Layout;
+use df_lines::LineRoom;
 use df_memdisk::{DroppingDisk, MemoryDisk};
+use df_top::{Mode, Rooms, mode_of, serve};
 use std::alloc::Global;
 use std::mem;
 
@@ -16,6 +19,23 @@ fn datafile<D: Disk>(
     disk: &mut D,
 ) -> df_top::Status {
     df_top::run(alloc, words, source, sink, disk)
+}
+
+// The word `run` in rooms that are taken before.
+fn served(
+    alloc: Global,
+    layout: &Layout,
+    words: &[String],
+    source: &mut MemorySource,
+    sink: &mut MemorySink,
+    disk: &mut MemoryDisk,
+) -> Result<df_top::Status, Trouble> {
+    let Some(Mode::Run) = mode_of(words) else {
+        return Err(Trouble::NoMeaning("the word `run` is wanted"));
+    };
+    let lines = LineRoom::reserve(alloc, layout)?;
+    let rooms = Rooms::reserve(alloc, layout)?;
+    Ok(serve(rooms, lines, words, source, sink, disk))
 }
 
 fn objecttable<D: Disk>(
@@ -49,7 +69,7 @@ fn filemirror(
 }
 
 // A program that reads a script, over one disk; the name of its status.
-fn serve<D: Disk>(
+fn run_reading<D: Disk>(
     alloc: Global,
     is_table: bool,
     words: &[String],
@@ -66,7 +86,7 @@ fn serve<D: Disk>(
 }
 
 // The same over a disk of which some writes are lost.
-fn serve_losing(
+fn run_losing(
     alloc: Global,
     is_table: bool,
     words: &[String],
@@ -75,12 +95,12 @@ fn serve_losing(
     named: &mut Named,
 ) -> Result<String, Trouble> {
     if named.lost.is_empty() {
-        return serve(alloc, is_table, words, source, sink, &mut named.disk);
+        return run_reading(alloc, is_table, words, source, sink, &mut named.disk);
     }
     let lost = mem::replace(&mut named.lost, Vec::new(alloc));
     let disk = mem::replace(&mut named.disk, MemoryDisk::new(alloc, Vec::new(alloc)));
     let mut losing = DroppingDisk::new(disk, lost);
-    let status = serve(alloc, is_table, words, source, sink, &mut losing)?;
+    let status = run_reading(alloc, is_table, words, source, sink, &mut losing)?;
     named.disk = losing.into_disk();
     Ok(status)
 }
@@ -114,11 +134,36 @@ fn run_one(
     let [disk, words @ ..] = words else {
         return Err(Trouble::NoMeaning("no disk is named"));
     };
-    let script = Vec::from_slice(alloc, run.script.as_bytes())?;
-    let fails = Vec::from_slice(alloc, &run.source_fails)?;
-    let mut source = MemorySource::new(script, fails);
+    let mut source = run.source(alloc)?;
     let named = disks.get(disk.as_str())?;
-    serve_losing(alloc, is_table, words, &mut source, sink, named)
+    run_losing(alloc, is_table, words, &mut source, sink, named)
+}
+
+// The layout of this name.
+fn layout_of(name: &str) -> Result<Layout, Trouble> {
+    match name {
+        "small" => Ok(Layout::small()),
+        "large" => Ok(Layout::large()),
+        _ => Err(Trouble::NoMeaning("no such layout")),
+    }
+}
+
+// A run over one disk in rooms for a layout; both stand before the word.
+fn run_served(
+    alloc: Global,
+    disks: &mut Disks,
+    run: &Run,
+    words: &[String],
+    sink: &mut MemorySink,
+) -> Result<String, Trouble> {
+    let [disk, layout, words @ ..] = words else {
+        return Err(Trouble::NoMeaning("a disk and a layout are wanted"));
+    };
+    let layout = layout_of(layout.as_str())?;
+    let mut source = run.source(alloc)?;
+    let named = disks.get(disk.as_str())?;
+    let status = served(alloc, &layout, words, &mut source, sink, &mut named.disk)?;
+    Ok(format!(in alloc; "{status:?}")?)
 }
 
 // A run over two disks, which are the first of the words.
@@ -149,7 +194,10 @@ fn run_two(
 
 /// Whether a line of this first word is a run.
 pub(crate) fn is_program(word: &str) -> bool {
-    matches!(word, "datafile" | "objecttable" | "filecopy" | "filemirror")
+    matches!(
+        word,
+        "datafile" | "serve" | "objecttable" | "filecopy" | "filemirror"
+    )
 }
 
 /// Runs it.
@@ -161,6 +209,7 @@ pub(crate) fn run_program(alloc: Global, disks: &mut Disks, run: &Run) -> Result
     let mut sink = MemorySink::new(alloc, Vec::from_slice(alloc, &run.sink_fails)?);
     let status = match program.as_str() {
         "datafile" => run_one(alloc, disks, run, false, words, &mut sink)?,
+        "serve" => run_served(alloc, disks, run, words, &mut sink)?,
         "objecttable" => run_one(alloc, disks, run, true, words, &mut sink)?,
         "filecopy" => run_two(alloc, disks, false, words, &mut sink)?,
         _ => run_two(alloc, disks, true, words, &mut sink)?,

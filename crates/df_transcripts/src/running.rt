@@ -1,6 +1,7 @@
 // A run that is told: its script, what it is to print, and how it is to end.
 use crate::trouble::Trouble;
 use crate::words::add_script_line;
+use df_base::MemorySource;
 use std::alloc::Global;
 
 /// A text that a run may print, and how it ends then.
@@ -83,6 +84,13 @@ impl Run {
             others: Vec::new(alloc),
             wanted: Wanted::new(alloc)?,
         })
+    }
+
+    /// What its script is read from.
+    pub(crate) fn source(&self, alloc: Global) -> Result<MemorySource, Trouble> {
+        let script = Vec::from_slice(alloc, self.script.as_bytes())?;
+        let fails = Vec::from_slice(alloc, &self.source_fails)?;
+        Ok(MemorySource::new(script, fails))
     }
 
     /// A line of the script.
