@@ -1,18 +1,33 @@
 // Headers of version 2 against values from outside, and each rule of boots and groups kept and broken once.
-use crate::examples::{BLOCK, Example, PREPARE, REPLY, RESERVED, TRAILER, made, sealed, spelled};
+ghost use Rattle.std.specs.Prelude.{◌≤◌};
+
+use crate::examples::{
+    BLOCK, Example, PREPARE, REPLY, RESERVED, TRAILER, made, read_header, sealed, spelled,
+};
 use crate::room_examples::header_of;
 use df_base::{check, put_u16, put_u64};
-use df_format::{Header, Kind, decode_header};
+use df_format::{Header, Kind};
+
+// Puts a number of eight bytes into a header, and a version. A caller's proof is told nothing of the bytes.
+fn put_number(bytes: &mut [u8; 256], at: usize, number: u64)
+    requires { at ≤ 248 }
+{
+    put_u64(bytes, at, number);
+}
+
+fn put_version(bytes: &mut [u8; 256], version: u16) {
+    put_u16(bytes, 122, version);
+}
 
 // The example of this version, with this op, this boot, and the first and the last op of a group.
 fn numbered(front: &Example, version: u16, numbers: &[u64; 4]) -> [u8; 256] {
     let [op, boot, first, last] = *numbers;
     let mut bytes = spelled(front);
-    put_u64(&mut bytes, 80, op);
-    put_u16(&mut bytes, 122, version);
-    put_u64(&mut bytes, 124, boot);
-    put_u64(&mut bytes, 132, first);
-    put_u64(&mut bytes, 140, last);
+    put_number(&mut bytes, 80, op);
+    put_version(&mut bytes, version);
+    put_number(&mut bytes, 124, boot);
+    put_number(&mut bytes, 132, first);
+    put_number(&mut bytes, 140, last);
     sealed(bytes)
 }
 
@@ -61,19 +76,29 @@ const ALONE: [(&'static str, [u64; 3], bool); 7] = [
 fn boots_and_groups_have_their_rules(rt: HostRuntime) {
     for (i, (name, front, version, numbers, is)) in RULES.iter().enumerate() {
         let bytes = numbered(front, *version, numbers);
-        assert!(rt; decode_header(&bytes).is_some() == *is, "row {i}, {name}");
+        assert!(rt; read_header(&bytes).is_some() == *is, "row {i}, {name}");
     }
-    for (front, op) in [(REPLY, 1), (BLOCK, 9), (TRAILER, 9)] {
+}
+
+const OTHERS: [(Example, u64); 3] = [(REPLY, 1), (BLOCK, 9), (TRAILER, 9)];
+
+#[test]
+fn a_unit_of_another_kind_has_a_boot_and_no_group(rt: HostRuntime) {
+    for (front, op) in &OTHERS {
         for (name, group, is) in &ALONE {
             let [boot, first, last] = *group;
-            let bytes = numbered(&front, 2, &[op, boot, first, last]);
-            assert!(rt; decode_header(&bytes).is_some() == *is, "op {op}, {name}");
+            let bytes = numbered(front, 2, &[*op, boot, first, last]);
+            assert!(rt; read_header(&bytes).is_some() == *is, "op {op}, {name}");
         }
     }
+}
+
+#[test]
+fn a_header_of_version_2_ends_in_zeros(rt: HostRuntime) {
     // A byte behind the fields, and the last one.
     for at in [148, 255] {
         let bytes = made(&PREPARE, &[(122, 2), (124, 1), (132, 1), (140, 1), (at, 1)]);
-        assert!(rt; decode_header(&bytes).is_none(), "at {at}");
+        assert!(rt; read_header(&bytes).is_none(), "at {at}");
     }
 }
 
@@ -94,5 +119,5 @@ fn reads_the_boot_and_the_group_of_a_prepare(rt: HostRuntime) {
         ..header_of(Kind::Prepare, &[])
     };
     let bytes = numbered(&PREPARE, 2, &[1, 1, 1, 1]);
-    assert!(rt; decode_header(&bytes) == Some(header));
+    assert!(rt; read_header(&bytes) == Some(header));
 }
