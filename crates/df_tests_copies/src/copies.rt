@@ -1,6 +1,8 @@
 // Copies of the superblock against values from outside: the bytes of the first one, and which sectors are a copy.
-use crate::super_examples::{FIRST, LATER, OF_PLACE_2, sealed, written};
-use df_format::{SuperCopy, SuperFields, decode_copy, decode_own_copy, test_fields};
+use crate::super_examples::{
+    FIRST, LATER, OF_PLACE_2, fields_in, number_in, sealed, used, written,
+};
+use df_format::{SuperCopy, SuperFields, decode_copy};
 use df_layout::{Class, Layout};
 
 // The first 80 bytes of its copy 2, the others are zero. The checksum is from another implementation of SHA-256.
@@ -40,8 +42,7 @@ fn writes_and_reads_the_first_superblock(rt: HostRuntime) {
         fields: FIRST,
     };
     assert!(rt; decode_copy(&bytes) == Some(copy));
-    let usable = test_fields(&FIRST).map(|content| (*content.fields(), content.layout()));
-    assert!(rt; usable == Ok((FIRST, Layout::small())));
+    assert!(rt; used(&FIRST) == Some((FIRST, Layout::small())));
 }
 
 fn has_at(bytes: &[u8], at: usize, field: &[u8]) -> bool {
@@ -76,12 +77,15 @@ fn writes_each_field_at_its_offset(rt: HostRuntime) {
     for (at, field) in &FIELDS {
         assert!(rt; has_at(&bytes, *at, field), "at {at}");
     }
-    assert!(rt; decode_copy(&bytes).map(|copy| copy.fields) == Some(GREATEST));
+    assert!(rt; fields_in(&bytes) == Some(GREATEST));
 }
 
 // The first byte of the sector with one byte changed that should be zero and isn't, where that is a copy.
 fn first_nonzero(at: usize) -> Option<Option<u64>> {
-    decode_copy(&sealed(with(at, 1))).map(|copy| copy.fields.first_nonzero)
+    match fields_in(&sealed(with(at, 1))) {
+        Some(fields) => Some(fields.first_nonzero),
+        None => None,
+    }
 }
 
 // A byte that is put over one of the example's, and whether that is a copy still.
@@ -101,32 +105,26 @@ const CHANGES: [(usize, u8, bool); 10] = [
 #[test]
 fn tells_which_sectors_are_a_copy(rt: HostRuntime) {
     for (at, byte, is) in &CHANGES {
-        assert!(rt; decode_copy(&with(*at, *byte)).is_some() == *is, "at {at}");
+        assert!(rt; fields_in(&with(*at, *byte)).is_some() == *is, "at {at}");
     }
-    assert!(rt; decode_copy(&sealed(with(32, 2))).is_some());
-    assert!(rt; decode_copy(&[0; 4096]).is_none());
+    assert!(rt; fields_in(&sealed(with(32, 2))).is_some());
+    assert!(rt; fields_in(&[0; 4096]).is_none());
     let first = (first_nonzero(4095), first_nonzero(160), first_nonzero(159));
     assert!(rt; first == (Some(Some(4095)), Some(Some(160)), Some(None)));
 }
 
+// Zeros but for the last byte.
+fn a_last_byte() -> [u8; 4096] {
+    let mut bytes = [0; 4096];
+    bytes[4095] = 1;
+    bytes
+}
+
 #[test]
 fn tells_the_class_of_a_sector(rt: HostRuntime) {
-    let cases = [
-        ([0; 4096], Err(Class::Blank)),
-        (with(25, 1), Err(Class::Garbled)),
-        (
-            {
-                let mut bytes = [0; 4096];
-                bytes[4095] = 1;
-                bytes
-            },
-            Err(Class::Garbled),
-        ),
-        (example(), Err(OF_PLACE_2)),
-        (with(16, 1), Ok(1)),
-    ];
-    for (i, (bytes, answer)) in cases.iter().enumerate() {
-        let number = decode_own_copy(1, bytes).map(|copy| copy.number);
-        assert!(rt; number == *answer, "case {i}");
-    }
+    assert!(rt; number_in(false, &[0; 4096]) == Err(Class::Blank));
+    assert!(rt; number_in(false, &with(25, 1)) == Err(Class::Garbled));
+    assert!(rt; number_in(false, &a_last_byte()) == Err(Class::Garbled));
+    assert!(rt; number_in(false, &example()) == Err(OF_PLACE_2));
+    assert!(rt; number_in(false, &with(16, 1)) == Ok(1));
 }

@@ -3,7 +3,15 @@ ghost use Rattle.std.specs.Prelude.{◌≡◌};
 
 use crate::super_examples::{FIRST, written};
 use df_buffers::{ProbeRoom, Raw, SuperSector};
+use df_format::SuperCopy;
 use df_layout::{Class, Layout, Place, Zone};
+
+fn number_of(copy: Result<SuperCopy, Class>) -> Result<u8, Class> {
+    match copy {
+        Ok(copy) => Ok(copy.number),
+        Err(class) => Err(class),
+    }
+}
 
 fn place(index: u64) -> Place
     ensures zone { result.zone ≡ Zone.Superblock }
@@ -25,7 +33,7 @@ fn reserves_a_room_for_each_copy(rt: HostRuntime) {
     for number in 0..4 {
         let index = u64::from(number);
         let copy = room.sector(number).copy(place(index));
-        assert!(rt; copy.map(|copy| copy.number) == Ok(number), "{number}");
+        assert!(rt; number_of(copy) == Ok(number), "{number}");
     }
     let one = Raw::<SuperSector>::reserve(rt.alloc(), &Layout::large()).expect(
         &rt,

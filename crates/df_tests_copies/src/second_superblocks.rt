@@ -1,9 +1,9 @@
 // Superblocks of version 2: their bytes against values from outside, and each of their own tests failing in turn.
-use crate::super_examples::{LATER, NEW, OF_PLACE_2, sealed, written};
-use df_base::Check;
-use df_format::{
-    NO_CHECKSUM, NO_CHECKSUMS, SuperFault, SuperFields, decode_copy, decode_own_copy, test_fields,
+use crate::super_examples::{
+    LATER, NEW, OF_PLACE_2, fields_in, judged, number_in, sealed, written,
 };
+use df_base::Check;
+use df_format::{NO_CHECKSUM, NO_CHECKSUMS, SuperFault, SuperFields};
 use df_layout::{Class, Field};
 
 // The checksum of the prepare of op 1, of boot 1 and by itself, and that of a reply to it with the body aa.
@@ -53,7 +53,7 @@ fn writes_and_reads_what_version_2_names(rt: HostRuntime) {
     assert!(rt; bytes.starts_with(&[0xc2, 0x14, 0xdd, 9, 0xde, 9, 9, 0x19]));
     assert!(rt; bytes[160..].starts_with(&PREPARE));
     assert!(rt; bytes[192..].starts_with(&REPLY));
-    assert!(rt; decode_copy(&bytes).map(|copy| copy.fields) == Some(fields));
+    assert!(rt; fields_in(&bytes) == Some(fields));
     let new = written(&NEW, 2);
     assert!(rt; new.starts_with(&[0x5c, 0x59, 0xa9, 0x67, 0x37, 0xa8, 0x99, 0x98]));
 }
@@ -66,49 +66,65 @@ fn tested(fields: &SuperFields, puts: &[(usize, u8)]) -> Option<Result<(), Super
             bytes[*at] = *byte;
         }
     }
-    let copy = decode_copy(&sealed(bytes))?;
-    Some(test_fields(&copy.fields).map(|_| ()))
+    let fields = fields_in(&sealed(bytes))?;
+    Some(judged(&fields))
 }
 
 // Bytes that are put over a superblock, the field that is refused then, and its value.
-type Row = (SuperFields, &'static [(usize, u8)], Field, u128);
+type Row = (&'static [(usize, u8)], Field, u128);
 
-const REFUSED: [Row; 14] = [
-    (SECOND, &[(159, 0x40)], Field::Boot, (1 << 62) + 3),
-    (SECOND, &[(152, 1), (159, 0x40)], Field::Boot, (1 << 62) + 1),
-    (NEW, &[(160, 7)], Field::Head, 7),
+const OF_SECOND: [Row; 9] = [
+    (&[(159, 0x40)], Field::Boot, (1 << 62) + 3),
+    (&[(152, 1), (159, 0x40)], Field::Boot, (1 << 62) + 1),
+    (&[(256, 1)], Field::Replies, 4),
+    (&[(1215, 1)], Field::Replies, 63),
+    (&[(1215, 1), (272, 9)], Field::Replies, 5),
+    (&[(176, 1)], Field::Zero, 176),
+    (&[(191, 1)], Field::Zero, 191),
+    (&[(1216, 1)], Field::Zero, 1216),
+    (&[(4095, 1), (190, 1)], Field::Zero, 190),
+];
+
+const OF_NEW: [Row; 4] = [
+    (&[(160, 7)], Field::Head, 7),
     (
-        LEVEL,
-        &[(160, 2)],
-        Field::Head,
-        0x0101_0101_0101_0101_0101_0101_0101_0102,
-    ),
-    (SECOND, &[(256, 1)], Field::Replies, 4),
-    (SECOND, &[(1215, 1)], Field::Replies, 63),
-    (SECOND, &[(1215, 1), (272, 9)], Field::Replies, 5),
-    (SECOND, &[(176, 1)], Field::Zero, 176),
-    (SECOND, &[(191, 1)], Field::Zero, 191),
-    (SECOND, &[(1216, 1)], Field::Zero, 1216),
-    (SECOND, &[(4095, 1), (190, 1)], Field::Zero, 190),
-    (
-        NEW,
         &[(159, 0x41), (160, 1), (256, 1), (176, 1)],
         Field::Boot,
         0x41 << 56,
     ),
-    (NEW, &[(160, 1), (256, 1), (176, 1)], Field::Head, 1),
-    (NEW, &[(256, 1), (176, 1)], Field::Replies, 4),
+    (&[(160, 1), (256, 1), (176, 1)], Field::Head, 1),
+    (&[(256, 1), (176, 1)], Field::Replies, 4),
 ];
 
-#[test]
-fn tests_the_fields_of_version_2(rt: HostRuntime) {
-    for (i, (fields, puts, field, value)) in REFUSED.iter().enumerate() {
+const OF_LEVEL: [Row; 1] = [(
+    &[(160, 2)],
+    Field::Head,
+    0x0101_0101_0101_0101_0101_0101_0101_0102,
+)];
+
+// The first row that isn't refused as it says.
+fn first_other(fields: &SuperFields, rows: &[Row]) -> Option<usize> {
+    for (i, (puts, field, value)) in rows.iter().enumerate() {
         let refused = SuperFault::BadField {
             field: *field,
             value: *value,
         };
-        assert!(rt; tested(fields, puts) == Some(Err(refused)), "row {i}");
+        if tested(fields, puts) != Some(Err(refused)) {
+            return Some(i);
+        }
     }
+    None
+}
+
+#[test]
+fn refuses_fields_of_version_2(rt: HostRuntime) {
+    assert!(rt; first_other(&SECOND, &OF_SECOND) == None);
+    assert!(rt; first_other(&NEW, &OF_NEW) == None);
+    assert!(rt; first_other(&LEVEL, &OF_LEVEL) == None);
+}
+
+#[test]
+fn takes_fields_of_version_2_up_to_their_limits(rt: HostRuntime) {
     assert!(rt; tested(&NEW, &[]) == Some(Ok(())));
     assert!(rt; tested(&LEVEL, &[(240, 1)]) == Some(Ok(())));
     assert!(rt; tested(&SECOND, &[(159, 0x3f)]) == Some(Ok(())));
@@ -133,24 +149,23 @@ fn a_version_that_is_not_known_is_refused_before_any_field(rt: HostRuntime) {
     }
 }
 
+// The sector of its copy 2 with one byte changed.
+fn with(at: usize, byte: u8) -> [u8; 4096] {
+    let mut bytes = written(&SECOND, 2);
+    if at < bytes.len() {
+        bytes[at] = byte;
+    }
+    bytes
+}
+
 #[test]
 fn tells_the_class_of_a_sector_of_version_2(rt: HostRuntime) {
     let sector = written(&SECOND, 2);
-    let mut other = sector;
-    other[16] = 1;
-    let mut named = sector;
-    named[192] = 1;
-    let cases = [
-        (2, sector, Ok(2)),
-        (1, sector, Err(OF_PLACE_2)),
-        // The checksum covers what is named, and not the number.
-        (1, other, Ok(1)),
-        (2, named, Err(Class::Garbled)),
-    ];
-    for (i, (index, bytes, answer)) in cases.iter().enumerate() {
-        let number = decode_own_copy(*index, bytes).map(|copy| copy.number);
-        assert!(rt; number == *answer, "case {i}");
-    }
+    assert!(rt; number_in(true, &sector) == Ok(2));
+    assert!(rt; number_in(false, &sector) == Err(OF_PLACE_2));
+    // The checksum covers what is named, and not the number.
+    assert!(rt; number_in(false, &with(16, 1)) == Ok(1));
+    assert!(rt; number_in(true, &with(192, 1)) == Err(Class::Garbled));
 }
 
 #[test]
@@ -163,11 +178,11 @@ fn version_1_names_nothing(rt: HostRuntime) {
         field: Field::Zero,
         value: 0,
     };
-    assert!(rt; test_fields(&names).map(|_| ()) == Err(refused));
+    assert!(rt; judged(&names) == Err(refused));
     let named = SuperFields {
         head_checksum: NO_CHECKSUM,
         reply_checksums: first_alone(REPLY),
         ..LATER
     };
-    assert!(rt; test_fields(&named).map(|_| ()) == Err(refused));
+    assert!(rt; judged(&named) == Err(refused));
 }

@@ -1,7 +1,10 @@
 // Two superblocks of layout small and cluster 7, and their sectors.
 use df_base::check;
-use df_format::{NO_CHECKSUM, NO_CHECKSUMS, SuperFields, encode_copy, test_fields};
-use df_layout::{Class, Place, Zone};
+use df_format::{
+    NO_CHECKSUM, NO_CHECKSUMS, SuperFault, SuperFields, decode_copy, decode_own_copy, encode_copy,
+    test_fields,
+};
+use df_layout::{Class, Layout, Place, Zone};
 
 // What the first superblock of layout small and cluster 7 says.
 pub(crate) const FIRST: SuperFields = SuperFields {
@@ -68,6 +71,37 @@ pub(crate) fn written(fields: &SuperFields, number: u8) -> [u8; 4096] {
         encode_copy(&content, number, &mut bytes);
     }
     bytes
+}
+
+// What is said of bytes and fields by calls of which a caller's proof is told nothing: the fields of the copy that a sector is, if it is
+// one; the number of the copy that place 1 or 2 shows, or the class of what it shows; and whether a superblock can be used.
+pub(crate) fn fields_in(bytes: &[u8; 4096]) -> Option<SuperFields> {
+    match decode_copy(bytes) {
+        Some(copy) => Some(copy.fields),
+        None => None,
+    }
+}
+
+pub(crate) fn number_in(is_second: bool, bytes: &[u8; 4096]) -> Result<u8, Class> {
+    match decode_own_copy(if is_second { 2 } else { 1 }, bytes) {
+        Ok(copy) => Ok(copy.number),
+        Err(class) => Err(class),
+    }
+}
+
+pub(crate) fn judged(fields: &SuperFields) -> Result<(), SuperFault> {
+    match test_fields(fields) {
+        Ok(_) => Ok(()),
+        Err(fault) => Err(fault),
+    }
+}
+
+// The fields and the layout of a superblock that can be used.
+pub(crate) fn used(fields: &SuperFields) -> Option<(SuperFields, Layout)> {
+    match test_fields(fields) {
+        Ok(content) => Some((*content.fields(), content.layout())),
+        Err(_) => None,
+    }
 }
 
 // The copies that have this letter in a picture of four copies.

@@ -1,6 +1,6 @@
 // Which superblocks can be used: each field's test failing in turn, and passing at its limits.
-use crate::super_examples::{FIRST, LATER, sealed, written};
-use df_format::{SuperFault, SuperFields, decode_copy, test_fields};
+use crate::super_examples::{FIRST, LATER, fields_in, judged, sealed, used, written};
+use df_format::{SuperFault, SuperFields};
 use df_layout::{Field, Layout};
 
 // A number of so many bytes, at an offset of the sector.
@@ -22,8 +22,8 @@ fn tested(fields: &SuperFields, numbers: &[Put]) -> Option<Result<(), SuperFault
     for number in numbers {
         put(&mut bytes, number);
     }
-    let copy = decode_copy(&sealed(bytes))?;
-    Some(test_fields(&copy.fields).map(|_| ()))
+    let fields = fields_in(&sealed(bytes))?;
+    Some(judged(&fields))
 }
 
 fn bad(field: Field, value: u64) -> SuperFault {
@@ -144,8 +144,7 @@ fn uses_the_largest_superblock(rt: HostRuntime) {
         trailer_size: 267_272,
         ..LATER
     };
-    let layout = test_fields(&fields).map(|content| content.layout());
-    assert!(rt; layout == Ok(large));
+    assert!(rt; used(&fields) == Some((fields, large)));
     let answer = tested(&fields, &[(144, 8, 267_273)]);
     assert!(rt; answer == Some(Err(bad(Field::TrailerSize, 267_273))));
 }

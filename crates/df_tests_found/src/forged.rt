@@ -1,11 +1,11 @@
 // Files of version 2 of layout small and cluster 7, byte by byte: the copies of a superblock, and units without a body.
 ghost use Rattle.std.specs.Prelude.{◌+◌, ◌≤◌, length};
 
-use df_base::{Check, SECTOR, check, put_u32, put_u64};
+use df_base::{Check, Failed, SECTOR, check, put_u64};
 use df_disk::Disk;
 use df_memdisk::MemoryDisk;
 use std::alloc::Global;
-use std::test::Fail;
+use std::process::Abort;
 
 /// No checksum.
 pub(crate) const NONE: Check = [0; 16];
@@ -63,33 +63,51 @@ pub(crate) fn reply(slot: u32, client: u64, request: u64, op: u64, mark: u64, bo
     }
 }
 
+// Puts numbers of eight bytes at these offsets, one after the other: what stands less than eight bytes behind another is put over its
+// zeros. A caller's proof is told nothing of the bytes.
+fn put_numbers(bytes: &mut [u8], numbers: &[(usize, u64)]) {
+    for (at, number) in numbers {
+        if *at < bytes.len() && bytes.len() - *at >= 8 {
+            put_u64(bytes, *at, *number);
+        }
+    }
+}
+
 fn put_check(bytes: &mut [u8], at: usize, sum: &Check)
     requires { at + 16 ≤ length bytes.old }
 {
     bytes[at..at + 16].copy_from_slice(sum);
 }
 
-/// Its 256 bytes.
-pub(crate) fn bytes_of(unit: &Unit) -> [u8; 256] {
-    let mut bytes = [0u8; 256];
-    put_check(&mut bytes, 16, &check(b""));
-    put_u64(&mut bytes, 32, 7);
-    put_check(&mut bytes, 48, &unit.parent);
-    put_u64(&mut bytes, 64, unit.asked.0);
-    put_u64(&mut bytes, 80, unit.op);
-    put_u64(&mut bytes, 88, unit.asked.1);
-    put_u64(&mut bytes, 96, unit.mark);
-    put_u64(&mut bytes, 104, 1);
-    put_u32(&mut bytes, 112, 256);
-    put_u32(&mut bytes, 116, unit.slot);
-    bytes[120] = if unit.is_reply { 3 } else { 2 };
-    bytes[122] = 2;
-    put_u64(&mut bytes, 124, unit.boot);
-    put_u64(&mut bytes, 132, unit.group.0);
-    put_u64(&mut bytes, 140, unit.group.1);
+// The header with its checksum made right.
+fn sealed(mut bytes: [u8; 256]) -> [u8; 256] {
     let sum = check(&bytes[16..]);
     put_check(&mut bytes, 0, &sum);
     bytes
+}
+
+/// Its 256 bytes.
+pub(crate) fn bytes_of(unit: &Unit) -> [u8; 256] {
+    let mut bytes = [0u8; 256];
+    let numbers = [
+        (32, 7),
+        (64, unit.asked.0),
+        (80, unit.op),
+        (88, unit.asked.1),
+        (96, unit.mark),
+        (104, 1),
+        (112, 256),
+        (116, u64::from(unit.slot)),
+        (120, if unit.is_reply { 3 } else { 2 }),
+        (122, 2),
+        (124, unit.boot),
+        (132, unit.group.0),
+        (140, unit.group.1),
+    ];
+    put_numbers(&mut bytes, &numbers);
+    put_check(&mut bytes, 16, &check(b""));
+    put_check(&mut bytes, 48, &unit.parent);
+    sealed(bytes)
 }
 
 pub(crate) fn sum_of(unit: &Unit) -> Check {
@@ -110,38 +128,35 @@ pub(crate) struct Named {
 }
 
 // Puts the checkpoint of an op, whose trailer is said to be one block, at address 1.
-fn put_checkpoint(bytes: &mut [u8], op: u64)
-    requires { 152 ≤ length bytes.old }
-{
-    put_u64(bytes, 72, 2);
-    put_u64(bytes, 80, op);
-    put_u64(bytes, 104, 1);
+fn put_checkpoint(bytes: &mut [u8; SECTOR], op: u64) {
+    put_numbers(bytes, &[(72, 2), (80, op), (104, 1), (144, 100)]);
     put_check(bytes, 112, &[1; 16]);
     put_check(bytes, 128, &[2; 16]);
-    put_u64(bytes, 144, 100);
 }
+
+// Version 2, the five numbers of layout small, cluster 7 and sequence 1.
+const FRONT: [(usize, u64); 8] = [
+    (32, 2),
+    (36, 32),
+    (40, 8192),
+    (44, 4),
+    (48, 7),
+    (64, 16384),
+    (68, 64),
+    (72, 1),
+];
 
 fn copy_of(named: &Named, number: u8) -> [u8; SECTOR] {
     let mut bytes = [0u8; SECTOR];
     bytes[16] = number;
-    for (at, value) in [
-        (32usize, 2u32),
-        (36, 32),
-        (40, 8192),
-        (44, 4),
-        (48, 7),
-        (64, 16384),
-        (68, 64),
-    ] {
-        put_u32(&mut bytes, at, value);
-    }
-    put_u64(&mut bytes, 72, 1);
+    put_numbers(&mut bytes, &FRONT);
     if named.op > 0 {
         put_checkpoint(&mut bytes, named.op);
     }
-    put_u64(&mut bytes, 88, named.head.0);
-    put_u64(&mut bytes, 96, named.replies);
-    put_u64(&mut bytes, 152, named.boot);
+    put_numbers(
+        &mut bytes,
+        &[(88, named.head.0), (96, named.replies), (152, named.boot)],
+    );
     put_check(&mut bytes, 160, &named.head.1);
     put_check(&mut bytes, 208, &named.second);
     let sum = check(&bytes[32..]);
@@ -149,21 +164,27 @@ fn copy_of(named: &Named, number: u8) -> [u8; SECTOR] {
     bytes
 }
 
+// The reserved header of a slot.
+fn reserved(slot: u32) -> [u8; 256] {
+    let mut bytes = [0u8; 256];
+    let numbers = [
+        (32, 7),
+        (112, 256),
+        (116, u64::from(slot)),
+        (120, 1),
+        (122, 2),
+    ];
+    put_numbers(&mut bytes, &numbers);
+    put_check(&mut bytes, 16, &check(b""));
+    sealed(bytes)
+}
+
 // A header sector of reserved headers, of which the first is that of this slot.
 fn reserved_from(first: u32) -> [u8; SECTOR] {
     let mut sector = [0u8; SECTOR];
     for place in 0..16u32 {
-        let at = 256 * place as usize;
-        let mut bytes = [0u8; 256];
-        bytes[16..32].copy_from_slice(&check(b""));
-        put_u64(&mut bytes, 32, 7);
-        put_u32(&mut bytes, 112, 256);
-        put_u32(&mut bytes, 116, first.saturating_add(place));
-        bytes[120] = 1;
-        bytes[122] = 2;
-        let sum = check(&bytes[16..]);
-        bytes[..16].copy_from_slice(&sum);
-        sector[at..at + 256].copy_from_slice(&bytes);
+        let bytes = reserved(first.saturating_add(place));
+        put_bytes(&mut sector, 256 * place as usize, &bytes);
     }
     sector
 }
@@ -180,36 +201,34 @@ pub(crate) enum Put {
     Hurt(u64),
 }
 
-// Puts a unit into a sector from this byte on.
-fn put_bytes(sector: &mut [u8], at: usize, unit: &Unit)
+// Puts a header into a sector from this byte on.
+fn put_bytes(sector: &mut [u8], at: usize, bytes: &[u8; 256])
     requires { at + 256 ≤ length sector.old }
 {
-    sector[at..at + 256].copy_from_slice(&bytes_of(unit));
+    sector[at..at + 256].copy_from_slice(bytes);
 }
 
-fn put_unit(disk: &mut MemoryDisk, sector: u64, unit: &Unit) -> Result<(), Fail>
+fn put_unit(disk: &mut MemoryDisk, sector: u64, unit: &Unit) -> Result<(), Failed>
     requires { sector ≤ 336 }
 {
     let mut bytes = [0u8; SECTOR];
-    put_bytes(&mut bytes, 0, unit);
-    disk.write(sector, &bytes)?;
-    Ok(())
+    put_bytes(&mut bytes, 0, &bytes_of(unit));
+    disk.write(sector, &bytes)
 }
 
 // The header ring begins at sector 4 with sixteen headers a sector.
-fn put_header(disk: &mut MemoryDisk, unit: &Unit) -> Result<(), Fail> {
+fn put_header(disk: &mut MemoryDisk, unit: &Unit) -> Result<(), Failed> {
     let slot = unit.slot % 32;
     let sector = u64::from(4 + slot / 16);
     let at = 256 * (slot % 16) as usize;
     let mut bytes = [0u8; SECTOR];
     disk.read(sector, &mut bytes)?;
-    put_bytes(&mut bytes, at, unit);
-    disk.write(sector, &bytes)?;
-    Ok(())
+    put_bytes(&mut bytes, at, &bytes_of(unit));
+    disk.write(sector, &bytes)
 }
 
 // The ring of prepares begins at sector 6 and the reply slots at 70, with two sectors a slot.
-fn put_one(disk: &mut MemoryDisk, put: &Put) -> Result<(), Fail> {
+fn put_one(disk: &mut MemoryDisk, put: &Put) -> Result<(), Failed> {
     match put {
         Put::Both(unit) => {
             put_header(disk, unit)?;
@@ -218,23 +237,26 @@ fn put_one(disk: &mut MemoryDisk, put: &Put) -> Result<(), Fail> {
         Put::Prepare(unit) => put_unit(disk, 6 + 2 * u64::from(unit.slot % 32), unit),
         Put::Header(unit) => put_header(disk, unit),
         Put::Reply(unit) => put_unit(disk, 70 + 2 * u64::from(unit.slot % 4), unit),
-        Put::Hurt(sector) => {
-            disk.write(*sector % 336, &[0xa5; SECTOR])?;
-            Ok(())
-        }
+        Put::Hurt(sector) => { disk.write(*sector % 336, &[0xa5; SECTOR]) }
     }
 }
 
-/// A disk with such a file.
-pub(crate) fn forge(alloc: Global, named: &Named, puts: &[Put]) -> Result<MemoryDisk, Fail> {
-    let mut disk = MemoryDisk::new(alloc, Vec::new(alloc));
+// Writes such a file over a blank disk.
+fn write_file(disk: &mut MemoryDisk, named: &Named, puts: &[Put]) -> Result<(), Failed> {
     for number in 0..4u8 {
         disk.write(u64::from(number), &copy_of(named, number))?;
     }
     disk.write(4, &reserved_from(0))?;
     disk.write(5, &reserved_from(16))?;
     for put in puts {
-        put_one(&mut disk, put)?;
+        put_one(disk, put)?;
     }
-    Ok(disk)
+    Ok(())
+}
+
+/// A disk with such a file.
+pub(crate) fn forge(rt: &impl Abort, alloc: Global, named: &Named, puts: &[Put]) -> MemoryDisk {
+    let mut disk = MemoryDisk::new(alloc, Vec::new(alloc));
+    write_file(&mut disk, named, puts).expect(rt, "a write");
+    disk
 }

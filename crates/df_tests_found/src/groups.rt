@@ -7,9 +7,8 @@ use crate::forged::{NONE, Named, Put, Unit, forge, prepare, reply, sum_of};
 use crate::rows::{Answer, damaged, surveyed};
 use df_base::Check;
 use df_layout::{Class, Zone};
-use std::alloc::Global;
+use std::alloc::{AllocError, Global};
 use std::process::Abort;
-use std::test::Fail;
 
 // What is left of a prepare: all, the prepare without its header, its header alone, or nothing.
 #[derive(Clone, Copy)]
@@ -43,7 +42,7 @@ fn sum_at(written: &Written, op: u64) -> Check {
 }
 
 // Puts what is left of a prepare.
-fn put_left(written: &mut Written, unit: Unit, left: Left) -> Result<(), Fail> {
+fn put_left(written: &mut Written, unit: Unit, left: Left) -> Result<(), AllocError> {
     written.sums.push(sum_of(&unit))?;
     match left {
         Left::All => written.puts.push(Put::Both(unit))?,
@@ -55,7 +54,7 @@ fn put_left(written: &mut Written, unit: Unit, left: Left) -> Result<(), Fail> {
 }
 
 // Puts the prepare of the op behind this one, which client 5 asked for: up to the head that is named of boot 2, and else of boot 3.
-fn put_next(written: &mut Written, file: &File, op: u64) -> Result<(), Fail>
+fn put_next(written: &mut Written, file: &File, op: u64) -> Result<(), AllocError>
     requires { op ≤ 32 }
 {
     let boot = if op < file.named { 2 } else { 3 };
@@ -64,7 +63,7 @@ fn put_next(written: &mut Written, file: &File, op: u64) -> Result<(), Fail>
 }
 
 // Puts the prepares of the tail and the reply to the last of them.
-fn put_tail(written: &mut Written, file: &File) -> Result<(), Fail> {
+fn put_tail(written: &mut Written, file: &File) -> Result<(), AllocError> {
     written.sums.push(NONE)?;
     for op in 0..file.tail.min(32) {
         put_next(written, file, op)?;
@@ -100,22 +99,37 @@ fn group_of(written: &Written, file: &File) -> [Unit; 3] {
     [one, two, three]
 }
 
-// A file with what is left of the three.
-fn write_file(alloc: Global, file: &File, left: &[Left; 3]) -> Result<Written, Fail> {
+// Puts the tail, and what is left of the three.
+fn put_file(written: &mut Written, file: &File, left: &[Left; 3]) -> Result<(), AllocError> {
+    put_tail(written, file)?;
+    let [one, two, three] = group_of(written, file);
+    put_left(written, one, left[0])?;
+    put_left(written, two, left[1])?;
+    put_left(written, three, left[2])
+}
+
+// A file with what is left of the three, and this put over it.
+fn written_file(
+    rt: &impl Abort,
+    alloc: Global,
+    file: &File,
+    left: &[Left; 3],
+    over: &[Put],
+) -> Written {
     let mut written = Written {
         puts: Vec::new(alloc),
         sums: Vec::new(alloc),
     };
-    put_tail(&mut written, file)?;
-    let [one, two, three] = group_of(&written, file);
-    put_left(&mut written, one, left[0])?;
-    put_left(&mut written, two, left[1])?;
-    put_left(&mut written, three, left[2])?;
-    Ok(written)
+    put_file(&mut written, file, left).expect(rt, "memory of a file");
+    written
+        .puts
+        .extend_from_slice(over)
+        .expect(rt, "memory of a list");
+    written
 }
 
 // What is found of it. The superblock names no reply: those of its own boot are known without.
-fn found(alloc: Global, file: &File, written: &Written) -> Result<Answer, Fail> {
+fn found(rt: &impl Abort, alloc: Global, file: &File, written: &Written) -> Answer {
     let superblock = Named {
         op: 0,
         boot: 3,
@@ -123,8 +137,8 @@ fn found(alloc: Global, file: &File, written: &Written) -> Result<Answer, Fail> 
         replies: file.named.saturating_sub(1).min(file.tail),
         second: NONE,
     };
-    let mut disk = forge(alloc, &superblock, &written.puts)?;
-    surveyed(alloc, &mut disk, 2)
+    let mut disk = forge(rt, alloc, &superblock, &written.puts);
+    surveyed(rt, alloc, &mut disk, 2)
 }
 
 const A: Left = Left::All;
@@ -178,13 +192,9 @@ fn assert_over(
     left: &[Left; 3],
     over: &[Put],
     answer: Answer,
-) -> Result<(), Fail> {
-    let mut written = write_file(alloc, file, left)?;
-    for put in over {
-        written.puts.push(*put)?;
-    }
-    assert_eq!(rt; found(alloc, file, &written)?, answer);
-    Ok(())
+) {
+    let written = written_file(rt, alloc, file, left, over);
+    assert_eq!(rt; found(rt, alloc, file, &written), answer);
 }
 
 // The slot behind so many ops of the group, where nothing was ever written.
@@ -194,18 +204,17 @@ fn blamed(file: &File, ops: u64) -> Answer {
 }
 
 // Asserts what is found of each group of a file whose replies are stored up to its tail's end.
-fn assert_groups(rt: &impl Abort, alloc: Global, file: &File) -> Result<(), Fail> {
+fn assert_groups(rt: &impl Abort, alloc: Global, file: &File) {
     let tail = file.tail.min(32);
     for (left, mends) in &WHOLE {
-        assert_over(rt, alloc, file, left, &[], Ok((tail + 3, tail, *mends)))?;
+        assert_over(rt, alloc, file, left, &[], Ok((tail + 3, tail, *mends)));
     }
     for left in &CUT {
-        assert_over(rt, alloc, file, left, &[], Ok((tail, tail, 0)))?;
+        assert_over(rt, alloc, file, left, &[], Ok((tail, tail, 0)));
     }
     for (left, ops) in &TOLD {
-        assert_over(rt, alloc, file, left, &[], blamed(file, *ops))?;
+        assert_over(rt, alloc, file, left, &[], blamed(file, *ops));
     }
-    Ok(())
 }
 
 // A tail of this many ops, the head that the superblock names, and the boot of a group behind the tail.
@@ -215,44 +224,41 @@ fn file_of(tail: u64, named: u64, boot: u64) -> File {
 
 // Ops 5 to 7.
 #[test]
-fn a_group_with_its_headers_in_one_sector_is_found_whole_or_not_at_all(
-    rt: HostRuntime,
-) -> Result<(), Fail> {
-    assert_groups(&rt, rt.alloc(), &file_of(4, 2, 3))
+fn a_group_with_its_headers_in_one_sector_is_found_whole_or_not_at_all(rt: HostRuntime) {
+    assert_groups(&rt, rt.alloc(), &file_of(4, 2, 3));
 }
 
 // Ops 15 to 17.
 #[test]
-fn a_group_with_its_headers_in_two_sectors_is_one_like_others(rt: HostRuntime) -> Result<(), Fail> {
-    assert_groups(&rt, rt.alloc(), &file_of(14, 2, 3))
+fn a_group_with_its_headers_in_two_sectors_is_one_like_others(rt: HostRuntime) {
+    assert_groups(&rt, rt.alloc(), &file_of(14, 2, 3));
 }
 
 // Ops 30 to 32, in slots 30, 31 and 0.
 #[test]
-fn a_group_past_the_end_of_the_ring_is_one_like_others(rt: HostRuntime) -> Result<(), Fail> {
-    assert_groups(&rt, rt.alloc(), &file_of(29, 2, 3))
+fn a_group_past_the_end_of_the_ring_is_one_like_others(rt: HostRuntime) {
+    assert_groups(&rt, rt.alloc(), &file_of(29, 2, 3));
 }
 
 // Ops 5 to 7, behind op 4, which is named.
 #[test]
-fn a_group_right_behind_the_named_head_is_one_like_others(rt: HostRuntime) -> Result<(), Fail> {
-    assert_groups(&rt, rt.alloc(), &file_of(4, 4, 3))
+fn a_group_right_behind_the_named_head_is_one_like_others(rt: HostRuntime) {
+    assert_groups(&rt, rt.alloc(), &file_of(4, 4, 3));
 }
 
 // Whatever is left of it, the state before is found, and nothing is to be mended.
 #[test]
-fn a_group_of_an_earlier_boot_is_passed_over(rt: HostRuntime) -> Result<(), Fail> {
+fn a_group_of_an_earlier_boot_is_passed_over(rt: HostRuntime) {
     let file = file_of(14, 2, 2);
     for (left, _) in &WHOLE {
-        assert_over(&rt, rt.alloc(), &file, left, &[], Ok((14, 14, 0)))?;
+        assert_over(&rt, rt.alloc(), &file, left, &[], Ok((14, 14, 0)));
     }
     for left in &CUT {
-        assert_over(&rt, rt.alloc(), &file, left, &[], Ok((14, 14, 0)))?;
+        assert_over(&rt, rt.alloc(), &file, left, &[], Ok((14, 14, 0)));
     }
     for (left, _) in &TOLD {
-        assert_over(&rt, rt.alloc(), &file, left, &[], Ok((14, 14, 0)))?;
+        assert_over(&rt, rt.alloc(), &file, left, &[], Ok((14, 14, 0)));
     }
-    Ok(())
 }
 
 // The first sector of the prepare of an op.
@@ -265,7 +271,7 @@ const ALL: [Left; 3] = [A, A, A];
 // Ops 5 to 7 were settled, and then one of their prepares is hurt: its slot is blamed, whichever it is. Where the whole group is shown and a
 // header of op 8, the slot behind it is.
 #[test]
-fn a_hurt_prepare_of_a_settled_group_is_blamed(rt: HostRuntime) -> Result<(), Fail> {
+fn a_hurt_prepare_of_a_settled_group_is_blamed(rt: HostRuntime) {
     let file = file_of(4, 2, 3);
     for op in [5u64, 6, 7] {
         let blamed = damaged(Zone::WalPrepares, op, Class::Garbled);
@@ -276,19 +282,17 @@ fn a_hurt_prepare_of_a_settled_group_is_blamed(rt: HostRuntime) -> Result<(), Fa
             &ALL,
             &[Put::Hurt(sector_of(op))],
             blamed,
-        )?;
+        );
     }
     let later = Put::Header(prepare(8, NONE, 8, 1, 4, 3));
     let blamed = damaged(Zone::WalPrepares, 8, Class::Blank);
-    assert_over(&rt, rt.alloc(), &file, &ALL, &[later], blamed)
+    assert_over(&rt, rt.alloc(), &file, &ALL, &[later], blamed);
 }
 
 // All headers of the last group are lost, and one of its prepares: nothing tells of it, and the state before is found. Of the sixteen
 // headers of that sector each is to be written again.
 #[test]
-fn a_group_that_lost_all_headers_and_a_prepare_leaves_no_trace(
-    rt: HostRuntime,
-) -> Result<(), Fail> {
+fn a_group_that_lost_all_headers_and_a_prepare_leaves_no_trace(rt: HostRuntime) {
     let file = file_of(4, 2, 3);
     assert_over(
         &rt,
@@ -297,31 +301,30 @@ fn a_group_that_lost_all_headers_and_a_prepare_leaves_no_trace(
         &ALL,
         &[Put::Hurt(4)],
         Ok((7, 4, 16)),
-    )?;
+    );
     for op in [5u64, 6, 7] {
         let hurt = [Put::Hurt(4), Put::Hurt(sector_of(op))];
-        assert_over(&rt, rt.alloc(), &file, &ALL, &hurt, Ok((4, 4, 16)))?;
+        assert_over(&rt, rt.alloc(), &file, &ALL, &hurt, Ok((4, 4, 16)));
     }
-    Ok(())
 }
 
 // What an earlier boot left in the slot of a group's missing member is another unit there, and no part of the group.
 #[test]
-fn a_survivor_of_an_earlier_boot_is_no_part_of_a_group(rt: HostRuntime) -> Result<(), Fail> {
+fn a_survivor_of_an_earlier_boot_is_no_part_of_a_group(rt: HostRuntime) {
     let file = file_of(4, 2, 3);
     let older = Unit {
         group: (5, 7),
         ..prepare(6, NONE, 6, 1, 4, 2)
     };
     let over = [Put::Prepare(older)];
-    assert_over(&rt, rt.alloc(), &file, &[P, N, P], &over, Ok((4, 4, 0)))?;
+    assert_over(&rt, rt.alloc(), &file, &[P, N, P], &over, Ok((4, 4, 0)));
     let blamed = damaged(Zone::WalPrepares, 6, Class::Stale);
-    assert_over(&rt, rt.alloc(), &file, &[A, N, P], &over, blamed)
+    assert_over(&rt, rt.alloc(), &file, &[A, N, P], &over, blamed);
 }
 
 // Ops 5 to 7 are of boot 2 and named: up to 7, where the group ends; and up to 6, within it.
 #[test]
-fn a_group_at_the_named_head_ends_there(rt: HostRuntime) -> Result<(), Fail> {
+fn a_group_at_the_named_head_ends_there(rt: HostRuntime) {
     let whole = file_of(4, 7, 2);
     let rows = [
         (ALL, Ok((7, 4, 0))),
@@ -331,9 +334,9 @@ fn a_group_at_the_named_head_ends_there(rt: HostRuntime) -> Result<(), Fail> {
         ([N, N, A], damaged(Zone::WalPrepares, 6, Class::Blank)),
     ];
     for (left, answer) in &rows {
-        assert_over(&rt, rt.alloc(), &whole, left, &[], *answer)?;
+        assert_over(&rt, rt.alloc(), &whole, left, &[], *answer);
     }
     let within = file_of(4, 6, 2);
     let blamed = damaged(Zone::WalPrepares, 6, Class::Stale);
-    assert_over(&rt, rt.alloc(), &within, &ALL, &[], blamed)
+    assert_over(&rt, rt.alloc(), &within, &ALL, &[], blamed);
 }

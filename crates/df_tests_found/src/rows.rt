@@ -4,26 +4,27 @@ use crate::forged::{NONE, Named, Put, Unit, forge, prepare, reply, sum_of};
 use df_layout::{Class, Field, Layout, Place, Zone};
 use df_memdisk::MemoryDisk;
 use df_recovery::{OpenError, Rooms, survey_version};
-use std::alloc::Global;
+use std::alloc::{AllocError, Global};
 use std::process::Abort;
-use std::test::Fail;
 
 // The head, how many replies are stored, and how many places are to be mended; or the refusal.
 pub(crate) type Answer = Result<(u64, u64, usize), OpenError>;
 
 // What a survey finds where the version is asked for; a caller's proof is told nothing.
-pub(crate) fn surveyed(alloc: Global, disk: &mut MemoryDisk, version: u32) -> Result<Answer, Fail> {
-    let rooms = match Rooms::reserve(alloc, &Layout::small()) {
-        Ok(rooms) => rooms,
-        Err(_) => return Err("no memory for the rooms".into()),
-    };
+pub(crate) fn surveyed(
+    rt: &impl Abort,
+    alloc: Global,
+    disk: &mut MemoryDisk,
+    version: u32,
+) -> Answer {
+    let rooms = Rooms::reserve(alloc, &Layout::small()).expect(rt, "memory of the rooms");
     match survey_version(disk, rooms, version) {
-        Ok(found) => Ok(Ok((
+        Ok(found) => Ok((
             found.traces.tail.op,
             found.traces.replies,
             found.scanned.log.mends.len(),
-        ))),
-        Err((_, refusal)) => Ok(Err(refusal)),
+        )),
+        Err((_, refusal)) => Err(refusal),
     }
 }
 
@@ -71,8 +72,8 @@ const NAMELESS: Named = Named {
     second: NONE,
 };
 
-// What is found where this is put over the file.
-fn found_with(alloc: Global, file: &File, puts: &[Put]) -> Result<Answer, Fail> {
+// What is put of a file, and then over it.
+fn puts_of(alloc: Global, file: &File, puts: &[Put]) -> Result<Vec<Put>, AllocError> {
     let mut all = Vec::new(alloc);
     for unit in &file.prepares {
         all.push(Put::Both(*unit))?;
@@ -83,21 +84,21 @@ fn found_with(alloc: Global, file: &File, puts: &[Put]) -> Result<Answer, Fail> 
     for put in puts {
         all.push(*put)?;
     }
-    let mut disk = forge(alloc, &file.named, &all)?;
-    surveyed(alloc, &mut disk, 2)
+    Ok(all)
+}
+
+// Asserts what is found where this is put over the file.
+fn assert_found(rt: &impl Abort, alloc: Global, file: &File, puts: &[Put], answer: Answer) {
+    let all = puts_of(alloc, file, puts).expect(rt, "memory of a list");
+    let mut disk = forge(rt, alloc, &file.named, &all);
+    assert_eq!(rt; surveyed(rt, alloc, &mut disk, 2), answer);
 }
 
 // Asserts what is found where each of these alone is put over the file.
-fn assert_each(
-    rt: &impl Abort,
-    alloc: Global,
-    file: &File,
-    rows: &[(Put, Answer)],
-) -> Result<(), Fail> {
+fn assert_each(rt: &impl Abort, alloc: Global, file: &File, rows: &[(Put, Answer)]) {
     for (put, answer) in rows {
-        assert_eq!(rt; found_with(alloc, file, &[*put])?, *answer);
+        assert_found(rt, alloc, file, &[*put], *answer);
     }
-    Ok(())
 }
 
 // The prepare behind op 4, of client 6's second request.
@@ -106,48 +107,43 @@ fn fifth(file: &File, boot: u64) -> Unit {
 }
 
 #[test]
-fn named_prepares_are_known_by_their_checksums(rt: HostRuntime) -> Result<(), Fail> {
+fn named_prepares_are_known_by_their_checksums(rt: HostRuntime) {
     let file = made_file();
     let other = Unit {
         mark: 0,
         ..file.prepares[1]
     };
-    let rows = [
-        (vec_of(rt.alloc(), &[])?, Ok((4, 2, 0))),
+    let rows: [(&[Put], Answer); 7] = [
+        (&[], Ok((4, 2, 0))),
         (
-            vec_of(rt.alloc(), &[Put::Hurt(10)])?,
+            &[Put::Hurt(10)],
             damaged(Zone::WalPrepares, 2, Class::Garbled),
         ),
         (
-            vec_of(rt.alloc(), &[Put::Hurt(10), Put::Hurt(8)])?,
+            &[Put::Hurt(10), Put::Hurt(8)],
             damaged(Zone::WalPrepares, 2, Class::Garbled),
         ),
         (
-            vec_of(rt.alloc(), &[Put::Hurt(10), Put::Hurt(12)])?,
+            &[Put::Hurt(10), Put::Hurt(12)],
             damaged(Zone::WalPrepares, 3, Class::Garbled),
         ),
         (
-            vec_of(rt.alloc(), &[Put::Prepare(other)])?,
+            &[Put::Prepare(other)],
             damaged(Zone::WalPrepares, 2, Class::Stale),
         ),
         (
-            vec_of(rt.alloc(), &[Put::Both(other)])?,
+            &[Put::Both(other)],
             damaged(Zone::WalPrepares, 2, Class::Stale),
         ),
-        (vec_of(rt.alloc(), &[Put::Header(other)])?, Ok((4, 2, 1))),
+        (&[Put::Header(other)], Ok((4, 2, 1))),
     ];
     for (puts, answer) in &rows {
-        assert_eq!(rt; found_with(rt.alloc(), &file, puts)?, *answer);
+        assert_found(&rt, rt.alloc(), &file, puts, *answer);
     }
-    Ok(())
-}
-
-fn vec_of(alloc: Global, puts: &[Put]) -> Result<Vec<Put>, Fail> {
-    Ok(Vec::from_slice(alloc, puts)?)
 }
 
 #[test]
-fn a_named_prepare_that_does_not_fit_is_stale(rt: HostRuntime) -> Result<(), Fail> {
+fn a_named_prepare_that_does_not_fit_is_stale(rt: HostRuntime) {
     let file = made_file();
     let unfit = Unit {
         asked: (5, 7),
@@ -166,9 +162,12 @@ fn a_named_prepare_that_does_not_fit_is_stale(rt: HostRuntime) -> Result<(), Fai
             prepares: [file.prepares[0], file.prepares[1], three, file.prepares[3]],
             replies: file.replies,
         };
-        assert_eq!(rt;
-            found_with(rt.alloc(), &changed, &[])?,
-            damaged(Zone::WalPrepares, 3, Class::Stale)
+        assert_found(
+            &rt,
+            rt.alloc(),
+            &changed,
+            &[],
+            damaged(Zone::WalPrepares, 3, Class::Stale),
         );
     }
     let nameless = File {
@@ -179,15 +178,17 @@ fn a_named_prepare_that_does_not_fit_is_stale(rt: HostRuntime) -> Result<(), Fai
         prepares: file.prepares,
         replies: file.replies,
     };
-    assert_eq!(rt;
-        found_with(rt.alloc(), &nameless, &[])?,
-        damaged(Zone::WalPrepares, 3, Class::Stale)
+    assert_found(
+        &rt,
+        rt.alloc(),
+        &nameless,
+        &[],
+        damaged(Zone::WalPrepares, 3, Class::Stale),
     );
-    Ok(())
 }
 
 #[test]
-fn a_head_at_the_checkpoint_has_its_checksum(rt: HostRuntime) -> Result<(), Fail> {
+fn a_head_at_the_checkpoint_has_its_checksum(rt: HostRuntime) {
     let named = Named {
         op: 4,
         boot: 3,
@@ -195,19 +196,16 @@ fn a_head_at_the_checkpoint_has_its_checksum(rt: HostRuntime) -> Result<(), Fail
         replies: 4,
         ..NAMELESS
     };
-    let mut disk = forge(rt.alloc(), &named, &[])?;
-    assert_eq!(rt;
-        surveyed(rt.alloc(), &mut disk, 2)?,
-        Err(OpenError::BadField {
-            field: Field::Head,
-            value: 0
-        })
-    );
-    Ok(())
+    let bad = OpenError::BadField {
+        field: Field::Head,
+        value: 0,
+    };
+    let mut disk = forge(&rt, rt.alloc(), &named, &[]);
+    assert!(rt; surveyed(&rt, rt.alloc(), &mut disk, 2) == Err(bad));
 }
 
 #[test]
-fn a_later_boot_refuses_and_an_earlier_one_leaves_no_trace(rt: HostRuntime) -> Result<(), Fail> {
+fn a_later_boot_refuses_and_an_earlier_one_leaves_no_trace(rt: HostRuntime) {
     let file = made_file();
     let later = damaged(Zone::Superblock, 0, Class::Stale);
     let rows = [
@@ -230,11 +228,11 @@ fn a_later_boot_refuses_and_an_earlier_one_leaves_no_trace(rt: HostRuntime) -> R
         (Put::Reply(reply(0, 5, 2, 3, 3, 2)), Ok((4, 2, 0))),
         (Put::Reply(reply(0, 5, 2, 3, 3, 3)), Ok((4, 3, 0))),
     ];
-    assert_each(&rt, rt.alloc(), &file, &rows)
+    assert_each(&rt, rt.alloc(), &file, &rows);
 }
 
 #[test]
-fn a_named_reply_is_known_by_its_checksum(rt: HostRuntime) -> Result<(), Fail> {
+fn a_named_reply_is_known_by_its_checksum(rt: HostRuntime) {
     let file = made_file();
     let stale = damaged(Zone::ClientReplies, 1, Class::Stale);
     let rows = [
@@ -245,7 +243,7 @@ fn a_named_reply_is_known_by_its_checksum(rt: HostRuntime) -> Result<(), Fail> {
         (Put::Reply(reply(1, 6, 1, 2, 3, 2)), stale),
         (Put::Reply(reply(1, 6, 1, 2, 2, 3)), stale),
     ];
-    assert_each(&rt, rt.alloc(), &file, &rows)?;
+    assert_each(&rt, rt.alloc(), &file, &rows);
     let foreign = reply(1, 5, 1, 2, 2, 2);
     let named = File {
         named: Named {
@@ -255,12 +253,11 @@ fn a_named_reply_is_known_by_its_checksum(rt: HostRuntime) -> Result<(), Fail> {
         prepares: file.prepares,
         replies: [file.replies[0], foreign],
     };
-    assert_eq!(rt; found_with(rt.alloc(), &named, &[])?, stale);
-    Ok(())
+    assert_found(&rt, rt.alloc(), &named, &[], stale);
 }
 
 #[test]
-fn the_greatest_boot_is_refused_last(rt: HostRuntime) -> Result<(), Fail> {
+fn the_greatest_boot_is_refused_last(rt: HostRuntime) {
     let file = made_file();
     let boot = 1u64 << 62;
     let spent = File {
@@ -276,14 +273,9 @@ fn the_greatest_boot_is_refused_last(rt: HostRuntime) -> Result<(), Fail> {
         ],
         replies: file.replies,
     };
-    assert_eq!(rt;
-        found_with(rt.alloc(), &spent, &[])?,
-        Err(OpenError::BootSpent)
-    );
-    assert_eq!(rt;
-        found_with(rt.alloc(), &spent, &[Put::Hurt(72)])?,
-        damaged(Zone::ClientReplies, 1, Class::Garbled)
-    );
+    let garbled = damaged(Zone::ClientReplies, 1, Class::Garbled);
+    assert_found(&rt, rt.alloc(), &spent, &[], Err(OpenError::BootSpent));
+    assert_found(&rt, rt.alloc(), &spent, &[Put::Hurt(72)], garbled);
     let above = File {
         named: Named {
             boot: boot + 1,
@@ -292,28 +284,26 @@ fn the_greatest_boot_is_refused_last(rt: HostRuntime) -> Result<(), Fail> {
         prepares: file.prepares,
         replies: file.replies,
     };
-    assert_eq!(rt;
-        found_with(rt.alloc(), &above, &[])?,
-        Err(OpenError::BadField {
-            field: Field::Boot,
-            value: u128::from(boot + 1)
-        })
-    );
-    Ok(())
+    let field = Field::Boot;
+    let value = u128::from(boot + 1);
+    let bad = Err(OpenError::BadField { field, value });
+    assert_found(&rt, rt.alloc(), &above, &[], bad);
 }
 
-// A sync, four copies, two header sectors, 32 slots of the ring of prepares and four reply slots.
+// What is found where this version is asked for, and how many device calls that takes.
+fn counted(rt: &impl Abort, alloc: Global, disk: &mut MemoryDisk, version: u32) -> (Answer, u64) {
+    let before = disk.calls();
+    let answer = surveyed(rt, alloc, disk, version);
+    (answer, disk.calls().saturating_sub(before))
+}
+
+// A sync, four copies, two header sectors, 32 slots of the ring of prepares and four reply slots. Where the other version is asked for it
+// is refused behind the copies.
 #[test]
-fn a_survey_of_either_version_is_forty_three_calls(rt: HostRuntime) -> Result<(), Fail> {
-    let mut disk = forge(rt.alloc(), &NAMELESS, &[])?;
-    let calls = disk.calls();
-    assert_eq!(rt; surveyed(rt.alloc(), &mut disk, 2)?, Ok((0, 0, 0)));
-    assert_eq!(rt; disk.calls().checked_sub(calls), Some(43));
-    // Where the other version is asked for it is refused behind the copies.
-    assert_eq!(rt;
-        surveyed(rt.alloc(), &mut disk, 1)?,
-        Err(OpenError::Version { found: 2 })
-    );
-    assert_eq!(rt; disk.calls().checked_sub(calls), Some(48));
-    Ok(())
+fn a_survey_of_either_version_is_forty_three_calls(rt: HostRuntime) {
+    let mut disk = forge(&rt, rt.alloc(), &NAMELESS, &[]);
+    let own = counted(&rt, rt.alloc(), &mut disk, 2);
+    assert!(rt; own == (Ok((0, 0, 0)), 43));
+    let other = counted(&rt, rt.alloc(), &mut disk, 1);
+    assert!(rt; other == (Err(OpenError::Version { found: 2 }), 5));
 }

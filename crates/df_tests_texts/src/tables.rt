@@ -1,6 +1,6 @@
 // Worked tables: what a program that keeps one answers, without a file; a table that is full; and the bytes of rows and commands.
-use crate::printed::new_sink;
-use df_base::{Failed, MemorySink, OutOfMemory};
+use crate::printed::{expect, new_sink};
+use df_base::{Failed, MemorySink};
 use df_layout::{Layout, Place, Zone};
 use df_lines::LineKind;
 use df_rows::{
@@ -9,7 +9,6 @@ use df_rows::{
 };
 use std::alloc::Global;
 use std::process::Abort;
-use std::test::Fail;
 
 // The least layout: a block has 60 rows, and a table one block.
 fn least() -> Layout {
@@ -20,6 +19,11 @@ fn least() -> Layout {
         block_size: 4096,
         blocks: 8,
     }
+}
+
+// An empty table of a layout.
+fn empty(rt: &impl Abort, alloc: Global, layout: &Layout) -> ObjectTable {
+    ObjectTable::reserve(alloc, layout).expect(rt, "memory of a table")
 }
 
 // Answers a line as a program does that keeps no file, where the next prepare has this op. True where a prepare was made.
@@ -144,13 +148,17 @@ const ANSWERS: &str = "put 1\n\
     refused NotTable WalPrepares 6\n\
     refused NotTable WalPrepares 6\n";
 
+// Lines over a table, and what is printed of them.
+fn expect_run(rt: &impl Abort, alloc: Global, mut table: ObjectTable, lines: &[&[u8]], text: &str) {
+    let mut sink = new_sink(alloc);
+    let done = run(rt, &mut table, &mut sink, lines);
+    expect(rt, done, &sink, text);
+}
+
 #[test]
-fn lines_are_answered_as_a_map_does(rt: HostRuntime) -> Result<(), Fail> {
-    let mut table = ObjectTable::reserve(rt.alloc(), &Layout::small())?;
-    let mut sink = new_sink(rt.alloc());
-    run(&rt, &mut table, &mut sink, &LINES)?;
-    assert_eq!(rt; sink.bytes(), ANSWERS.as_bytes());
-    Ok(())
+fn lines_are_answered_as_a_map_does(rt: HostRuntime) {
+    let table = empty(&rt, rt.alloc(), &Layout::small());
+    expect_run(&rt, rt.alloc(), table, &LINES, ANSWERS);
 }
 
 // A value of 47 bytes, and one of 48.
@@ -161,43 +169,36 @@ const LONG: [&[u8]; 3] = [
 ];
 
 #[test]
-fn a_value_has_at_most_47_bytes(rt: HostRuntime) -> Result<(), Fail> {
-    let mut table = ObjectTable::reserve(rt.alloc(), &least())?;
-    let mut sink = new_sink(rt.alloc());
-    run(&rt, &mut table, &mut sink, &LONG)?;
-    assert_eq!(rt;
-        sink.bytes(),
-        b"put 1\nrefused ValueTooLong max 47\ncount 1\n".as_slice()
-    );
-    Ok(())
+fn a_value_has_at_most_47_bytes(rt: HostRuntime) {
+    let table = empty(&rt, rt.alloc(), &least());
+    let text = "put 1\nrefused ValueTooLong max 47\ncount 1\n";
+    expect_run(&rt, rt.alloc(), table, &LONG, text);
 }
 
 // A table of rows with the keys below `count` that are put from the last to the first, each with its lowest byte as its value.
-fn filled(alloc: Global, layout: &Layout, count: u32) -> Result<ObjectTable, OutOfMemory> {
-    let mut table = ObjectTable::reserve(alloc, layout)?;
+fn filled(rt: &impl Abort, alloc: Global, layout: &Layout, count: u32) -> ObjectTable {
+    let mut table = empty(rt, alloc, layout);
     for k in (0..count).rev() {
         let value = [(k % 256) as u8];
         keep(&mut table, Command::Put(Row::new(u128::from(k), &value)));
     }
-    Ok(table)
+    table
 }
 
+const AT_THE_BOUND: [&[u8]; 6] = [
+    b"count",
+    b"put 60 aa",
+    b"put 59 aa",
+    b"get 59",
+    b"drop 59",
+    b"put 60 aa",
+];
+
 #[test]
-fn a_full_table_refuses_new_keys(rt: HostRuntime) -> Result<(), Fail> {
-    let mut table = filled(rt.alloc(), &least(), 60)?;
-    let mut sink = new_sink(rt.alloc());
-    let lines: [&[u8]; 6] = [
-        b"count",
-        b"put 60 aa",
-        b"put 59 aa",
-        b"get 59",
-        b"drop 59",
-        b"put 60 aa",
-    ];
-    run(&rt, &mut table, &mut sink, &lines)?;
+fn a_full_table_refuses_new_keys(rt: HostRuntime) {
+    let table = filled(&rt, rt.alloc(), &least(), 60);
     let text = "count 60\nrefused TableFull max 60\nput 1\n59 aa\ndropped 2\nput 3\n";
-    assert_eq!(rt; sink.bytes(), text.as_bytes());
-    Ok(())
+    expect_run(&rt, rt.alloc(), table, &AT_THE_BOUND, text);
 }
 
 // Puts the rows of a block at the front of `body`, and says how many bytes they are.
@@ -219,70 +220,85 @@ fn taken(rt: &impl Abort, table: ObjectTable, body: &[u8], size: usize) -> Optio
     table.with_block(&body[..size])
 }
 
+// Zeros in the place of a block's body.
+fn zeros(rt: &impl Abort, alloc: Global, size: usize) -> Vec<u8> {
+    vec![in alloc; 0; size].expect(rt, "memory of a body")
+}
+
 // The table whose rows stand in the blocks of another one.
-fn copied(rt: &impl Abort, alloc: Global, table: &ObjectTable) -> Result<ObjectTable, Fail> {
+fn copied(rt: &impl Abort, alloc: Global, table: &ObjectTable) -> ObjectTable {
     let layout = Layout::small();
-    let mut copy = ObjectTable::reserve(alloc, &layout)?;
-    let mut body = vec![in alloc; 0; 16_128]?;
+    let mut copy = empty(rt, alloc, &layout);
+    let mut body = zeros(rt, alloc, 16_128);
     for block in 0..table.blocks(&layout) {
         let size = block_in(rt, table, &layout, block, &mut body);
-        copy = taken(rt, copy, &body, size).ok_or("no rows")?;
+        copy = taken(rt, copy, &body, size).expect(rt, "rows");
     }
-    Ok(copy)
+    copy
+}
+
+// The table has the keys below 600, each with its lowest byte as its value.
+fn expect_rows_in_order(rt: &impl Abort, table: &ObjectTable) {
+    assert!(rt; table.len() == 600);
+    for (k, row) in table.rows().iter().enumerate() {
+        let value = [(k % 256) as u8];
+        assert!(rt;
+            row.key() == k as u128 && row.value() == value.as_slice(),
+            "row {k}"
+        );
+    }
 }
 
 #[test]
-fn the_blocks_of_a_table_are_the_table(rt: HostRuntime) -> Result<(), Fail> {
-    let table = filled(rt.alloc(), &Layout::small(), 600)?;
-    assert_eq!(rt; table.blocks(&Layout::small()), 3);
-    let copy = copied(&rt, rt.alloc(), &table)?;
-    assert_eq!(rt; copy.len(), 600);
-    for (k, row) in copy.rows().iter().enumerate() {
-        assert_eq!(rt; row.key(), k as u128);
-        assert_eq!(rt; row.value(), [(k % 256) as u8].as_slice());
+fn the_blocks_of_a_table_are_the_table(rt: HostRuntime) {
+    let table = filled(&rt, rt.alloc(), &Layout::small(), 600);
+    assert!(rt; table.blocks(&Layout::small()) == 3);
+    expect_rows_in_order(&rt, &copied(&rt, rt.alloc(), &table));
+}
+
+// How many rows an empty table takes of the first bytes of a block's body.
+fn rows_taken(rt: &impl Abort, alloc: Global, body: &[u8], size: usize) -> Option<u64> {
+    match taken(rt, empty(rt, alloc, &least()), body, size) {
+        Some(table) => Some(table.len()),
+        None => None,
     }
-    Ok(())
 }
 
 #[test]
-fn a_block_is_taken_once_and_whole(rt: HostRuntime) -> Result<(), Fail> {
-    let layout = least();
-    let table = filled(rt.alloc(), &layout, 3)?;
-    let mut body = vec![in rt.alloc(); 0; 3840]?;
-    let size = block_in(&rt, &table, &layout, 0, &mut body);
-    assert_eq!(rt; size, 192);
+fn a_block_is_taken_once_and_whole(rt: HostRuntime) {
+    let table = filled(&rt, rt.alloc(), &least(), 3);
+    let mut body = zeros(&rt, rt.alloc(), 3840);
+    let size = block_in(&rt, &table, &least(), 0, &mut body);
+    assert!(rt; size == 192);
     assert!(rt; taken(&rt, table, &body, 192).is_none());
-    let short = ObjectTable::reserve(rt.alloc(), &layout)?;
-    assert!(rt; taken(&rt, short, &body, 191).is_none());
-    let empty = ObjectTable::reserve(rt.alloc(), &layout)?;
-    let none = taken(&rt, empty, &body, 0).ok_or("no rows")?;
-    assert_eq!(rt; none.len(), 0);
-    Ok(())
+    assert!(rt; rows_taken(&rt, rt.alloc(), &body, 191) == None);
+    assert!(rt; rows_taken(&rt, rt.alloc(), &body, 0) == Some(0));
 }
 
-#[test]
-fn bytes_that_are_no_rows_are_refused(rt: HostRuntime) -> Result<(), Fail> {
-    let row = Row::new(0x0102, b"\xaa").encode();
+// A row of key 0x0102 whose value begins with aa: its length, and the byte behind that.
+fn row_bytes(length: u8, behind: u8) -> [u8; 64] {
     let mut bytes = [0u8; 64];
     bytes[0] = 2;
     bytes[1] = 1;
-    bytes[16] = 1;
+    bytes[16] = length;
     bytes[17] = 0xaa;
-    assert_eq!(rt; row.as_slice(), bytes.as_slice());
-    let put = Command::Put(Row::new(0x0102, b"\xaa")).encode();
-    assert_eq!(rt;
-        put.as_slice(),
-        b"\x01\x02\x01\0\0\0\0\0\0\0\0\0\0\0\0\0\0\xaa".as_slice()
-    );
+    bytes[18] = behind;
+    bytes
+}
+
+#[test]
+fn rows_and_commands_have_their_bytes(rt: HostRuntime) {
+    let row = Row::new(0x0102, b"\xaa");
+    assert!(rt; row.encode().as_slice() == row_bytes(1, 0).as_slice());
+    let put = Command::Put(row).encode();
+    assert!(rt; put.as_slice() == b"\x01\x02\x01\0\0\0\0\0\0\0\0\0\0\0\0\0\0\xaa".as_slice());
     let dropped = Command::Drop(0x0102).encode();
-    assert_eq!(rt;
-        dropped.as_slice(),
-        b"\x02\x02\x01\0\0\0\0\0\0\0\0\0\0\0\0\0\0".as_slice()
-    );
-    assert!(rt; Command::decode(&bytes[..16]).is_none());
-    bytes[18] = 1;
-    assert!(rt; Row::decode(&bytes).is_none());
-    bytes[16] = 48;
-    assert!(rt; Row::decode(&bytes).is_none());
-    Ok(())
+    assert!(rt; dropped.as_slice() == b"\x02\x02\x01\0\0\0\0\0\0\0\0\0\0\0\0\0\0".as_slice());
+}
+
+#[test]
+fn bytes_that_are_no_rows_are_refused(rt: HostRuntime) {
+    assert!(rt; Command::decode(&row_bytes(1, 0)[..16]).is_none());
+    assert!(rt; Row::decode(&row_bytes(1, 1)).is_none());
+    assert!(rt; Row::decode(&row_bytes(48, 1)).is_none());
 }

@@ -24,7 +24,7 @@ fn the_first_bodies_of_seed_42_are_those_of_its_draws(rt: HostRuntime) {
         accept(&mut generator);
     }
     let counts = generator.counts();
-    assert_eq!(rt; (counts.appended, counts.bytes), (3, 2231));
+    assert!(rt; counts.appended == 3 && counts.bytes == 2231);
 }
 
 const WANTED: [Asked; 6] = [
@@ -49,9 +49,9 @@ const WANTED: [Asked; 6] = [
 fn three_rounds_of_two_clients_are_replied_to_in_order(rt: HostRuntime) {
     let mut generator = Generator::new(42, 3, 2);
     for asked in &WANTED {
-        assert_eq!(rt; generator.asks(), Some(*asked));
+        assert!(rt; generator.asks() == Some(*asked));
         accept(&mut generator);
     }
-    assert_eq!(rt; generator.asks(), None);
-    assert_eq!(rt; generator.counts().replied, 3);
+    assert!(rt; generator.asks() == None);
+    assert!(rt; generator.counts().replied == 3);
 }

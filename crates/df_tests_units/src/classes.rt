@@ -3,9 +3,9 @@ ghost use Rattle.std.specs.Prelude.{◌≡◌};
 
 use crate::examples::{
     ALONE, BLOCK, BOOTED, Example, FIRST_TRAILER, PAIR, PREPARE, Put, REPLY, RESERVED, TRAILER,
-    UNBOOTED, made, spelled,
+    UNBOOTED, made, read_header, spelled, spoilt,
 };
-use df_format::{Header, decode_header, decode_unit};
+use df_format::{Header, decode_unit};
 use df_layout::{Class, Layout, Place, Zone};
 
 // A slot that begins with these bytes, nines behind them.
@@ -83,7 +83,7 @@ const VALID: [Row; 10] = [
 ];
 
 fn is_valid(zone: Zone, index: u64, bytes: &[u8; 256]) -> bool {
-    match decode_header(bytes) {
+    match read_header(bytes) {
         Some(header) => shown(7, zone, index, bytes) == Ok(header),
         None => false,
     }
@@ -128,46 +128,90 @@ fn a_unit_at_another_place_is_elsewhere(rt: HostRuntime) {
     }
 }
 
+// Bytes that are put over a unit, and a place with it.
+type Spot = (&'static [Put], Zone, u64);
+
 // Units with a slot that isn't their op's, a slot, place or address that the layout lacks, a body that isn't there, a size above
 // the greatest of the place, a boot or a group that breaks a rule of version 2, or of a kind that doesn't stand in the ring.
-const GARBLED: [Row; 18] = [
-    (RESERVED, &[(116, 32)], RING, 3),
-    (RESERVED, &[], PREPARES, 3),
-    (RESERVED, BOOTED, RING, 3),
-    (PREPARE, &[(116, 2)], PREPARES, 1),
-    (PREPARE, &[(116, 2)], RING, 1),
-    (PREPARE, &[(112, 1)], PREPARES, 1),
-    (PREPARE, &[(113, 0x21)], RING, 1),
-    (PREPARE, BOOTED, PREPARES, 1),
-    (REPLY, &[(116, 4)], REPLIES, 3),
-    (REPLY, &[], RING, 2),
-    (REPLY, UNBOOTED, REPLIES, 2),
-    (REPLY, PAIR, REPLIES, 2),
-    (BLOCK, &[(80, 65)], GRID, 64),
-    (BLOCK, &[(113, 0x21)], PREPARES, 1),
-    (BLOCK, &[(113, 0x41)], GRID, 9),
-    (BLOCK, &[], RING, 9),
-    (BLOCK, UNBOOTED, GRID, 9),
-    (TRAILER, UNBOOTED, GRID, 9),
+const GARBLED: [(Example, &'static [Spot]); 5] = [
+    (
+        RESERVED,
+        &[
+            (&[(116, 32)], RING, 3),
+            (&[], PREPARES, 3),
+            (BOOTED, RING, 3),
+        ],
+    ),
+    (
+        PREPARE,
+        &[
+            (&[(116, 2)], PREPARES, 1),
+            (&[(116, 2)], RING, 1),
+            (&[(112, 1)], PREPARES, 1),
+            (&[(113, 0x21)], RING, 1),
+            (BOOTED, PREPARES, 1),
+        ],
+    ),
+    (
+        REPLY,
+        &[
+            (&[(116, 4)], REPLIES, 3),
+            (&[], RING, 2),
+            (UNBOOTED, REPLIES, 2),
+            (PAIR, REPLIES, 2),
+        ],
+    ),
+    (
+        BLOCK,
+        &[
+            (&[(80, 65)], GRID, 64),
+            (&[(113, 0x21)], PREPARES, 1),
+            (&[(113, 0x41)], GRID, 9),
+            (&[], RING, 9),
+            (UNBOOTED, GRID, 9),
+        ],
+    ),
+    (TRAILER, &[(UNBOOTED, GRID, 9)]),
 ];
 
+// The first of these places that doesn't show garbled bytes with the unit.
+fn first_other(unit: &Example, spots: &[Spot]) -> Option<usize> {
+    for (i, (puts, zone, index)) in spots.iter().enumerate() {
+        if shown(7, *zone, *index, &made(unit, puts)) != Err(Class::Garbled) {
+            return Some(i);
+        }
+    }
+    None
+}
+
 #[test]
-fn tells_blank_and_garbled_places(rt: HostRuntime) {
-    for (i, (unit, puts, zone, index)) in GARBLED.iter().enumerate() {
-        assert!(rt;
-            shown(7, *zone, *index, &made(unit, puts)) == Err(Class::Garbled),
-            "row {i}"
-        );
+fn tells_garbled_places(rt: HostRuntime) {
+    for (unit, spots) in &GARBLED {
+        assert!(rt; first_other(unit, spots) == None);
     }
-    let mut one = [0; 256];
-    one[255] = 1;
-    for zone in [RING, PREPARES, REPLIES, GRID] {
-        assert!(rt; shown(7, zone, 1, &[0; 256]) == Err(Class::Blank));
-        assert!(rt; shown(7, zone, 1, &one) == Err(Class::Garbled));
+}
+
+// Zeros, and a last byte.
+fn ending_in(last: u8) -> [u8; 256] {
+    let mut bytes = [0; 256];
+    bytes[255] = last;
+    bytes
+}
+
+#[test]
+fn tells_blank_places(rt: HostRuntime) {
+    for (last, class) in [(0, Class::Blank), (1, Class::Garbled)] {
+        let bytes = ending_in(last);
+        for zone in [RING, PREPARES, REPLIES, GRID] {
+            assert!(rt; shown(7, zone, 1, &bytes) == Err(class));
+        }
     }
-    // another cluster, and a byte that the checksum doesn't cover rightly
-    let mut bytes = spelled(&PREPARE);
-    assert!(rt; shown(8, PREPARES, 1, &bytes) == Err(Class::Garbled));
-    bytes[80] = 2;
-    assert!(rt; shown(7, PREPARES, 1, &bytes) == Err(Class::Garbled));
+}
+
+#[test]
+fn a_unit_of_another_cluster_or_with_another_byte_is_garbled(rt: HostRuntime) {
+    let other = shown(8, PREPARES, 1, &spelled(&PREPARE));
+    assert!(rt; other == Err(Class::Garbled));
+    let changed = shown(7, PREPARES, 1, &spoilt(&PREPARE, 80, 2));
+    assert!(rt; changed == Err(Class::Garbled));
 }

@@ -1,5 +1,6 @@
 // A header of each kind in cluster 7. The checksums are from another implementation of SHA-256.
 use df_base::{Check, HEADER, check};
+use df_format::{Header, decode_header};
 
 // A byte that is put into a header, behind its offset.
 pub(crate) type Put = (usize, u8);
@@ -98,6 +99,13 @@ pub(crate) fn spelled(example: &Example) -> [u8; 256] {
     bytes
 }
 
+// The example with a byte changed that its checksum covers.
+pub(crate) fn spoilt(example: &Example, at: usize, byte: u8) -> [u8; 256] {
+    let mut bytes = spelled(example);
+    put_all(&mut bytes, &[(at, byte)]);
+    bytes
+}
+
 // The header with its checksum made right.
 pub(crate) fn sealed(mut bytes: [u8; 256]) -> [u8; 256] {
     let sum = check(&bytes[16..]);
@@ -110,4 +118,9 @@ pub(crate) fn made(example: &Example, puts: &[Put]) -> [u8; 256] {
     let mut bytes = spelled(example);
     put_all(&mut bytes, puts);
     sealed(bytes)
+}
+
+// The header that the bytes spell, of which a caller's proof is told nothing.
+pub(crate) fn read_header(bytes: &[u8; 256]) -> Option<Header> {
+    decode_header(bytes)
 }

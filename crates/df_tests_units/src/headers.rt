@@ -1,8 +1,10 @@
 // The headers of each kind against values from outside, and each rule of each kind broken once.
 ghost use Rattle.std.specs.Prelude.{◌≡◌, length};
+ghost use Rattle.df_format.specs.Rules.{ObeysRules};
 
 use crate::examples::{
-    BLOCK, Example, FIRST_TRAILER, PREPARE, REPLY, RESERVED, TRAILER, checksum_of, made, spelled,
+    BLOCK, Example, FIRST_TRAILER, PREPARE, REPLY, RESERVED, TRAILER, checksum_of, made,
+    read_header, spelled,
 };
 use crate::room_examples::header_of;
 use df_base::check;
@@ -20,15 +22,22 @@ fn whole(header: Header, front: &Example) -> Header {
     }
 }
 
+// The bytes of a header that is sealed.
+fn written(header: Header) -> [u8; 256]
+    requires { ObeysRules header }
+{
+    let mut into = [9; 256];
+    encode_header(&seal_header(header), &mut into);
+    into
+}
+
 // What is read from the bytes, sealed again and written.
 fn rewritten(bytes: &[u8]) -> Option<[u8; 256]>
     requires { length bytes.now ≡ 256 }
 {
     headers_have_one_spelling();
     let header = decode_header(bytes)?;
-    let mut into = [9; 256];
-    encode_header(&seal_header(header), &mut into);
-    Some(into)
+    Some(written(header))
 }
 
 #[test]
@@ -56,7 +65,7 @@ fn reads_the_fields_of_each_kind(rt: HostRuntime) {
     ];
     for (i, (front, header)) in cases.iter().enumerate() {
         assert!(rt;
-            decode_header(&spelled(front)) == Some(whole(*header, front)),
+            read_header(&spelled(front)) == Some(whole(*header, front)),
             "case {i}"
         );
     }
@@ -125,7 +134,7 @@ const RULES: [(Example, Puts, Puts); 6] = [
 // The first of these offsets at which a byte is judged otherwise.
 fn first_at(front: &Example, byte: u8, offsets: &[usize], is: bool) -> Option<usize> {
     for at in offsets {
-        if decode_header(&made(front, &[(*at, byte)])).is_some() != is {
+        if read_header(&made(front, &[(*at, byte)])).is_some() != is {
             return Some(*at);
         }
     }

@@ -3,12 +3,12 @@ ghost use Rattle.std.specs.Prelude.{◌≡◌, IfOk};
 
 use crate::examples::{
     ALONE, BLOCK, BOOTED, Example, PAIR, PREPARE, REPLY, RESERVED, TRAILER, checksum_of, made,
-    spelled,
+    read_header, spelled,
 };
 use crate::room_examples::identity_at;
 use df_base::OutOfMemory;
 use df_buffers::{Block, HeaderSector, Prepare, Raw, Reply, RoomKind, Trailer, UnitKind, Wanted};
-use df_format::{Header, decode_header};
+use df_format::Header;
 use df_layout::{Class, Layout, Place, Zone};
 use std::alloc::Global;
 
@@ -47,7 +47,10 @@ fn proved<K: UnitKind>(alloc: Global, index: u64, wanted: Wanted, front: &[u8; 2
 }
 
 fn read(bytes: &[u8; 256]) -> Shown {
-    decode_header(bytes).map(|header| Ok(header))
+    match read_header(bytes) {
+        Some(header) => Some(Ok(header)),
+        None => None,
+    }
 }
 
 const STALE: Shown = Some(Err(Class::Stale));

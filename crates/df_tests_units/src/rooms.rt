@@ -11,11 +11,12 @@ use df_layout::{Layout, Zone};
 
 // Whether a sector holds the body behind a header, and zeros up to its end.
 fn is_padded(sectors: &[u8], body: &[u8]) -> bool {
+    let zeros = [0; 4096];
     let end = 256 + body.len();
     sectors.len() == 4096
         && end <= 4096
         && &sectors[256..end] == body
-        && sectors[end..].iter().all(|b| *b == 0)
+        && sectors[end..] == zeros[end..]
 }
 
 // Whether a unit that is made in a room has the header's fields and the body, and is valid at this place once its room was loosened.

@@ -1,7 +1,7 @@
 // The definitions against values from outside: the bytes of an example, and which of them are refused when changed.
-use crate::examples::{PREPARE, spelled};
+use crate::examples::{PREPARE, read_header, spelled};
 use crate::room_examples::header_of;
-use df_format::{Header, Kind, decode_header, decode_unit, make_unit};
+use df_format::{Header, Kind, decode_unit, make_unit};
 use df_layout::{Class, Layout, Place, Zone};
 
 fn example() -> [u8; 256] {
@@ -12,8 +12,8 @@ fn example() -> [u8; 256] {
 fn is_example_before_nines(slot: &[u8]) -> bool {
     slot.len() == 8192
         && slot.starts_with(&example())
-        && slot[256..4096].iter().all(|b| *b == 0)
-        && slot[4096..].iter().all(|b| *b == 9)
+        && slot[256..4096] == [0; 3840]
+        && slot[4096..] == [9; 4096]
 }
 
 // What a slot of the ring shows in a file of this cluster.
@@ -32,7 +32,7 @@ fn makes_and_reads_the_example(rt: HostRuntime) {
     let made = make_unit(header_of(Kind::Prepare, &[]), &[], &mut slot);
     assert!(rt; made.length == 4096);
     assert!(rt; is_example_before_nines(&slot));
-    assert!(rt; decode_header(&example()) == Some(made.header));
+    assert!(rt; read_header(&example()) == Some(made.header));
     assert!(rt; shown(7, 1, &slot) == Ok(made.header));
 }
 

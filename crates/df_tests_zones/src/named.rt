@@ -19,7 +19,7 @@ use std::alloc::Global;
 use std::process::Abort;
 
 // What is left of a prepare: all, the prepare without its header, its header alone, or nothing.
-#[derive(Clone, Copy, Debug, PartialEq, Eq)]
+#[derive(Clone, Copy)]
 enum Left {
     All,
     Prepare,
@@ -90,9 +90,9 @@ fn write(
     let room: Raw<Prepare> = Raw::reserve(alloc, layout).expect(rt, "memory of a room");
     let header = prepare_header(op, op - 4, u64::from(boot), is_paired, parent);
     let unit = room.make(header, &[]);
-    let is_told = left == Left::All || left == Left::Header;
+    let is_told = matches!(left, Left::All | Left::Header);
     write_unit(disk, layout, &unit, tables, rt, alloc, is_told);
-    let is_shown = left == Left::All || left == Left::Prepare;
+    let is_shown = matches!(left, Left::All | Left::Prepare);
     if !is_shown {
         assert!(rt; disk.strike(6 + 2 * op, Strike::Fill { byte: 0xa5 }).is_ok());
     }

@@ -7,7 +7,6 @@ use df_group::{groups_follow_one_another, reach_of};
 use df_sessions::SessionTable;
 use std::alloc::Global;
 use std::process::Abort;
-use std::test::Fail;
 
 // The prepare of an op, with the first and the last op of its group, or with no group where these are 0. Its client asks for the first
 // time, and as many replies were stored as the checkpoint's op.
@@ -29,13 +28,12 @@ fn prepare(op: u8, group: u8, group_last: u8) -> Header {
 }
 
 // The ops of the tail and of the reach that are found of these prepares, where the superblock names a head.
-fn found(taken: &[Header], head: u64) -> Result<(u64, u64), Fail> {
-    if taken.len() > 8 {
-        return Err("more prepares than wait".into());
-    }
+fn found(rt: &impl Abort, taken: &[Header], head: u64) -> (u64, u64) {
+    // no more prepares wait
+    assert!(rt; taken.len() <= 8);
     let mut sessions = SessionTable::new(64);
     let reach = reach_of(4, &[4; 16], head, 64, taken, &mut sessions);
-    Ok((reach.tail.op, reach.op))
+    (reach.tail.op, reach.op)
 }
 
 // The groups of ops 5 to 8, each by its first and its last op; the head that the superblock names; and the ops of the tail and of the
@@ -134,42 +132,40 @@ fn four(groups: &[(u8, u8); 4]) -> [Header; 4] {
     ]
 }
 
-fn assert_row(rt: &impl Abort, row: &Row) -> Result<(), Fail> {
+fn assert_row(rt: &impl Abort, row: &Row) {
     let (name, groups, head, wanted) = row;
     let all = four(groups);
     for count in 0..5usize {
-        assert!(rt; found(&all[..count], *head)? == wanted[count], "{name}");
+        assert!(rt; found(rt, &all[..count], *head) == wanted[count], "{name}");
     }
-    Ok(())
 }
 
 #[test]
-fn a_tail_ends_with_a_whole_group(rt: HostRuntime) -> Result<(), Fail> {
+fn a_tail_ends_with_a_whole_group(rt: HostRuntime) {
     groups_follow_one_another();
     for row in &ROWS {
-        assert_row(&rt, row)?;
+        assert_row(&rt, row);
     }
-    Ok(())
 }
 
 // The first prepares of a group of eight.
-fn front_of_eight(alloc: Global, count: u8) -> Result<Vec<Header>, Fail>
+fn front_of_eight(rt: &impl Abort, alloc: Global, count: u8) -> Vec<Header>
     requires { count ≤ 8 }
 {
     let mut all = Vec::new(alloc);
     for place in 0..count {
-        all.push(prepare(5 + place, 5, 12))?;
+        all.push(prepare(5 + place, 5, 12))
+            .expect(rt, "memory of a prepare");
     }
-    Ok(all)
+    all
 }
 
 #[test]
-fn a_group_of_eight_counts_with_its_last(rt: HostRuntime) -> Result<(), Fail> {
+fn a_group_of_eight_counts_with_its_last(rt: HostRuntime) {
     for count in 0..8u8 {
-        let all = front_of_eight(rt.alloc(), count)?;
-        assert_eq!(rt; found(&all, 4)?, (4, 4 + u64::from(count)));
+        let all = front_of_eight(&rt, rt.alloc(), count);
+        assert!(rt; found(&rt, &all, 4) == (4, 4 + u64::from(count)));
     }
-    let all = front_of_eight(rt.alloc(), 8)?;
-    assert_eq!(rt; found(&all, 4)?, (12, 12));
-    Ok(())
+    let all = front_of_eight(&rt, rt.alloc(), 8);
+    assert!(rt; found(&rt, &all, 4) == (12, 12));
 }

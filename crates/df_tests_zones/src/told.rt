@@ -58,9 +58,9 @@ fn a_cut_group_binds_the_head_by_its_headers_alone(rt: HostRuntime) {
 fn in_version_1_nothing_is_cut(rt: HostRuntime) {
     let shown = [header(5, 0, 5, 6)];
     assert!(rt; any_tells(&shown, 0, 4) && any_binds(&shown, 0, 4));
-    assert_eq!(rt; binding_op(&shown[0], 0, 4), 5);
-    assert_eq!(rt; binding_op(&header(5, 3, 5, 6), 3, 4), 0);
-    assert_eq!(rt; binding_op(&header(5, 3, 5, 6), 3, 5), 5);
+    assert!(rt; binding_op(&shown[0], 0, 4) == 5);
+    assert!(rt; binding_op(&header(5, 3, 5, 6), 3, 4) == 0);
+    assert!(rt; binding_op(&header(5, 3, 5, 6), 3, 5) == 5);
 }
 
 // The prepares that are shown of a group of three behind the head, and what is told where one of them, or its header, isn't.
