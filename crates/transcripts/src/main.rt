@@ -2,10 +2,8 @@
 #![tactic(auto)]
 
 use df_transcripts::{Trouble, play};
-use std::env;
-use std::fs;
-use std::io;
 use std::process::ExitCode;
+use std::{env, fs, io};
 
 // Plays one file, and tells what came of it; how many things weren't so.
 fn play_file(rt: &HostRuntime, path: &str) -> io::Result<u64> {
@@ -13,7 +11,10 @@ fn play_file(rt: &HostRuntime, path: &str) -> io::Result<u64> {
     match play(rt.alloc(), text.as_str()) {
         Ok(played) => {
             print!(rt; "{}", played.told)?;
-            println!(rt; "{path}: {} cases, {} answers", played.cases, played.answers)?;
+            println!(rt;
+                "{path}: {} cases, {} answers",
+                played.cases, played.answers
+            )?;
             Ok(played.failures)
         }
         Err(_) => {
