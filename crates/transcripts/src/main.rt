@@ -1,7 +1,7 @@
 //! Transcripts of the programs: `transcripts FILE..` plays each file, and says what didn't come as the file tells it.
 #![tactic(auto)]
 
-use df_transcripts::{Trouble, play};
+use df_transcripts::play;
 use std::process::ExitCode;
 use std::{env, fs, io};
 
