@@ -144,6 +144,7 @@ fn named_prepares_are_known_by_their_checksums(rt: HostRuntime) {
 
 #[test]
 fn a_named_prepare_that_does_not_fit_is_stale(rt: HostRuntime) {
+    let stale = damaged(Zone::WalPrepares, 3, Class::Stale);
     let file = made_file();
     let unfit = Unit {
         asked: (5, 7),
@@ -162,13 +163,7 @@ fn a_named_prepare_that_does_not_fit_is_stale(rt: HostRuntime) {
             prepares: [file.prepares[0], file.prepares[1], three, file.prepares[3]],
             replies: file.replies,
         };
-        assert_found(
-            &rt,
-            rt.alloc(),
-            &changed,
-            &[],
-            damaged(Zone::WalPrepares, 3, Class::Stale),
-        );
+        assert_found(&rt, rt.alloc(), &changed, &[], stale);
     }
     let nameless = File {
         named: Named {
@@ -178,13 +173,7 @@ fn a_named_prepare_that_does_not_fit_is_stale(rt: HostRuntime) {
         prepares: file.prepares,
         replies: file.replies,
     };
-    assert_found(
-        &rt,
-        rt.alloc(),
-        &nameless,
-        &[],
-        damaged(Zone::WalPrepares, 3, Class::Stale),
-    );
+    assert_found(&rt, rt.alloc(), &nameless, &[], stale);
 }
 
 #[test]
