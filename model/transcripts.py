@@ -38,7 +38,7 @@ class Wanted:
         return status == self.status and re.fullmatch(b"".join(parts), text, re.DOTALL) is not None
 
     def count(self) -> int:
-        return sum(line != "..." for line in self.lines)
+        return sum(said(line).count(b"\n") for line in self.lines if line != "...")
 
 
 class Run:
@@ -46,6 +46,8 @@ class Run:
 
     def __init__(self, number: int, words: list):
         self.number, self.words, self.script, self.wanted = number, words, b"", [Wanted()]
+        # Whether something else comes than what is told.
+        self.wrong = False
 
 
 class Player:
@@ -79,7 +81,7 @@ class Player:
     def take(self, line: Line) -> None:
         """One line."""
         sign, _, rest = line.text.partition(" ")
-        if sign in ("<", ">", "or", "ends"):
+        if sign in ("<", ">", "or", "ends") or line.text == "wrong":
             self.more(sign, rest)
             return
         self.finish()
@@ -105,6 +107,8 @@ class Player:
             self.run.wanted[-1].lines.append(rest)
         elif sign == "or":
             self.run.wanted.append(Wanted())
+        elif sign == "wrong":
+            self.run.wrong = True
         else:
             self.run.wanted[-1].status = rest
 
@@ -123,7 +127,7 @@ class Player:
         status = serve(program, disks, words, streams)
         for disk in disks:
             disk.end_run()
-        if any(wanted.is_so(streams.printed, status) for wanted in run.wanted):
+        if any(wanted.is_so(streams.printed, status) for wanted in run.wanted) != run.wrong:
             self.answers += run.wanted[-1].count() + 1
         else:
             self.fail(run.number, f"ended {status}, and printed\n{shortened(streams.printed)}")
@@ -134,7 +138,8 @@ class Player:
         return self.disks[name]
 
     def act(self, line: Line, words: list) -> None:
-        """A line that acts on a disk, or says what one was asked or shows."""
+        """A line that acts on a disk, or says what one was asked or shows, or what isn't so."""
+        wrong, words = words[0] == "wrong", words[words[0] == "wrong":]
         call = getattr(self, f"do_{words[0]}", None)
         if call is None:
             raise Wrong(f"no such line: {words[0]}")
@@ -142,8 +147,8 @@ class Player:
             what = call(*words[1:])
         except TypeError:
             raise Wrong("other words are wanted") from None
-        if isinstance(what, str):
-            self.fail(line.number, what)
+        if isinstance(what, str) != wrong:
+            self.fail(line.number, what if isinstance(what, str) else "that is so")
         elif what:
             self.answers += 1
 

@@ -87,7 +87,7 @@ impl Player {
             Err(Trouble::NoMeaning(what)) => return self.fail(alloc, run.at, what),
             Err(Trouble::OutOfMemory) => return Err(Trouble::OutOfMemory),
         };
-        if run.wants(&ended) {
+        if run.wants(&ended) != run.is_wrong {
             self.succeed(run.answers().saturating_add(1));
             return Ok(());
         }
@@ -126,6 +126,8 @@ impl Player {
             run.add_printed(line)?;
         } else if text == "or" {
             run.begin_other(alloc)?;
+        } else if text == "wrong" {
+            run.is_wrong = true;
         } else if let Some(status) = text.strip_prefix("ends ") {
             run.end(alloc, status)?;
         } else {
@@ -157,6 +159,24 @@ impl Player {
         Ok(true)
     }
 
+    // A line that says what is so, or what isn't.
+    fn say(
+        &mut self,
+        alloc: Global,
+        at: u64,
+        words: &[String],
+        is_so: bool,
+    ) -> Result<(), Trouble> {
+        let [said, rest @ ..] = words else {
+            return Err(Trouble::NoMeaning("nothing is said"));
+        };
+        if holds(alloc, &mut self.disks, said.as_str(), rest)? == is_so {
+            self.succeed(1);
+            return Ok(());
+        }
+        self.fail(alloc, at, "that isn't so")
+    }
+
     // A line that acts, or says what is so.
     fn act(&mut self, alloc: Global, at: u64, words: &[String]) -> Result<(), Trouble> {
         let [first, rest @ ..] = words else {
@@ -165,13 +185,8 @@ impl Player {
         match first.as_str() {
             "source" => self.source_fails = numbers(alloc, rest)?,
             "sink" => self.sink_fails = numbers(alloc, rest)?,
-            said if is_said(said) => {
-                if holds(alloc, &mut self.disks, said, rest)? {
-                    self.succeed(1);
-                } else {
-                    self.fail(alloc, at, "that isn't so")?;
-                }
-            }
+            "wrong" => self.say(alloc, at, rest, false)?,
+            said if is_said(said) => self.say(alloc, at, words, true)?,
             other => act(alloc, &mut self.disks, other, rest)?,
         }
         Ok(())

@@ -68,6 +68,8 @@ pub(crate) struct Run {
     pub script: String,
     pub source_fails: Vec<u64>,
     pub sink_fails: Vec<u64>,
+    /// Whether something else comes than what is told.
+    pub is_wrong: bool,
     others: Vec<Wanted>,
     wanted: Wanted,
 }
@@ -81,6 +83,7 @@ impl Run {
             script: String::new(alloc),
             source_fails: Vec::new(alloc),
             sink_fails: Vec::new(alloc),
+            is_wrong: false,
             others: Vec::new(alloc),
             wanted: Wanted::new(alloc)?,
         })
