@@ -3,6 +3,7 @@ pub mod Joined
 pub mod OpenedFiles
 pub mod OpenedKnown
 pub mod OpenedPasts
+pub mod OpenedMarks
 pub mod OpenedPlaces
 pub mod OpenedViews
 pub mod Taken

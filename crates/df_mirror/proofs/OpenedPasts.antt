@@ -32,17 +32,17 @@ begins_bare : (sh : Shape) (image : Units) (images : List Units) (v : View) → 
 begins_bare sh image [] v begins k x at = at
 begins_bare sh image (before ∷ images) v begins k x at = made_reply v.checkpoint.content (before ∷ images) begins.2 k x at
 
-grows_rises : (sh : Shape) (images : List Units) (v : View) → Grows sh images v → Rises sh images v
+pub grows_rises : (sh : Shape) (images : List Units) (v : View) → Grows sh images v → Rises sh images v
 grows_rises sh [] v grows = grows
 grows_rises sh (image ∷ images) v (holds, inl begins) = (holds, inl (begins_bare sh image images v begins))
 grows_rises sh (image ∷ images) v (holds, inr (history, (u, next, grows))) = (holds, inr (u, next.next, grows_rises sh images u grows))
 
-later_rises : (sh : Shape) (rest images : List Units) (v : View) → GrowsOn sh rest images v → Rises sh images v
+pub later_rises : (sh : Shape) (rest images : List Units) (v : View) → GrowsOn sh rest images v → Rises sh images v
 later_rises sh rest [] v grows = grows
 later_rises sh rest (image ∷ []) v holds = (holds, inl (λ k x none. none))
 later_rises sh rest (image ∷ before ∷ images) v (holds, history, (u, next, grows)) = (holds, inr (u, next.next, later_rises sh rest (before ∷ images) u grows))
 
-rises_sound : (sh : Shape) (images : List Units) (v : View) → Rises sh images v → Sound sh v
+pub rises_sound : (sh : Shape) (images : List Units) (v : View) → Rises sh images v → Sound sh v
 rises_sound sh [] v rises = absurd rises
 rises_sound sh (image ∷ images) v rises = rises.0.bears.sound
 
@@ -122,10 +122,10 @@ reply_low sh (image ∷ images) v (holds, inr (u, next, rises)) k s of r (inr th
 
 -- ---- the newest log
 
-newest_holds : (sh : Shape) (log : UnitLog) (v : View) → IsSettled log → Rises sh (settled log) v → Holds sh (now log) v
+pub newest_holds : (sh : Shape) (log : UnitLog) (v : View) → IsSettled log → Rises sh (settled log) v → Holds sh (now log) v
 newest_holds sh log v sync rises = (subst (λ (l : List Units). Rises sh l v) sync.newest rises).0
 
-not_made : (sh : Shape) (log : UnitLog) (c : Content) (v : View) → HasMade sh log c → IsSettled log → Holds sh (now log) v → ⊥
+pub not_made : (sh : Shape) (log : UnitLog) (c : Content) (v : View) → HasMade sh log c → IsSettled log → Holds sh (now log) v → ⊥
 not_made sh log c v made sync holds = no_choice c (now log) sync.older (subst (λ (l : List Units). AreMade c l) sync.newest made.made) v.checkpoint.content holds.chosen.agreed
 
 first_rises : (sh : Shape) (log : UnitLog) (v : View) → IsFirstLog sh log → IsSettled log → Holds sh (now log) v → (u : View) × Rises sh (settled log) u
@@ -153,7 +153,7 @@ same_low : (w v : View) → w ≡ v → (boot_of w ≤ boot_of v) × (sequence w
 same_low w v same = (omega (arith, ap boot_of same), omega (arith, ap sequence same))
 
 -- the views of a log that was begun anew are no older than that of its start
-among_low : (sh : Shape) (rest images : List Units) (v : View) → GrowsOn sh rest images v → (i : Units) → Among images i → (w : View) → Holds sh i w → (boot_of w ≤ boot_of v) × (sequence w ≤ sequence v)
+pub among_low : (sh : Shape) (rest images : List Units) (v : View) → GrowsOn sh rest images v → (i : Units) → Among images i → (w : View) → Holds sh i w → (boot_of w ≤ boot_of v) × (sequence w ≤ sequence v)
 among_low sh rest [] v grows i among w holds = absurd among
 among_low sh rest (image ∷ []) v grows i (inl is) w holds = same_low w v (one_view sh image w v (subst (λ (j : Units). Holds sh j w) is holds) grows)
 among_low sh rest (image ∷ []) v grows i (inr none) w holds = absurd none
@@ -169,7 +169,7 @@ among_start start ((Wrote touches stands after) ∷ es) = among_start start es
 among_start start (Synced ∷ es) = inr (among_start start es)
 among_start start ((Stopped after) ∷ es) = inr (among_start start es)
 
-newest_is : (sh : Shape) (log before : UnitLog) (logs : List UnitLog) (v : View) (begun : IsBegunAnew sh log before logs) → IsSettled log → Holds sh (now log) v → begun.newest ≡ v
+pub newest_is : (sh : Shape) (log before : UnitLog) (logs : List UnitLog) (v : View) (begun : IsBegunAnew sh log before logs) → IsSettled log → Holds sh (now log) v → begun.newest ≡ v
 newest_is sh log before logs v begun sync holds = one_view sh (now log) begun.newest v (newest_holds sh log begun.newest sync (later_rises sh (all_settled (before ∷ logs)) (settled log) begun.newest begun.grows)) holds
 
 begun_low : (sh : Shape) (log before : UnitLog) (logs : List UnitLog) (v : View) (begun : IsBegunAnew sh log before logs) → IsSettled log → Holds sh (now log) v → (boot_of begun.view ≤ boot_of v) × (sequence begun.view ≤ sequence v)
@@ -193,7 +193,7 @@ own_old sh log v rises sync k x pool =
     (a.0, a.1, record { checkpoint = a.2.checkpoint; boot = a.2.boot; alone = a.2.alone })
 
 -- what is no newer than each view that the log before has is no newer than the start of the log that was begun behind it
-old_start : (sh : Shape) (log before : UnitLog) (logs : List UnitLog) (begun : IsBegunAnew sh log before logs) → IsLived sh (before ∷ logs) → (x : AnyUnit) → ((v : View) → Holds sh (now before) v → OldReply v x) → OldReply begun.view x
+pub old_start : (sh : Shape) (log before : UnitLog) (logs : List UnitLog) (begun : IsBegunAnew sh log before logs) → IsLived sh (before ∷ logs) → (x : AnyUnit) → ((v : View) → Holds sh (now before) v → OldReply v x) → OldReply begun.view x
 old_start sh log before logs begun lived x each =
     let from = choice_stays_law sh before logs log.start begun.view.checkpoint.content lived begun.start begun.holds.chosen in
     let old = each from.view from.holds in (

@@ -1,11 +1,9 @@
 -- An image that shows each known unit holds the view that was left, where what else it shows was left so or is of what is recorded.
 use Rattle.std.proofs.Common.{◌≡◌, ◌⊎◌, inl, inr, ℕ, ◌+◌, ◌-◌, ◌%◌, ◌<◌, ◌≤◌, List, [], ◌∷◌, slice_index, Some, refl, sym, ◌∙◌, ap, subst, arith}
 use Rattle.std.proofs.lemmas.Bool.{cases_lt}
-use Rattle.std.specs.List.{slice_get}
 use Rattle.df_format.specs.declared.kind.Kind.TheVariants.{Reply as AsReply}
 use Rattle.df_theory.specs.Units.{AnyUnit, BlockPlace, BlockUnit, Content, CopyPlace, HeaderPlace, Message, Place, PreparePlace, PrepareUnit, ReplyPlace, ReplyUnit, Session, Units}
 use Rattle.df_theory.specs.Copies.{IsChosen}
-use Rattle.df_theory.specs.Sessions.{Answers}
 use Rattle.df_theory.specs.Shape.{Shape, slots}
 use Rattle.df_theory.specs.View.{View, boot_of, sessions}
 use Rattle.df_theory.specs.Shows.{Agrees, AgreesReply, Needs}
@@ -20,7 +18,8 @@ use Rattle.df_history.specs.Histories.{InHistoryPool, InHistoryPools, IsLived, M
 use Rattle.df_history.proofs.Laws.{choice_stays_law}
 use Rattle.df_mirror.specs.Known.{AllShown, IsRecorded, ShowsTrailer}
 use Rattle.df_mirror.proofs.OpenedKnown.{chain_shown, front_shown, reply_of}
-use Rattle.df_mirror.proofs.OpenedPasts.{Rises, newest_rises, old_replies, pooled_settled, reply_agrees, reply_low}
+use Rattle.df_mirror.proofs.OpenedMarks.{agrees_as, all_counted, same_reply}
+use Rattle.df_mirror.proofs.OpenedPasts.{Rises, newest_rises, old_replies, pooled_settled, reply_low}
 
 -- ---- what is shown of what was left
 
@@ -41,6 +40,14 @@ pub record ShowsLeft (sh : Shape) (was image : Units) (c : Content) : Type 0 whe
   pub prepares : (s : ℕ) → (image (PreparePlace s) ≡ was (PreparePlace s)) ⊎ IsNamedSlot sh c s
   pub replies : (k : ℕ) → (image (ReplyPlace k) ≡ was (ReplyPlace k)) ⊎ IsRecordedAnew was image c k ⊎ ((sum : ℕ) × IsRecorded sh was c k sum)
 
+-- each reply of the view's boot that is shown is of the log's own pool
+abbrev pub ShowsOwn : UnitLog → Units → View → Type 0
+ShowsOwn log image v = (k : ℕ) (r : Message) → image (ReplyPlace k) ≡ Some (ReplyUnit r) → r.header.boot ≡ boot_of v → InPool log (ReplyPlace k) (ReplyUnit r)
+
+-- each that is above those recorded was left there
+abbrev pub ShowsNoNewer : (was image : Units) → View → Type 0
+ShowsNoNewer was image v = (k : ℕ) (r : Message) → image (ReplyPlace k) ≡ Some (ReplyUnit r) → r.header.boot ≡ boot_of v → v.checkpoint.content.replies < r.header.op → was (ReplyPlace k) ≡ Some (ReplyUnit r)
+
 -- ---- pools
 
 history_pools : (logs : List UnitLog) (place : Place) (x : AnyUnit) → InHistoryPool logs place x → InHistoryPools logs place x
@@ -55,7 +62,7 @@ same_known n was image op sum (p ∷ ps) same known = (same (op % n) ∙ known.0
 
 module _ (sh : Shape) (second : sh.version ≡ 2) (log : UnitLog) (logs : List UnitLog) (v : View) (image : Units) (lived : IsLived sh (log ∷ logs)) (may : MayStart log logs image) (holds : Holds sh (now log) v)
     (places : AreOfPlaces sh image) (chosen : IsChosen image v.checkpoint.content) (all : AllShown sh image v.checkpoint.content) (left : ShowsLeft sh (now log) image v.checkpoint.content)
-    (own : (k : ℕ) (r : Message) → image (ReplyPlace k) ≡ Some (ReplyUnit r) → r.header.boot ≡ boot_of v → InPool log (ReplyPlace k) (ReplyUnit r)) where
+    (own : ShowsOwn log image v ⊎ ShowsNoNewer (now log) image v) where
   abbrev c : Content
   c = v.checkpoint.content
 
@@ -95,15 +102,43 @@ module _ (sh : Shape) (second : sh.version ≡ 2) (log : UnitLog) (logs : List U
 
   -- ---- the replies
 
-  -- a reply of this boot that is shown is of the newest log: it agrees with the view, and is no later than the session there
+  -- a reply of this boot that is shown agrees with the view: it is of the newest log, or was left, or it is recorded
   own_agrees : (k : ℕ) (r : Message) → image (ReplyPlace k) ≡ Some (ReplyUnit r) → r.header.boot ≡ boot_of v → AgreesReply v r
-  own_agrees k r at boot =
-      let a = reply_agrees sh (settled log) v rises k (ReplyUnit r) (pooled_settled log may.settled_is (ReplyPlace k) (ReplyUnit r) (own k r at boot)) in
-      let same : r ≡ a.0 = (let both : ReplyUnit r ≡ ReplyUnit a.0 = a.1 in cc) in
-      subst (λ (q : Message). AgreesReply v q) (sym same) a.2
+  own_agrees k r at boot = elim own [
+    | inl are ↦ agrees_as sh (settled log) v rises k r (pooled_settled log may.settled_is (ReplyPlace k) (ReplyUnit r) (are k r at boot))
+    | inr none ↦ elim (cases_lt c.replies r.header.op) [
+      | inl above ↦
+          let a = holds.bears.agrees (ReplyPlace k) (ReplyUnit r) (none k r at boot above) in
+          subst (λ (q : Message). AgreesReply v q) (same_reply r a.0 a.1) a.2
+      | inr not ↦
+          let pool = may.chance.pooled (ReplyPlace k) (ReplyUnit r) at in
+          let old = old_replies sh log logs v lived may.settled_is holds k (ReplyUnit r) pool in
+          let low : r.header.op ≤ c.replies = omega arith in
+          let mark = all_counted sh log logs v lived may.settled_is holds k r pool boot low in
+          subst (λ (q : Message). AgreesReply v q) (same_reply r old.0 old.1) (record {
+            op = λ own. omega (arith, low, holds.bears.sound.replies_from.0, ap (λ (q : Message). q.header.op) (same_reply r old.0 old.1));
+            mark = λ own. omega (arith, mark, holds.bears.sound.head_from, ap (λ (q : Message). q.header.mark) (same_reply r old.0 old.1));
+            checkpoint = old.2.checkpoint;
+            boot = old.2.boot;
+            alone = old.2.alone;
+          })
+    ]
+  ]
 
-  own_low : (k : ℕ) (s : Session) → slice_get (sessions v) k ≡ Some s → (r : Message) → image (ReplyPlace k) ≡ Some (ReplyUnit r) → r.header.boot ≡ boot_of v → r.header.op ≤ s.op
-  own_low k s at r shown boot = reply_low sh (settled log) v rises k s (inl at) r (pooled_settled log may.settled_is (ReplyPlace k) (ReplyUnit r) (own k r shown boot)) boot
+  -- where the stored reply is recorded, what is shown in its slot is
+  own_recorded : (k : ℕ) (q : Message) → v.stored k ≡ Some q → q.header.op ≤ c.replies → (r : Message) → image (ReplyPlace k) ≡ Some (ReplyUnit r) → r.header.boot ≡ boot_of v → r.header.op ≤ c.replies
+  own_recorded k q is low r at boot = elim own [
+    | inl are ↦
+        let s = holds.bears.sound.answered k q is in
+        omega (arith, reply_low sh (settled log) v rises k s.0 (inl s.1) r (pooled_settled log may.settled_is (ReplyPlace k) (ReplyUnit r) (are k r at boot)) boot, s.3.op, low)
+    | inr none ↦ elim (cases_lt c.replies r.header.op) [
+      | inl above ↦
+          let had : was (ReplyPlace k) ≡ Some (ReplyUnit q) = holds.bears.needs (ReplyPlace k) (ReplyUnit q) (q, is, refl) in
+          let same : r ≡ q = (let both : Some (ReplyUnit r) ≡ Some (ReplyUnit q) = sym (none k r at boot above) ∙ had in cc) in
+          absurd (omega (arith, above, low, ap (λ (m : Message). m.header.op) same))
+      | inr not ↦ omega arith
+    ]
+  ]
 
   -- what was recorded is recorded, where nothing later of this boot is shown
   still_recorded : (k sum : ℕ) → IsRecorded sh was c k sum → ((r : Message) → image (ReplyPlace k) ≡ Some (ReplyUnit r) → r.header.boot ≡ c.boot → r.header.op ≤ c.replies) → IsRecorded sh image c k sum
@@ -131,16 +166,13 @@ module _ (sh : Shape) (second : sh.version ≡ 2) (log : UnitLog) (logs : List U
     | inr (inl anew) ↦ recorded_shown anew.reply anew.shown anew.sum (anew.no_reply q had)
     | inr (inr (sum, known)) ↦
         let low : q.header.op ≤ c.replies = not_above (known.no_reply q had) in
-        let shown = all AsReply (ReplyPlace k) sum (still_recorded k sum known (λ r at boot. omega (arith, own_low k session.0 session.1 r at boot, session.3.op, low))) in
+        let shown = all AsReply (ReplyPlace k) sum (still_recorded k sum known (own_recorded k q is low)) in
         let r = reply_of shown.unit shown.of_kind in
         recorded_shown r.0 (shown.shown ∙ ap Some r.1) (ap checksum_of (sym r.1) ∙ shown.sum_is ∙ known.sum_is) (λ boot. low)
   ]
     where
       had : was (ReplyPlace k) ≡ Some (ReplyUnit q)
       had = holds.bears.needs (ReplyPlace k) (ReplyUnit q) (q, is, refl)
-
-      session : (s : Session) × (slice_get (sessions v) k ≡ Some s) × (s.op ≤ v.replies) × Answers s q
-      session = holds.bears.sound.answered k q is
 
       answered : c.answered ≡ c.replies + 1
       answered = (holds.bears.sound.checkpoint.tests.of.two (holds.bears.sound.checkpoint.tests.version ∙ second)).1

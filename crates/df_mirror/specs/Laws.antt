@@ -1,18 +1,15 @@
 -- What a list of mends leaves true of the first file, whatever it is and wherever a stop falls.
 use Rattle.std.specs.Prelude.{◌≡◌, ◌⊎◌, ◌<◌, ◌++◌, ℕ, true, List, [], ◌∷◌, Some}
 use Rattle.df_base.specs.Image.{Image, IsImage}
-use Rattle.df_base.specs.Log.{IsLeft, Log, Sync, add, now}
+use Rattle.df_base.specs.Log.{IsLeft, Log, Sync, now}
 use Rattle.df_base.specs.Moments.{EachMoment}
 use Rattle.df_disk.specs.Told.{IsHonest, Told, did}
 use Rattle.df_format.specs.declared.kind.Kind.{Kind}
-use Rattle.df_theory.specs.Chance.{InPool}
 use Rattle.df_theory.specs.Copies.{IsChosen}
-use Rattle.df_theory.specs.Device.{units_log}
 use Rattle.df_theory.specs.Found.{IsFound}
 use Rattle.df_theory.specs.Units.{Content, Message, Place, ReplyPlace, ReplyUnit}
 use Rattle.df_theory.specs.View.{View}
 use Rattle.df_units.specs.Bytes.{has}
-use Rattle.df_units.specs.Format.{format_of}
 use Rattle.df_damage.specs.Anew.{IsStill, told_after}
 use Rattle.df_damage.specs.Histories.{HasRaised, MayReopen}
 use Rattle.df_damage.specs.Hurt.{IsUnhurt}
@@ -63,17 +60,17 @@ abbrev pub HasWoken : DataFile → Log → List Log → Type 0
 HasWoken file log [] = Unit {0}
 HasWoken file log (before ∷ logs) = HasRaised file log before logs
 
--- no reply of the superblock's boot is shown that comes from before the newest log began
-abbrev pub AreOwnReplies : DataFile → Content → Log → Image → Type 0
-AreOwnReplies file c log image = (k : ℕ) (r : Message) → units_in file image (ReplyPlace k) ≡ Some (ReplyUnit r) → r.header.boot ≡ c.boot → InPool (units_log (format_of file.layout file.cluster) (add Sync log)) (ReplyPlace k) (ReplyUnit r)
+-- No reply above those that the superblock records came back: each of its boot that is shown was left there.
+abbrev pub NoneCameBack : DataFile → Content → (was shown : Image) → Type 0
+NoneCameBack file c was shown = (k : ℕ) (r : Message) → units_in file shown (ReplyPlace k) ≡ Some (ReplyUnit r) → r.header.boot ≡ c.boot → c.replies < r.header.op → units_in file was (ReplyPlace k) ≡ Some (ReplyUnit r)
 
 -- Over a lived history nothing was hurt but the sectors of known units and what of the superblock an open may miss, and no unit of what is shown at the end came about by chance. Then the next open, with rooms of the file's layout, finds the view that the log
--- left, and isn't refused. The last open had come to its end. Where it was stopped before it raised the boot, no reply of that boot may come back from before it: in a hurt slot such a reply, which that open hadn't found, hides the recorded one, and it
--- says that a prepare was lost; so nothing is written over it, and the next open refuses.
+-- left, and isn't refused. So it is where the last open had come to its end. Where it was stopped before it raised the boot, a reply may come back that it hadn't found, of the superblock's boot and above those that are recorded: it hides the recorded one of
+-- its slot, which isn't known then. It may be the only trace of a prepare that was acknowledged; so nothing is written over it, and the next open refuses. Where none came back the law holds too.
 abbrev pub MirroredIsOpened : Type 0
 MirroredIsOpened =
     (file : DataFile) (view : View) (c : Content) (second : Image) (t n : Told) (logs : List Log) (ms : List Mend)
     → IsFound (shape file) (units_in file (now t.log)) view → IsUnspent 2 view → IsHurtKnown file view.checkpoint.content t → MayReopen file t.log logs n.shown
-    → HasWoken file t.log logs ⊎ AreOwnReplies file view.checkpoint.content t.log n.shown
+    → HasWoken file t.log logs ⊎ NoneCameBack file view.checkpoint.content (now t.log) n.shown
     → IsImage t.shown → IsChosen (units_in file t.shown) c → AreMends file c second (did Sync t) ms → n ≡ told_after (events_of file ms) (did Sync t) → AllShown (shape file) (units_in file n.shown) c
     → IsFound (shape file) (units_in file n.shown) view × IsNotRefused file n.shown
