@@ -177,7 +177,7 @@ module _ (b : ℕ) (low : b < 8) (image : Units) (holds : Holds shape image (fir
       each_copy = λ k below. inl (copies k below);
     };
     may_boot = may_raise (first b) (b + 1) 0 [] refl (omega arith)
-        (record { pin_from = (omega arith, omega arith); pin_to = omega arith; checksum = refl; answered = (omega arith, omega arith); stored = λ k r at. absurd (let both : None ≡ Some r = at in cc); spare = λ k low. refl });
+        (record { pin_from = (omega arith, omega arith); pin_to = omega arith; checksum = refl; answered = (omega arith, omega arith); stored = λ k r at. absurd (let both : None ≡ Some r = at in cc); unstored = λ k none. refl; spare = λ k low. refl });
   }
 
   pub opens :

@@ -259,6 +259,7 @@ boots b n sum low small = may_raise (view (record (content b) { head = n; pin = 
   checksum = refl;
   answered = (omega arith, omega arith);
   stored = λ k r at. absurd (never_kept (slice_get (sessions (view (content 2))) k) 0 r at);
+  unstored = λ k none. refl;
   spare = λ k none. refl;
 })
 

@@ -1,5 +1,5 @@
 -- Mends one list after the other, and the answers of walks one after the other.
-use Rattle.std.proofs.Common.{◌≡◌, ℕ, ◌+◌, List, [], ◌∷◌, ◌++◌, length, Option, Some, refl, sym, ◌∙◌, ap, subst, arith, length-append, append_assoc}
+use Rattle.std.proofs.Common.{◌≡◌, ℕ, ◌+◌, ◌≤◌, List, [], ◌∷◌, ◌++◌, length, Option, Some, refl, sym, ◌∙◌, ap, subst, arith, length-append, append_assoc}
 use Rattle.std.proofs.lemmas.Option.{same_Some}
 use Rattle.std.specs.Prelude.{Result, Ok, Err}
 use Rattle.df_base.specs.Image.{Image, IsImage}
@@ -17,8 +17,8 @@ use Rattle.df_damage.specs.Anew.{told_after}
 use Rattle.df_opening.specs.Below.{DataFile}
 use Rattle.df_mirror.specs.declared.ending.Ending.{Ending}
 use Rattle.df_mirror.specs.declared.ending.Ending.TheVariants.{First, Neither, Second, Sink, Unopened}
-use Rattle.df_mirror.specs.Laws.{MendsGoOn}
-use Rattle.df_mirror.specs.Mends.{Answers, AreAt, AreMends, AreOfKind, Came, Failed, Mend, Mends, events_of, lines_of}
+use Rattle.df_mirror.specs.Laws.{MendsGoOn, UnitsComeInOrder}
+use Rattle.df_mirror.specs.Mends.{Answers, AreAt, AreFrom, AreMends, AreOfKind, Came, Failed, Mend, Mends, events_of, lines_of, rank_of}
 use Rattle.df_mirror.specs.Texts.{mended_text}
 
 -- ---- lists
@@ -51,6 +51,20 @@ pub image_after : (file : DataFile) (c : Content) (second : Image) (t : Told) (m
 image_after file c second t [] whole are = whole
 image_after file c second t (m ∷ ms) whole are =
     image_after file c second (told_after (events_of file (m ∷ [])) t) ms (written_is_image (first_at file.layout m.place) m.bytes t.shown are.0.puts.piece whole) are.1
+
+-- ---- the order of kinds
+
+-- what follows is no earlier
+none_before : (rank : ℕ) (between back : List Mend) (n : Mend) → AreFrom rank (between ++ n ∷ back) → rank ≤ rank_of n.kind
+none_before rank [] back n are = are.0
+none_before rank (m ∷ between) back n are = omega (arith, are.0, none_before (rank_of m.kind) between back n are.1)
+
+from_any : (rank : ℕ) (front between back : List Mend) (m n : Mend) → AreFrom rank (front ++ m ∷ between ++ n ∷ back) → rank_of m.kind ≤ rank_of n.kind
+from_any rank [] between back m n are = none_before (rank_of m.kind) between back n are.1
+from_any rank (l ∷ front) between back m n are = from_any (rank_of l.kind) front between back m n are.1
+
+pub units_come_in_order : UnitsComeInOrder
+units_come_in_order front between back m n are = from_any 0 front between back m n are
 
 pub kinds_append : (kind : Kind) (ms ls : List Mend) → AreOfKind kind ms → AreOfKind kind ls → AreOfKind kind (ms ++ ls)
 kinds_append kind [] ls one two = two

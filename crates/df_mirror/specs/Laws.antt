@@ -1,5 +1,5 @@
 -- What a list of mends leaves true of the first file, whatever it is and wherever a stop falls.
-use Rattle.std.specs.Prelude.{◌≡◌, ◌⊎◌, ◌<◌, ◌++◌, ℕ, true, List, [], ◌∷◌, Some}
+use Rattle.std.specs.Prelude.{◌≡◌, ◌⊎◌, ◌<◌, ◌≤◌, ◌++◌, ℕ, true, List, [], ◌∷◌, Some}
 use Rattle.df_base.specs.Image.{Image, IsImage}
 use Rattle.df_base.specs.Log.{IsLeft, Log, Sync, now}
 use Rattle.df_base.specs.Moments.{EachMoment}
@@ -17,13 +17,17 @@ use Rattle.df_damage.specs.Unrefused.{IsNotRefused}
 use Rattle.df_damage.specs.Versions.{IsUnspent}
 use Rattle.df_opening.specs.Below.{DataFile, shape}
 use Rattle.df_mirror.specs.Known.{AllShown, IsKnown, IsShownAs}
-use Rattle.df_mirror.specs.Mends.{AreMends, Mend, events_of, units_in}
+use Rattle.df_mirror.specs.Mends.{AreInOrder, AreMends, Mend, events_of, rank_of, units_in}
 
 -- mends of what mends left go on with them
 abbrev pub MendsGoOn : Type 0
 MendsGoOn =
     (file : DataFile) (c : Content) (second : Image) (t : Told) (ms later : List Mend) → AreMends file c second t ms → AreMends file c second (told_after (events_of file ms) t) later
     → AreMends file c second t (ms ++ later)
+
+-- of two units that are mended one after the other the kind of the first is no later
+abbrev pub UnitsComeInOrder : Type 0
+UnitsComeInOrder = (front between back : List Mend) (m n : Mend) → AreInOrder (front ++ m ∷ between ++ n ∷ back) → rank_of m.kind ≤ rank_of n.kind
 
 -- each known unit that an image shows is shown by the other one
 abbrev pub KeepsShown : DataFile → Content → (image other : Image) → Type 0

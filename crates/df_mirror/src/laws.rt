@@ -1,9 +1,14 @@
 // What a list of mends leaves true: laws, each the clause of a function that does nothing.
-ghost use Rattle.df_mirror.specs.Laws.{KnownStays, MendsGoOn, MirroredIsOpened};
+ghost use Rattle.df_mirror.specs.Laws.{KnownStays, MendsGoOn, MirroredIsOpened, UnitsComeInOrder};
 
 /// Mends go on with mends of what they left.
 pub fn mends_go_on()
     ensures { MendsGoOn }
+{}
+
+/// Blocks of the trailer are mended first, then those that it references, then prepares, and then replies.
+pub fn units_come_in_order()
+    ensures { UnitsComeInOrder }
 {}
 
 /// At every moment each known unit that was shown is still shown, in whatever a stop leaves.

@@ -91,6 +91,14 @@ module _ (sh : Shape) (spell : Parts → List ℕ) (w : Work) (is : IsRecordable
       let long : length m.stored ≡ length (sessions v) = length-map-range_with_len (λ i. stored_sum (v.stored i)) 0 (length (sessions v)) in
       named_none m k (slice_get_past m.stored k (omega (arith, long, is.few, from)))
 
+  names_none : (k : ℕ) → v.stored k ≡ None → slice_index (named_sums m) k ≡ 0
+  names_none k none = elim (cases_lt k (length (sessions v))) [
+    | inl inside ↦
+        let at : slice_get m.stored k ≡ Some None = get_range (λ i. stored_sum (v.stored i)) 0 (length (sessions v)) k k inside (omega arith) ∙ ap (λ (o : Option Message). Some (stored_sum o)) none in
+        named_at m k (omega (arith, inside, is.few, is.places)) ∙ ap (λ (o : Option (Option ℕ)). sum_or_zero (joined o)) at
+    | inr past ↦ named_none m k (slice_get_past m.stored k (omega (arith, past, length-map-range_with_len (λ i. stored_sum (v.stored i)) 0 (length (sessions v)))))
+  ]
+
   -- what it records is so, whatever op of the tail it reaches
   pub records_now : (c : Content) → v.checkpoint.content.op ≤ c.op → c.op ≤ head v → c.op_checksum ≡ last_checksum v.checkpoint.content.op_checksum (take (c.op - v.checkpoint.content.op) v.tail) → Records v (recorded m c)
   records_now c from to sum =
@@ -102,5 +110,6 @@ module _ (sh : Shape) (spell : Parts → List ℕ) (w : Work) (is : IsRecordable
         checksum = ap (λ (ps : List Message). last_checksum c.op_checksum ps) all ∙ ap (λ (k : ℕ). last_checksum k (drop n v.tail)) sum ∙ last_split n v.checkpoint.content.op_checksum v.tail;
         answered = (is.answered, omega arith);
         stored = λ k r at below. names_stored k r at;
+        unstored = names_none;
         spare = names_no_more;
       }

@@ -36,7 +36,7 @@ log5 = after_steps command5.steps log4
 
 may5 : MayFinish shape view2 checkpoint2
 may5 = record {
-  is = record { file = (refl, refl, refl, refl); sequence = refl; boot = refl; op_from = omega arith; op_to = omega arith; op_checksum = refl; sessions = refl; head = refl; replies = refl; records = record { pin_from = (omega arith, omega arith); pin_to = omega arith; checksum = refl; answered = (omega arith, omega arith); stored = λ k r at low. absurd (omega arith); spare = λ k low. refl }; of = record { one = λ is. (refl, refl, refl, refl); two = λ is. absurd (omega arith) } };
+  is = record { file = (refl, refl, refl, refl); sequence = refl; boot = refl; op_from = omega arith; op_to = omega arith; op_checksum = refl; sessions = refl; head = refl; replies = refl; records = record { pin_from = (omega arith, omega arith); pin_to = omega arith; checksum = refl; answered = (omega arith, omega arith); stored = λ k r at low. absurd (omega arith); unstored = λ k none. refl; spare = λ k low. refl }; of = record { one = λ is. (refl, refl, refl, refl); two = λ is. absurd (omega arith) } };
   trailer = record {
     reference = record { address = omega arith; some = λ above. omega arith; none = λ none. absurd (omega arith); size = λ above. (omega arith, omega arith) };
     links = (omega arith, refl, refl, refl, refl, refl, refl, refl);

@@ -39,6 +39,7 @@ is_first_bare version answered sum parse few of = is_first_of (shape_of version 
   sequence = refl;
   numbers = (refl, refl, refl, refl);
   pin = (refl, refl, refl);
+  named = λ k. refl;
   trailer = (refl, refl, refl);
 })
 

@@ -52,7 +52,7 @@ tidy_made = (tidy_of shape (content 50 0) is_first).0
 
 may_boot : (a b boot : ℕ) → boot < 5 → MayBoot (view a boot) (content b (boot + 1))
 may_boot a b boot small = may_raise (view a boot) b 0 [] refl (omega arith)
-    (record { pin_from = (omega arith, omega arith); pin_to = omega arith; checksum = refl; answered = (omega arith, omega arith); stored = λ k r at low. absurd (let both : None ≡ Some r = at in cc); spare = λ k low. refl })
+    (record { pin_from = (omega arith, omega arith); pin_to = omega arith; checksum = refl; answered = (omega arith, omega arith); stored = λ k r at low. absurd (let both : None ≡ Some r = at in cc); unstored = λ k none. refl; spare = λ k low. refl })
 
 abbrev boot1 : Command
 boot1 = boot_command (view 50 0) (content 51 1) (copies_of (content 51 1))

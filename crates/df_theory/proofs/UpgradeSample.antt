@@ -167,9 +167,13 @@ spare : (k : ℕ) → 4 ≤ k → slice_index (6 ∷ []) k ≡ 0
 spare zero low = absurd (omega arith)
 spare (suc k) low = refl
 
+unstored : (k : ℕ) → view2.stored k ≡ None → slice_index (6 ∷ []) k ≡ 0
+unstored zero none = absurd (let both : Some reply1 ≡ None = none in cc)
+unstored (suc k) none = refl
+
 boots : MayBoot (as_version 2 view2) content3
 boots = may_raise (as_version 2 view2) 31 5 (6 ∷ []) refl (omega arith)
-    (record { pin_from = (omega arith, omega arith); pin_to = omega arith; checksum = refl; answered = (omega arith, omega arith); stored = λ k r at low. stored_named k r at; spare = spare })
+    (record { pin_from = (omega arith, omega arith); pin_to = omega arith; checksum = refl; answered = (omega arith, omega arith); stored = λ k r at low. stored_named k r at; unstored = unstored; spare = spare })
 
 may : MayRaise shape 2 image view2 table [] mends content3
 may = record {

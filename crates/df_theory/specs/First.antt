@@ -1,17 +1,18 @@
 -- A file as it is made: from the empty image to its first view.
-use Rattle.std.specs.Prelude.{◌≡◌, ℕ, List, [], ◌∷◌, Some, None}
+use Rattle.std.specs.Prelude.{◌≡◌, ℕ, List, [], ◌∷◌, slice_index, Some, None}
 use Rattle.df_theory.specs.Units.{Place, CopyPlace, HeaderPlace, Header, Content, AnyUnit, CopyUnit, HeaderUnit, Units, IsReserved}
 use Rattle.df_theory.specs.Shape.{Shape}
 use Rattle.df_theory.specs.Copies.{IsSplit}
 use Rattle.df_theory.specs.Trailer.{no_parts}
 use Rattle.df_theory.specs.View.{View, PassesTests}
 
--- the superblock of a file that was just made: sequence 1, and nothing else
+-- the superblock of a file that was just made: sequence 1, and nothing else; no reply is named
 pub record IsFirstContent (sh : Shape) (c : Content) : Type 0 where
   pub tests : PassesTests sh c
   pub sequence : c.sequence ≡ 1
   pub numbers : (c.op ≡ 0) × (c.op_checksum ≡ 0) × (c.head ≡ 0) × (c.replies ≡ 0)
   pub pin : (c.boot ≡ 0) × (c.pin ≡ 0) × (c.pin_checksum ≡ 0)
+  pub named : (k : ℕ) → slice_index c.reply_checksums k ≡ 0
   pub trailer : (c.trailer ≡ 0) × (c.trailer_checksum ≡ 0) × (c.trailer_size ≡ 0)
 
 -- the first view: nothing was appended yet

@@ -53,13 +53,14 @@ pub record IsReply (v : View) (place : ℕ) (r : Message) : Type 0 where
   pub alone : IsAlone r.header
   pub session : (s : Session) × (slice_get (sessions v) place ≡ Some s) × Answers s r
 
--- what the next content records of the view: the prepares up to its pin, by the checksum of that one, and the replies below its `answered`
+-- what the next content records of the view: the prepares up to its pin, by the checksum of that one, and the stored replies below its `answered`, by theirs; where none is stored there are zeros
 pub record Records (v : View) (d : Content) : Type 0 where
   pub pin_from : (v.checkpoint.content.pin ≤ d.pin) × (d.op ≤ d.pin)
   pub pin_to : d.pin ≤ head v
   pub checksum : last_checksum d.op_checksum (take (d.pin - d.op) (drop (d.op - v.checkpoint.content.op) v.tail)) ≡ d.pin_checksum
   pub answered : (v.checkpoint.content.answered ≤ d.answered) × (d.answered ≤ v.replies + 1)
   pub stored : (k : ℕ) (r : Message) → v.stored k ≡ Some r → r.header.op < d.answered → slice_index d.reply_checksums k ≡ r.header.checksum
+  pub unstored : (k : ℕ) → v.stored k ≡ None → slice_index d.reply_checksums k ≡ 0
   pub spare : (k : ℕ) → v.checkpoint.content.layout.clients ≤ k → slice_index d.reply_checksums k ≡ 0
 
 -- a checkpoint of the file is finished: of any op that the tail reaches, with the counters as they are

@@ -9,6 +9,8 @@ use Rattle.df_layout.specs.declared.layout.Layout.{Layout}
 use Rattle.df_format.specs.declared.header.Header.{Header}
 use Rattle.df_format.specs.SuperRules.{IsUsable}
 use Rattle.df_format.specs.First.{first_content, first_super}
+use Rattle.df_format.specs.Super.{no_checksums}
+use Rattle.df_format.proofs.Laws.{no_names}
 use Rattle.df_theory.specs.Units
 use Rattle.df_theory.specs.Units.{AnyUnit, HeaderPlace, is_some}
 use Rattle.df_theory.specs.First.{IsFirst}
@@ -27,6 +29,7 @@ use Rattle.df_units.specs.Superblocks.{AreFieldsOf}
 use Rattle.df_units.specs.Making.{AreReserved, FormatOnDisk, NewIsMaking, first_view, format_events, header_puts, header_writes}
 use Rattle.df_units.proofs.Numbers.{no_number}
 use Rattle.df_units.proofs.Usable.{second_usable_passes}
+use Rattle.df_units.proofs.Versions.{none_zero}
 use Rattle.df_units.proofs.Local.{blank_empty, is_format}
 use Rattle.df_units.proofs.Told.{reserved_put}
 use Rattle.df_units.proofs.Writes.{copy_put, headers_put, some_header}
@@ -63,6 +66,7 @@ is_first layout cluster named parse is = is_first_of (shape_of layout cluster na
   sequence = refl;
   numbers = (refl, no_number, refl, refl);
   pin = (refl, refl, no_number);
+  named = none_zero no_checksums no_names;
   trailer = (refl, no_number, refl);
 })
 
