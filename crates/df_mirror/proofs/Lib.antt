@@ -5,6 +5,7 @@ pub mod OpenedKnown
 pub mod OpenedPasts
 pub mod OpenedMarks
 pub mod OpenedPlaces
+pub mod OpenedRuns
 pub mod OpenedViews
 pub mod Taken
 pub mod Frames

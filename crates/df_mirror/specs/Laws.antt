@@ -16,8 +16,12 @@ use Rattle.df_damage.specs.Hurt.{IsUnhurt}
 use Rattle.df_damage.specs.Unrefused.{IsNotRefused}
 use Rattle.df_damage.specs.Versions.{IsUnspent}
 use Rattle.df_opening.specs.Below.{DataFile, shape}
+use Rattle.df_mirror.specs.declared.status.Status.{Status}
+use Rattle.df_mirror.specs.declared.status.Status.TheVariants.{Done, Found}
 use Rattle.df_mirror.specs.Known.{AllShown, IsKnown, IsShownAs}
 use Rattle.df_mirror.specs.Mends.{AreInOrder, AreMends, Mend, events_of, rank_of, units_in}
+use Rattle.df_mirror.specs.Outside.{Outside, Tell}
+use Rattle.df_mirror.specs.Run.{Mirrors}
 
 -- mends of what mends left go on with them
 abbrev pub MendsGoOn : Type 0
@@ -78,3 +82,11 @@ MirroredIsOpened =
     → HasWoken file t.log logs ⊎ NoneCameBack file view.checkpoint.content (now t.log) n.shown
     → IsImage t.shown → IsChosen (units_in file t.shown) c → AreMends file c second (did Sync t) ms → n ≡ told_after (events_of file ms) (did Sync t) → AllShown (shape file) (units_in file n.shown) c
     → IsFound (shape file) (units_in file n.shown) view × IsNotRefused file n.shown
+
+-- So it is behind each run of the program that ends as Done or Found, of the file that the first file's superblock names.
+abbrev pub MendedIsOpened : Type 0
+MendedIsOpened =
+    (view : View) (t o n : Told) (logs : List Log) (old new : Outside) (status : Status) (is : Mirrors t o old new status) → Tell t o old → (status ≡ Done) ⊎ (status ≡ Found) → new.first ≡ Some n
+    → IsFound (shape is.base.file) (units_in is.base.file (now t.log)) view → IsUnspent 2 view → IsHurtKnown is.base.file view.checkpoint.content t → MayReopen is.base.file t.log logs n.shown
+    → HasWoken is.base.file t.log logs ⊎ NoneCameBack is.base.file view.checkpoint.content (now t.log) n.shown
+    → IsFound (shape is.base.file) (units_in is.base.file n.shown) view × IsNotRefused is.base.file n.shown

@@ -1,5 +1,5 @@
 // What a list of mends leaves true: laws, each the clause of a function that does nothing.
-ghost use Rattle.df_mirror.specs.Laws.{KnownStays, MendsGoOn, MirroredIsOpened, UnitsComeInOrder};
+ghost use Rattle.df_mirror.specs.Laws.{KnownStays, MendedIsOpened, MendsGoOn, MirroredIsOpened, UnitsComeInOrder};
 
 /// Mends go on with mends of what they left.
 pub fn mends_go_on()
@@ -18,5 +18,6 @@ pub fn known_units_stay()
 
 /// A file at rest of which only known units and at most two superblock copies were hurt is opened as it was left, once all known units are shown again.
 pub fn a_mended_file_is_opened()
-    ensures { MirroredIsOpened }
+    ensures mends { MirroredIsOpened }
+    ensures run { MendedIsOpened }
 {}

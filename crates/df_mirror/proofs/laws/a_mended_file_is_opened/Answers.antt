@@ -1,5 +1,10 @@
+-- A mended file is opened as it was left.
 use Rattle.df_mirror.proofs.OpenedFiles.{mirrored_is_opened}
+use Rattle.df_mirror.proofs.OpenedRuns.{mended_is_opened}
 use Rattle.df_mirror.proofs.laws.a_mended_file_is_opened.Goals as goal
 
-pub returns : goal.returns
-returns c = mirrored_is_opened
+pub returns-clause-mends : goal.returns-clause-mends
+returns-clause-mends c = mirrored_is_opened
+
+pub returns-clause-run : goal.returns-clause-run
+returns-clause-run c = mended_is_opened

@@ -1,0 +1,50 @@
+-- A run that ends as Done or Found mended known units, and shows them all.
+use Rattle.std.proofs.Common.{◌≡◌, ◌⊎◌, inl, inr, ℕ, List, Option, refl, sym, ◌∙◌, subst}
+use Rattle.std.proofs.lemmas.Option.{same_Some}
+use Rattle.std.specs.Prelude.{Result, Ok, Err}
+use Rattle.df_base.specs.Log.{Sync}
+use Rattle.df_disk.specs.Told.{did}
+use Rattle.df_format.specs.Copies.{content_with}
+use Rattle.df_theory.specs.Copies.{IsChosen}
+use Rattle.df_units.proofs.Laws.{choice_chosen}
+use Rattle.df_damage.proofs.Laws.{super_is_written_as}
+use Rattle.df_telling.proofs.Laws.{refusal_ends, text_ends}
+use Rattle.df_mirror.specs.declared.ending.Ending.{Ending}
+use Rattle.df_mirror.specs.declared.ending.Ending.TheVariants.{First, Neither, Second, Sink, Unopened}
+use Rattle.df_mirror.specs.declared.status.Status.{Status}
+use Rattle.df_mirror.specs.declared.status.Status.TheVariants as ends
+use Rattle.df_mirror.specs.Laws.{MendedIsOpened}
+use Rattle.df_mirror.specs.Mends.{Answers, AreInOrder, Came, units_in}
+use Rattle.df_mirror.specs.Run.{Tells}
+use Rattle.df_mirror.specs.Texts.{neither_text}
+use Rattle.df_mirror.specs.Walks.{content_of}
+use Rattle.df_mirror.proofs.OpenedFiles.{mirrored_is_opened}
+
+-- the two statuses of a run that came to its end
+abbrev EndsWell : Status → Type 0
+EndsWell status = (status ≡ ends.Done) ⊎ (status ≡ ends.Found)
+
+neither : (status : Status) → EndsWell status → (status ≡ ends.Done → ⊥) → (status ≡ ends.Found → ⊥) → ⊥
+neither status (inl done) one two = one done
+neither status (inr found) one two = two found
+
+-- only of so many units
+ends_well : (result : Result ℕ Ending) (old new : Option (List ℕ)) (status : Status) → Tells result old new status → EndsWell status → (count : ℕ) × (result ≡ Ok count)
+ends_well (Ok count) old new status tells well = (count, refl)
+ends_well (Err (Neither place class)) old new status tells well = absurd (neither status well (text_ends ends.WriteFault (neither_text place class) ends.Refused ends.Done old new status tells (λ no. cc) (λ no. cc))
+    (text_ends ends.WriteFault (neither_text place class) ends.Refused ends.Found old new status tells (λ no. cc) (λ no. cc)))
+ends_well (Err (Unopened e)) old new status tells well = absurd (neither status well (refusal_ends ends.Refused ends.DiskFault ends.WriteFault ends.Done e old new status tells (λ no. cc) (λ no. cc) (λ no. cc))
+    (refusal_ends ends.Refused ends.DiskFault ends.WriteFault ends.Found e old new status tells (λ no. cc) (λ no. cc) (λ no. cc)))
+ends_well (Err First) old new status tells well = let is = tells.0 in absurd (neither status well (λ done. cc (is, done)) (λ found. cc (is, found)))
+ends_well (Err Second) old new status tells well = let is = tells.0 in absurd (neither status well (λ done. cc (is, done)) (λ found. cc (is, found)))
+ends_well (Err Sink) old new status tells well = let is = tells.0 in absurd (neither status well (λ done. cc (is, done)) (λ found. cc (is, found)))
+
+pub mended_is_opened : MendedIsOpened
+mended_is_opened view t o n logs old new status is tell well told found unspent hurt may own =
+    let b = is.base in
+    let c = content_of b in
+    let end = ends_well is.mirrored.result is.mirrored.text new.written status is.mirrored.tells well in
+    let came : Came b.file c AreInOrder (did Sync t) o new.first old.written is.mirrored.text (λ ms after. end.0 ≡ _) = subst (λ (r : Result ℕ Ending). Answers b.file c AreInOrder (did Sync t) o new.first old.written is.mirrored.text r) end.1 is.mirrored.answers in
+    let after : came.after ≡ n = same_Some came.after n (sym came.after_is ∙ told) in
+    let chosen : IsChosen (units_in b.file t.shown) c = choice_chosen b.file.layout b.file.cluster t.shown (content_with b.content) tell.whole (super_is_written_as b.file.version t.shown b.content tell.whole is.has.super) in
+    mirrored_is_opened b.file view c o.shown t n logs came.mends found unspent hurt may own tell.whole chosen came.does.are (sym after ∙ came.does.told) (is.mirrored.shown end.0 n end.1 told)
