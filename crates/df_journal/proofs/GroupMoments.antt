@@ -18,7 +18,7 @@ use Rattle.df_theory.specs.Units.{HeaderPlace, HeaderUnit, PreparePlace, Prepare
 use Rattle.df_theory.specs.UnitLog
 use Rattle.df_theory.specs.UnitLog.{PutsOne, put_one}
 use Rattle.df_theory.specs.Tails.{In}
-use Rattle.df_theory.specs.Shape.{Shape, slots}
+use Rattle.df_theory.specs.Shape.{Shape}
 use Rattle.df_theory.specs.View.{View, head}
 use Rattle.df_theory.specs.Next.{appended}
 use Rattle.df_theory.specs.Runs.{Step, Syncs}

@@ -1,5 +1,5 @@
 -- A flush of a group of prepares, which is a put of each and one settling: its device calls, what they are in the words of the theory, and what a stop at any moment of it leaves.
-use Rattle.std.specs.Prelude.{◌≡◌, ◌<◌, ◌+◌, ◌/◌, ◌==◌, ℕ, if◌then◌else◌, List, [], ◌∷◌, ◌++◌, length, slice_get, take, Option, Some}
+use Rattle.std.specs.Prelude.{◌≡◌, ◌<◌, ◌/◌, ◌==◌, ℕ, if◌then◌else◌, List, [], ◌∷◌, ◌++◌, length, slice_get, take, Option, Some}
 use Rattle.df_base.specs.Image.{Image}
 use Rattle.df_base.specs.Log
 use Rattle.df_base.specs.Log.{Event, IsLeft, IsLog}

@@ -67,6 +67,21 @@ AreUnstored sessions = (k : ℕ) (s : Session) → slice_get sessions k ≡ Some
 abbrev pub AreNumbered : List Session → Type 0
 AreNumbered sessions = (k : ℕ) (s : Session) → slice_get sessions k ≡ Some s → s.request ≤ 2 ^ 62
 
+-- a walk from this op on, whose prepare has this checksum, stays within the ring and the greatest op, and its tail ends no later
+pub record IsWithin (op slots : ℕ) (sum : List ℕ) (reach : Reach) : Type 0 where
+  pub from : op ≤ reach.tail.op
+  pub order : reach.tail.op ≤ reach.op
+  pub within : reach.op ≤ op + slots
+  pub most : reach.op ≤ 2 ^ 62
+  pub checksum : IsCheck reach.tail.checksum
+  pub start : reach.tail.op ≡ op → reach.tail.checksum ≡ sum
+
+-- the table of sessions keeps its limit, and what was so of each session is so of each
+pub record KeepsRules (old new : Table) : Type 0 where
+  pub places : new.max ≡ old.max
+  pub unstored : AreUnstored old.sessions → AreUnstored new.sessions
+  pub numbered : AreNumbered old.sessions → AreNumbered new.sessions
+
 -- as an answer
 abbrev pub GoesOn : Layout → Start → List SlotSeen → Position → List Session → Option Header → Type 0
 GoesOn layout start table at sessions None = (h : Header) → IsNext layout start table at sessions h → ⊥

@@ -4,7 +4,7 @@ ghost use Rattle.std.specs.Prelude.{◌≡◌, ◌≤◌, ◌<◌, ◌+◌, ◌^
 ghost use Rattle.df_journal.specs.Below.{IsCheck, Units, Shape, Checkpoint};
 ghost use Rattle.df_journal.specs.Known.{AllKnown};
 ghost use Rattle.df_journal.specs.Shows.{IsTable, TellsRings};
-ghost use Rattle.df_journal.specs.Tail.{AreNumbered, AreUnstored, BeginsAt, FindsReach, GoesOn, IsSound};
+ghost use Rattle.df_journal.specs.Tail.{BeginsAt, FindsReach, GoesOn, IsSound, IsWithin, KeepsRules};
 
 use crate::seen::taken;
 use crate::{SlotTable, Start};
@@ -55,15 +55,8 @@ pub fn find_reach(
     requires places { sessions.old.max ≡ layout.now.clients }
     ensures reach { (sh : Shape) (image : Units) (b : Checkpoint) → TellsRings layout.now image found.now
         → BeginsAt sh b layout.now found.now.start checksum.now sessions.old.sessions → AllKnown sh image b.content → FindsReach sh image b result sessions.new.sessions }
-    ensures from { found.now.start.op ≤ result.tail.op }
-    ensures order { result.tail.op ≤ result.op }
-    ensures within { result.op ≤ found.now.start.op + layout.now.slots }
-    ensures most { result.op ≤ 2 ^ 62 }
-    ensures checksum { IsCheck result.tail.checksum }
-    ensures start { result.tail.op ≡ found.now.start.op → result.tail.checksum ≡ checksum.now }
-    ensures places { sessions.new.max ≡ sessions.old.max }
-    ensures unstored { AreUnstored sessions.old.sessions → AreUnstored sessions.new.sessions }
-    ensures numbered { AreNumbered sessions.old.sessions → AreNumbered sessions.new.sessions }
+    ensures bounds { IsWithin found.now.start.op layout.now.slots checksum.now result }
+    ensures sessions { KeepsRules sessions.old sessions.new }
 {
     let start = found.start;
     let first = start.op;

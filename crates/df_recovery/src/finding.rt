@@ -1,10 +1,12 @@
 // What an open finds behind a superblock, from what a scan saw of the slots and of the replies: the state, or the first
 // damage in the order of open.
 ghost use Rattle.std.specs.Prelude.{◌≡◌, ◌≤◌, ◌<◌, ◌+◌, ◌^◌, length, position, IfOk, IfErr};
-ghost use Rattle.df_recovery.specs.Below.{IsCheck, sessions_of, Tracks, CopyPlace, PreparePlace, ReplyPlace, Units, CountsAll, CountsBound, CountsReplies, entry, class_of, AreNumbered, AreUnstored, ShowsTable, ShowsReplies, AreAsked};
+ghost use Rattle.df_recovery.specs.Below.{CopyPlace, PreparePlace, ReplyPlace, Units, CountsAll, CountsBound, CountsReplies, entry, class_of, KeepsRules, ShowsTable, ShowsReplies};
 ghost use Rattle.df_journal.specs.Shows.{IsTable};
 ghost use Rattle.df_recovery.specs.Finding.{Answers, FileIsRead, IsDamage, KeptIsAnswer, RefusedIsAnswer, StateIsOpened, damage, lowest_of};
+ghost use Rattle.df_recovery.specs.Checkpoints.{AreOfCheckpoint};
 ghost use Rattle.df_recovery.specs.Starting.{start_of};
+ghost use Rattle.df_recovery.specs.Surveying.{AreAfter, EndsBehind};
 
 use crate::known::find_known;
 use crate::{Found, OpenError};
@@ -115,19 +117,10 @@ pub fn find_state(
     requires places { sessions.old.max ≡ layout.now.clients }
     ensures answer { Answers (record { layout = layout.now; found = found.now; slots = slots.now; replies = replies.now; sessions = sessions.old.sessions })
         result sessions.new.sessions }
-    ensures checksum { IfOk result (λ traces. IsCheck traces.tail.checksum) }
-    ensures start { IfOk result (λ traces. traces.tail.op ≡ found.now.content.op → traces.tail.checksum ≡ found.now.content.op_checksum) }
-    ensures ring { IfOk result (λ traces. (found.now.content.op ≤ traces.tail.op) × (traces.tail.op ≤ found.now.content.op + layout.now.slots)) }
-    ensures most { IfOk result (λ traces. traces.tail.op ≤ 2 ^ 62) }
-    ensures few { IfOk result (λ traces. traces.tail.op ≤ traces.replies + 8) }
-    ensures order { IfOk result (λ traces. traces.replies ≤ traces.tail.op) }
-    ensures asked { IfOk result (λ _. AreAsked (sessions_of sessions.old.sessions) → AreAsked (sessions_of sessions.new.sessions)) }
-    ensures tracks { IfOk result (λ traces. Tracks found.now.content.replies found.now.content.op (sessions_of sessions.old.sessions) → Tracks traces.replies traces.tail.op (sessions_of sessions.new.sessions)) }
-    ensures unspent { IfOk result (λ _. found.now.content.boot < 2 ^ 62) }
+    ensures tail { IfOk result (EndsBehind layout.now found.now.content) }
+    ensures after { IfOk result (λ traces. AreOfCheckpoint found.now.content sessions.old.sessions → AreAfter traces sessions.new.sessions) }
     ensures damage { IfErr result IsDamage }
-    ensures unstored { AreUnstored sessions.old.sessions → AreUnstored sessions.new.sessions }
-    ensures numbered { AreNumbered sessions.old.sessions → AreNumbered sessions.new.sessions }
-    ensures places { sessions.new.max ≡ sessions.old.max }
+    ensures rules { KeepsRules sessions.old sessions.new }
 {
     let content = found.content.fields();
     let seen = count_all(slots, replies, content.boot);

@@ -4,7 +4,7 @@ ghost use Rattle.df_format.specs.SuperRules.{IsUsable};
 ghost use Rattle.df_journal.specs.Known.{AllKnown};
 ghost use Rattle.df_journal.specs.Shows.{IsTable, TellsRings};
 ghost use Rattle.df_journal.specs.Tail.{IsReached};
-ghost use Rattle.df_recovery.specs.Below.{AreNumbered, AreUnstored, Checkpoint, IsCheck, Shape, Units, pin_checksum_of, pin_of};
+ghost use Rattle.df_recovery.specs.Below.{Checkpoint, IsWithin, KeepsRules, Shape, Units, pin_checksum_of, pin_of};
 ghost use Rattle.df_recovery.specs.Known.{BlamesKnown, IsBaseOf};
 ghost use Rattle.df_recovery.specs.Starting.{start_of};
 
@@ -52,15 +52,8 @@ fn find_fitting(
     ensures reach { IfOk result (λ reach. (sh : Shape) (image : Units) (b : Checkpoint) → TellsRings layout.now image slots.now → IsBaseOf sh b layout.now fields.now sessions.old.sessions → AllKnown sh image b.content → IsReached sh image b reach sessions.new.sessions) }
     ensures unfit { IfErr result (λ slot. (sh : Shape) (image : Units) (b : Checkpoint) → TellsRings layout.now image slots.now → IsBaseOf sh b layout.now fields.now sessions.old.sessions → AllKnown sh image b.content → BlamesKnown sh image b slot) }
     ensures slot { IfErr result (λ slot. slot < layout.now.slots) }
-    ensures from { IfOk result (λ reach. fields.now.op ≤ reach.tail.op) }
-    ensures order { IfOk result (λ reach. reach.tail.op ≤ reach.op) }
-    ensures within { IfOk result (λ reach. reach.op ≤ fields.now.op + layout.now.slots) }
-    ensures most { IfOk result (λ reach. reach.op ≤ 2 ^ 62) }
-    ensures checksum { IfOk result (λ reach. IsCheck reach.tail.checksum) }
-    ensures first { IfOk result (λ reach. reach.tail.op ≡ fields.now.op → reach.tail.checksum ≡ fields.now.op_checksum) }
-    ensures places { sessions.new.max ≡ sessions.old.max }
-    ensures unstored { AreUnstored sessions.old.sessions → AreUnstored sessions.new.sessions }
-    ensures numbered { AreNumbered sessions.old.sessions → AreNumbered sessions.new.sessions }
+    ensures bounds { IfOk result (IsWithin fields.now.op layout.now.slots fields.now.op_checksum) }
+    ensures sessions { KeepsRules sessions.old sessions.new }
 {
     let reach = find_reach(layout, slots, &fields.op_checksum, sessions);
     let pin = pin_of(fields);
@@ -88,15 +81,8 @@ pub(crate) fn find_known(
     ensures reach { IfOk result (λ reach. (sh : Shape) (image : Units) (b : Checkpoint) → TellsRings layout.now image slots.now → IsBaseOf sh b layout.now fields.now sessions.old.sessions → IsReached sh image b reach sessions.new.sessions) }
     ensures blames { IfErr result (λ slot. (sh : Shape) (image : Units) (b : Checkpoint) → TellsRings layout.now image slots.now → IsBaseOf sh b layout.now fields.now sessions.old.sessions → BlamesKnown sh image b slot) }
     ensures slot { IfErr result (λ slot. slot < layout.now.slots) }
-    ensures from { IfOk result (λ reach. fields.now.op ≤ reach.tail.op) }
-    ensures order { IfOk result (λ reach. reach.tail.op ≤ reach.op) }
-    ensures within { IfOk result (λ reach. reach.op ≤ fields.now.op + layout.now.slots) }
-    ensures most { IfOk result (λ reach. reach.op ≤ 2 ^ 62) }
-    ensures checksum { IfOk result (λ reach. IsCheck reach.tail.checksum) }
-    ensures first { IfOk result (λ reach. reach.tail.op ≡ fields.now.op → reach.tail.checksum ≡ fields.now.op_checksum) }
-    ensures places { sessions.new.max ≡ sessions.old.max }
-    ensures unstored { AreUnstored sessions.old.sessions → AreUnstored sessions.new.sessions }
-    ensures numbered { AreNumbered sessions.old.sessions → AreNumbered sessions.new.sessions }
+    ensures bounds { IfOk result (IsWithin fields.now.op layout.now.slots fields.now.op_checksum) }
+    ensures sessions { KeepsRules sessions.old sessions.new }
 {
     let named = pin_checksum_of(fields);
     match lacking_known(layout, slots, &named) {

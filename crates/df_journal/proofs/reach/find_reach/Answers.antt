@@ -104,3 +104,15 @@ returns-clause-reach c = λ sh image b tells starts known.
       stops = λ short. walk_stops c.args.layout.now c.args.found.now.start.cluster c.args.found.now.slots image c.requires.table tells.shows sh b c.args.found.now.start c.args.checksum.now c.args.sessions.now.sessions starts known c.loop-at.tail c.loop-at.sessions.sessions c.loop-at.at c.loop-at.ahead.sessions walk c.loop-at.invariant.within none short;
       reached = λ past. walk_reaches c.args.layout.now c.args.found.now.start.cluster c.args.found.now.slots image c.requires.table tells.shows sh b c.args.found.now.start c.args.checksum.now c.args.sessions.now.sessions starts known c.loop-at.tail c.loop-at.sessions.sessions c.loop-at.at c.loop-at.ahead.sessions walk c.loop-at.invariant.within none past;
     }
+
+pub returns-in-None-clause-bounds : goal.returns-in-None-clause-bounds
+returns-in-None-clause-bounds c = record { from = c.loop-at.invariant.from; order = c.loop-at.invariant.order; within = c.loop-at.invariant.within; most = c.loop-at.invariant.most; checksum = c.loop-at.invariant.checksum; start = c.loop-at.invariant.start }
+
+pub returns-in-None-clause-sessions : goal.returns-in-None-clause-sessions
+returns-in-None-clause-sessions c = record { places = c.loop-at.invariant.places; unstored = c.loop-at.invariant.unstored; numbered = c.loop-at.invariant.numbered }
+
+pub returns-clause-bounds : goal.returns-clause-bounds
+returns-clause-bounds c = record { from = c.loop-at.invariant.from; order = c.loop-at.invariant.order; within = c.loop-at.invariant.within; most = c.loop-at.invariant.most; checksum = c.loop-at.invariant.checksum; start = c.loop-at.invariant.start }
+
+pub returns-clause-sessions : goal.returns-clause-sessions
+returns-clause-sessions c = record { places = c.loop-at.invariant.places; unstored = c.loop-at.invariant.unstored; numbered = c.loop-at.invariant.numbered }

@@ -1,5 +1,5 @@
 -- Each step answers as the theory's step.
-use Rattle.std.proofs.Common.{◌<◌, ◌^◌, Bool, refl, sym, ◌∙◌, ap, subst}
+use Rattle.std.proofs.Common.{Bool, refl, sym, ◌∙◌, ap, subst, arith}
 use Rattle.std.specs.Bool.{OnFalse}
 use Rattle.df_layout.specs.declared.damage.Class.TheVariants.{Stale}
 use Rattle.df_format.specs.SuperRules.{IsSuper}
@@ -15,6 +15,7 @@ use Rattle.df_theory.specs.Opens.{LacksReply}
 use Rattle.df_theory.specs.Sessions.{Tracks}
 use Rattle.df_theory.specs.Units.{Content, CopyPlace, PreparePlace, ReplyPlace}
 use Rattle.df_recovery.specs.Finding.{lowest_of}
+use Rattle.df_recovery.specs.Surveying.{EndsBehind}
 use Rattle.df_recovery.proofs.FindingBounds.{any_base, any_is, any_shape, asked_on, boot_unspent, few_wait, image_of, not_above, shows_replies, shows_table, tracks_on}
 use Rattle.df_recovery.proofs.FindingSteps.{at_place, below_spent, boot_is, content_same, counts_bound, finds, is_base, opens_behind, opens_known, opens_lacking, opens_lost, opens_spent}
 use Rattle.df_recovery.proofs.finding.find_state.Goals as goal
@@ -89,49 +90,42 @@ returns-else-content-eq-GREATEST_BOOT-clause-answer c = λ sh image b is.
 
 -- ---- the bounds, of an image that shows what the tables say
 
-pub returns-else-content-eq-GREATEST_BOOT-clause-few : goal.returns-else-content-eq-GREATEST_BOOT-clause-few
-returns-else-content-eq-GREATEST_BOOT-clause-few c =
+pub returns-else-content-eq-GREATEST_BOOT-clause-tail : goal.returns-else-content-eq-GREATEST_BOOT-clause-tail
+returns-else-content-eq-GREATEST_BOOT-clause-tail c =
     let slots = c.args.slots.now.slots in
     let f = c.fields-content.result.now in
-    let image = image_of slots c.args.replies.now in
-    let found = c.in-Ok.ensures.reach (any_shape c.args.layout.now) image (any_base f c.args.sessions.now.sessions) (record { table = c.requires.table; shows = shows_table slots c.args.replies.now }) (any_is c.args.layout.now f c.args.sessions.now.sessions) in
-    let number = c.replies-stored.ensures image (any_base f c.args.sessions.now.sessions).content found.tail (shows_replies slots c.args.replies.now) refl refl (sym found.ends.mark) in
-    few_wait (any_shape c.args.layout.now) image f c.args.sessions.now.sessions c.find_known.new.sessions.sessions c.in-Ok.reach c.replies-stored.result (subst IsSuper (sym c.fields-content.ensures.value) c.fields-content.ensures.usable.rules) found number
-
-pub returns-else-content-eq-GREATEST_BOOT-clause-order : goal.returns-else-content-eq-GREATEST_BOOT-clause-order
-returns-else-content-eq-GREATEST_BOOT-clause-order c =
-    let slots = c.args.slots.now.slots in
-    let f = c.fields-content.result.now in
+    let super = subst IsSuper (sym c.fields-content.ensures.value) c.fields-content.ensures.usable.rules in
+    let shape = any_shape c.args.layout.now in
     let image = image_of slots c.args.replies.now in
     let table = shows_table slots c.args.replies.now in
     let shows = shows_replies slots c.args.replies.now in
-    let found = c.in-Ok.ensures.reach (any_shape c.args.layout.now) image (any_base f c.args.sessions.now.sessions) (record { table = c.requires.table; shows = table }) (any_is c.args.layout.now f c.args.sessions.now.sessions) in
+    let found = c.in-Ok.ensures.reach shape image (any_base f c.args.sessions.now.sessions) (record { table = c.requires.table; shows = table }) (any_is c.args.layout.now f c.args.sessions.now.sessions) in
     let number = c.replies-stored.ensures image (any_base f c.args.sessions.now.sessions).content found.tail shows refl refl (sym found.ends.mark) in
     let bound = c.bound_of-bound.ensures image table (c.count_all-seen.ensures.own image table shows) in
     let complete : IsComplete c.bound_of-bound.result f.head c.in-Ok.reach.tail.op = subst (λ (b : Bool). OnFalse b (IsComplete c.bound_of-bound.result f.head c.in-Ok.reach.tail.op)) c.if-is_lost.false c.is_lost.ensures.counters in
-    not_above (any_shape c.args.layout.now) image f c.args.sessions.now.sessions c.find_known.new.sessions.sessions c.in-Ok.reach c.replies-stored.result (subst IsSuper (sym c.fields-content.ensures.value) c.fields-content.ensures.usable.rules) found number c.bound_of-bound.result bound.replies complete
+    let bounds = c.in-Ok.ensures.bounds in
+    subst (λ (x : SuperFields). EndsBehind c.args.layout.now x (record { tail = c.in-Ok.reach.tail; replies = c.replies-stored.result })) c.fields-content.ensures.value (record {
+      checksum = bounds.checksum;
+      empty = bounds.start;
+      from = bounds.from;
+      within = omega (arith, bounds.order, bounds.within);
+      most = omega (arith, bounds.order, bounds.most);
+      order = not_above shape image f c.args.sessions.now.sessions c.find_known.new.sessions.sessions c.in-Ok.reach c.replies-stored.result super found number c.bound_of-bound.result bound.replies complete;
+      few = few_wait shape image f c.args.sessions.now.sessions c.find_known.new.sessions.sessions c.in-Ok.reach c.replies-stored.result super found number;
+      unspent = boot_unspent f super c.if-content-eq-GREATEST_BOOT.false;
+    })
 
-pub returns-else-content-eq-GREATEST_BOOT-clause-asked : goal.returns-else-content-eq-GREATEST_BOOT-clause-asked
-returns-else-content-eq-GREATEST_BOOT-clause-asked c =
+pub returns-else-content-eq-GREATEST_BOOT-clause-after : goal.returns-else-content-eq-GREATEST_BOOT-clause-after
+returns-else-content-eq-GREATEST_BOOT-clause-after c = λ were.
     let slots = c.args.slots.now.slots in
     let f = c.fields-content.result.now in
+    let super = subst IsSuper (sym c.fields-content.ensures.value) c.fields-content.ensures.usable.rules in
+    let shape = any_shape c.args.layout.now in
     let image = image_of slots c.args.replies.now in
-    let found = c.in-Ok.ensures.reach (any_shape c.args.layout.now) image (any_base f c.args.sessions.now.sessions) (record { table = c.requires.table; shows = shows_table slots c.args.replies.now }) (any_is c.args.layout.now f c.args.sessions.now.sessions) in
+    let found = c.in-Ok.ensures.reach shape image (any_base f c.args.sessions.now.sessions) (record { table = c.requires.table; shows = shows_table slots c.args.replies.now }) (any_is c.args.layout.now f c.args.sessions.now.sessions) in
     let number = c.replies-stored.ensures image (any_base f c.args.sessions.now.sessions).content found.tail (shows_replies slots c.args.replies.now) refl refl (sym found.ends.mark) in
-    asked_on (any_shape c.args.layout.now) image f c.args.sessions.now.sessions c.find_known.new.sessions.sessions c.in-Ok.reach c.replies-stored.result (subst IsSuper (sym c.fields-content.ensures.value) c.fields-content.ensures.usable.rules) found number
-
-pub returns-else-content-eq-GREATEST_BOOT-clause-tracks : goal.returns-else-content-eq-GREATEST_BOOT-clause-tracks
-returns-else-content-eq-GREATEST_BOOT-clause-tracks c =
-    let slots = c.args.slots.now.slots in
-    let f = c.fields-content.result.now in
-    let image = image_of slots c.args.replies.now in
-    let found = c.in-Ok.ensures.reach (any_shape c.args.layout.now) image (any_base f c.args.sessions.now.sessions) (record { table = c.requires.table; shows = shows_table slots c.args.replies.now }) (any_is c.args.layout.now f c.args.sessions.now.sessions) in
-    let number = c.replies-stored.ensures image (any_base f c.args.sessions.now.sessions).content found.tail (shows_replies slots c.args.replies.now) refl refl (sym found.ends.mark) in
-    subst (λ (x : SuperFields). Tracks x.replies x.op (sessions_of c.args.sessions.now.sessions) → Tracks c.replies-stored.result c.in-Ok.reach.tail.op (sessions_of c.find_known.new.sessions.sessions)) c.fields-content.ensures.value
-    (tracks_on (any_shape c.args.layout.now) image f c.args.sessions.now.sessions c.find_known.new.sessions.sessions c.in-Ok.reach c.replies-stored.result (subst IsSuper (sym c.fields-content.ensures.value) c.fields-content.ensures.usable.rules) found number)
-
--- the boot that was tested is that of the choice
-pub returns-else-content-eq-GREATEST_BOOT-clause-unspent : goal.returns-else-content-eq-GREATEST_BOOT-clause-unspent
-returns-else-content-eq-GREATEST_BOOT-clause-unspent c =
-    let f = c.fields-content.result.now in
-    subst (λ (x : SuperFields). x.boot < 2 ^ 62) c.fields-content.ensures.value (boot_unspent f (subst IsSuper (sym c.fields-content.ensures.value) c.fields-content.ensures.usable.rules) c.if-content-eq-GREATEST_BOOT.false)
+    record {
+      numbered = c.in-Ok.ensures.sessions.numbered were.numbered;
+      asked = asked_on shape image f c.args.sessions.now.sessions c.find_known.new.sessions.sessions c.in-Ok.reach c.replies-stored.result super found number were.asked;
+      tracks = tracks_on shape image f c.args.sessions.now.sessions c.find_known.new.sessions.sessions c.in-Ok.reach c.replies-stored.result super found number (subst (λ (x : SuperFields). Tracks x.replies x.op (sessions_of c.args.sessions.now.sessions)) (sym c.fields-content.ensures.value) were.tracks);
+    }
