@@ -1,7 +1,7 @@
 -- What the end of a mending says, and whom it blames.
 use Rattle.std.proofs.Common.{◌≡◌, ◌⊎◌, ◌==◌, inl, inr, ℕ, Bool, true, false, List, Option, None, Some, refl, sym, ◌∙◌, ap, subst, eqb-true}
 use Rattle.std.specs.Prelude.{Result, Ok, Err, if◌then◌else◌}
-use Rattle.df_base.specs.Causes.{Blamed, IsBlamed, Rose}
+use Rattle.df_base.specs.Causes.{Blamed, Rose}
 use Rattle.df_base.specs.Image.{Image}
 use Rattle.df_base.specs.Log.{Sync}
 use Rattle.df_disk.specs.Told.{Told, after, did}
@@ -16,7 +16,7 @@ use Rattle.df_opening.proofs.Laws.{superblock_refused}
 use Rattle.df_damage.specs.Found.{Syncs, TellsFoundAs}
 use Rattle.df_damage.specs.Opening.{HasSuperAs}
 use Rattle.df_telling.specs.Telling.{Blames, PrintsError}
-use Rattle.df_telling.specs.Two.{Faults, HasCauses, Outside}
+use Rattle.df_telling.specs.Two.{Faults, HasCauses, Outside, counts}
 use Rattle.df_telling.proofs.Laws.{first_causes, its_blame, neither_causes, no_blame, open_fault, printed_causes, refusal_ends, second_causes, text_ends, unopened_causes}
 use Rattle.df_mirror.specs.declared.ending.Ending.{Ending}
 use Rattle.df_mirror.specs.declared.ending.Ending.TheVariants.{First, Neither, Second, Sink, Unopened}
@@ -26,7 +26,7 @@ use Rattle.df_mirror.specs.Outside.{ended}
 use Rattle.df_mirror.specs.declared.superblock.Superblock.{Superblock}
 use Rattle.df_mirror.specs.Mends.{Answers, AreInOrder}
 use Rattle.df_mirror.specs.Run.{DidNothing, Mirrored, Mirrors, RefusesSuperblock, Tells}
-use Rattle.df_mirror.specs.Statuses.{is_first, is_second, is_sink}
+use Rattle.df_mirror.specs.Statuses.{AreBlamed, is_first}
 use Rattle.df_mirror.specs.Texts.{count_text, neither_text}
 use Rattle.df_mirror.specs.Walks.{content_of}
 
@@ -94,20 +94,20 @@ module _ (before now : Faults) (old new : Option (List ℕ)) (status : Status) w
   since_then mid is blame = subst (λ (n : ℕ). Blames ends.WriteFault n now.sink status) is blame
 
   -- a mending ended so; the sink's count in between is this
-  pub mended_causes : (mid : ℕ) (result : Result ℕ Ending) → IsBlamed is_first before.first now.first result → IsBlamed is_second before.second now.second result → IsBlamed is_sink before.sink mid result
+  pub mended_causes : (mid : ℕ) (result : Result ℕ Ending) → AreBlamed before (counts now.first now.second mid) result
       → ((result ≡ Err Sink → ⊥) → Blames ends.WriteFault mid now.sink status) → (result ≡ Err Sink → now.sink ≡ mid) → Tells result old new status → HasCauses ends.DiskFault ends.WriteFault before now status
-  mended_causes mid (Ok count) one two three blame failed tells =
-      printed_causes ends.DiskFault ends.WriteFault before now status (since_then mid three (blame (λ no. cc))) (λ no. cc) old new (count_text count) (ended count) (ended_not count ends.DiskFault (λ no. cc) (λ no. cc)) one two tells
-  mended_causes mid (Err (Neither place class)) one two three blame failed tells =
-      printed_causes ends.DiskFault ends.WriteFault before now status (since_then mid three (blame (λ no. cc))) (λ no. cc) old new (neither_text place class) ends.Refused (λ no. cc) one two tells
-  mended_causes mid (Err (Unopened e)) one two three blame failed tells =
-      unopened_causes ends.DiskFault ends.WriteFault before now status (since_then mid three (blame (λ no. cc))) (λ no. cc) old new ℕ e ends.Refused (λ no. cc) (subst (λ (b : Bool). Blamed b before.first now.first) (first_open e) one) two tells
-  mended_causes mid (Err First) one two three blame failed tells = first_causes ends.DiskFault ends.WriteFault before now status (since_then mid three (blame (λ no. cc))) tells.0 one two
-  mended_causes mid (Err Second) one two three blame failed tells = second_causes ends.DiskFault ends.WriteFault before now status (since_then mid three (blame (λ no. cc))) tells.0 one two
-  mended_causes mid (Err Sink) one two three blame failed tells =
+  mended_causes mid (Ok count) blamed blame failed tells =
+      printed_causes ends.DiskFault ends.WriteFault before now status (since_then mid blamed.2 (blame (λ no. cc))) (λ no. cc) old new (count_text count) (ended count) (ended_not count ends.DiskFault (λ no. cc) (λ no. cc)) blamed.0 blamed.1 tells
+  mended_causes mid (Err (Neither place class)) blamed blame failed tells =
+      printed_causes ends.DiskFault ends.WriteFault before now status (since_then mid blamed.2 (blame (λ no. cc))) (λ no. cc) old new (neither_text place class) ends.Refused (λ no. cc) blamed.0 blamed.1 tells
+  mended_causes mid (Err (Unopened e)) blamed blame failed tells =
+      unopened_causes ends.DiskFault ends.WriteFault before now status (since_then mid blamed.2 (blame (λ no. cc))) (λ no. cc) old new ℕ e ends.Refused (λ no. cc) (subst (λ (b : Bool). Blamed b before.first now.first) (first_open e) blamed.0) blamed.1 tells
+  mended_causes mid (Err First) blamed blame failed tells = first_causes ends.DiskFault ends.WriteFault before now status (since_then mid blamed.2 (blame (λ no. cc))) tells.0 blamed.0 blamed.1
+  mended_causes mid (Err Second) blamed blame failed tells = second_causes ends.DiskFault ends.WriteFault before now status (since_then mid blamed.2 (blame (λ no. cc))) tells.0 blamed.0 blamed.1
+  mended_causes mid (Err Sink) blamed blame failed tells =
       let is : status ≡ ends.WriteFault = tells.0 in
       let same : now.sink ≡ mid = failed refl in
-      neither_causes ends.DiskFault ends.WriteFault before now status (its_blame ends.WriteFault before.sink now.sink status is (subst (λ (n : ℕ). Rose before.sink n) (sym same) three.1)) one two (λ no. cc (is, no))
+      neither_causes ends.DiskFault ends.WriteFault before now status (its_blame ends.WriteFault before.sink now.sink status is (subst (λ (n : ℕ). Rose before.sink n) (sym same) blamed.2.1)) blamed.0 blamed.1 (λ no. cc (is, no))
 
 -- ---- the barrier
 

@@ -17,6 +17,7 @@ use Rattle.df_mirror.specs.declared.superblock.Superblock.{Superblock}
 use Rattle.df_mirror.specs.Known.{IsDue}
 use Rattle.df_mirror.specs.Mends.{Answers, AreAt, AreOfKind, Mend}
 use Rattle.df_mirror.specs.Outside.{Outside, Tell}
+use Rattle.df_mirror.specs.Statuses.{AreBlamed}
 use Rattle.df_mirror.specs.Taking.{HoldsShown, IsFor, MendsUnit, ShowsUnit, count_in}
 use Rattle.df_mirror.specs.Walks.{Mended, content_of, units_of}
 use Rattle.df_mirror.proofs.Joined.{answers_then, answers_with, kind_at, kinds_append, more, none_came, none_failed, told_is_whole}
@@ -136,10 +137,10 @@ module _ {b : Superblock} {kind : Kind} {old : Outside} {before : Faults} {X : T
     stops e next x t o tell is Says = ends_so (λ ms of. of) (turn (Err e) next x t o tell is)
 
     -- or goes on
-    pub goes_on : {new : Outside} {after : Faults} {back : Layout} {one later : ℕ} {After : X → Units → Type 0} → IsCalm mid new between after → back ≡ b.file.layout → a + one ≤ later
+    pub goes_on : {new : Outside} {after : Faults} {back : Layout} {one later : ℕ} {After : X → Units → Type 0} → new.second ≡ mid.second → AreBlamed between after (Ok one) → back ≡ b.file.layout → a + one ≤ later
         → ((x : X) (m o : Told) → Tell m o mid → Shows x (units_of b m.shown) → Mended b (AreOfKind kind) m o mid new (Ok one) (After x)) → Walked b kind old new before after back (a + one) later Begins After
-    goes_on {one = one} calm back few next = record {
-      calm = record { same = calm.same ∙ walked.calm.same; first = calm.first ∙ walked.calm.first; second = calm.second ∙ walked.calm.second; sink = calm.sink ∙ walked.calm.sink };
+    goes_on {one = one} same blamed back few next = record {
+      calm = record { same = same ∙ walked.calm.same; first = blamed.0 ∙ walked.calm.first; second = blamed.1 ∙ walked.calm.second; sink = blamed.2 ∙ walked.calm.sink };
       room_is = back;
       few = few;
       mends = turn (Ok one) next;

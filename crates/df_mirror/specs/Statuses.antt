@@ -1,5 +1,7 @@
 -- How a run ends: the numbers of the statuses, and what each ending blames.
-use Rattle.std.specs.Prelude.{◌≡◌, ℕ, Bool, true, false}
+use Rattle.std.specs.Prelude.{◌≡◌, ℕ, Bool, true, false, Result}
+use Rattle.df_base.specs.Causes.{IsBlamed}
+use Rattle.df_telling.specs.Two.{Faults}
 use Rattle.df_model.specs.declared.errors.OpenError.TheVariants.{DiskFault}
 use Rattle.df_mirror.specs.declared.ending.Ending.{Ending}
 use Rattle.df_mirror.specs.declared.ending.Ending.TheVariants.{First, Second, Sink, Unopened}
@@ -35,3 +37,7 @@ is_sink e = false
 -- neither the second file's disk nor the sink is blamed
 abbrev pub IsOfFirst : Ending → Type 0
 IsOfFirst e = (is_second e ≡ false) × (is_sink e ≡ false)
+
+-- each count of faults rose exactly where the answer blames what it counts, and is the same behind every other answer
+abbrev pub AreBlamed : {T : Type 0} → (before now : Faults) → Result T Ending → Type 0
+AreBlamed before now result = IsBlamed is_first before.first now.first result × IsBlamed is_second before.second now.second result × IsBlamed is_sink before.sink now.sink result

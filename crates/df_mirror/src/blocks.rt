@@ -1,12 +1,11 @@
 // The blocks that the trailer references, in order of address.
 ghost use Rattle.std.specs.Prelude.{◌≡◌, ◌+◌, ◌<◌, ◌≤◌, List, IfOk};
-ghost use Rattle.df_base.specs.Causes.{IsBlamed};
 ghost use Rattle.df_disk.specs.Told.{Told};
 ghost use Rattle.df_format.specs.declared.kind.Kind.TheVariants.{Block as AsBlock};
 ghost use Rattle.df_sessions.specs.declared.session.Session.{Session};
 ghost use Rattle.df_mirror.specs.Mends.{AreOfKind};
-ghost use Rattle.df_mirror.specs.Outside.{Tell, around};
-ghost use Rattle.df_mirror.specs.Statuses.{is_first, is_second, is_sink};
+ghost use Rattle.df_mirror.specs.Outside.{Tell, around, counts};
+ghost use Rattle.df_mirror.specs.Statuses.{AreBlamed};
 ghost use Rattle.df_mirror.specs.Taking.{count_in};
 ghost use Rattle.df_mirror.specs.Walks.{HasText, Mended, ShowsBlocks, units_of};
 
@@ -35,9 +34,7 @@ fn mend_at<A: Disk, B: Disk, W: Sink>(
         → Mended base.now (AreOfKind AsBlock) t o (around (A.told first.old) (B.told second.old) (W.written sink.old)) (around (A.told first.new) (B.told second.new) (W.written sink.new)) (count_in result) (λ image. ShowsBlocks base.now image grid.now sessions (before + 1)) }
     ensures back { IfOk result (λ done. (done.0.layout ≡ base.now.file.layout) × (done.1 ≤ 1)) }
     ensures same { B.told second.new ≡ B.told second.old }
-    ensures first { IsBlamed is_first (A.faults first.old) (A.faults first.new) result }
-    ensures second { IsBlamed is_second (B.faults second.old) (B.faults second.new) result }
-    ensures sink { IsBlamed is_sink (W.faults sink.old) (W.faults sink.new) result }
+    ensures blamed { AreBlamed (counts (A.faults first.old) (B.faults second.old) (W.faults sink.old)) (counts (A.faults first.new) (B.faults second.new) (W.faults sink.new)) result }
 {
     let address = before + 1;
     match grid.live(address) {
@@ -66,9 +63,7 @@ pub(crate) fn mend_blocks<A: Disk, B: Disk, W: Sink>(
         → Mended base.now (AreOfKind AsBlock) t o (around (A.told first.old) (B.told second.old) (W.written sink.old)) (around (A.told first.new) (B.told second.new) (W.written sink.new)) result (λ image. ShowsBlocks base.now image grid.now sessions base.now.file.layout.blocks) }
     ensures few { IfOk result (λ mended. mended ≤ base.now.file.layout.blocks) }
     ensures same { B.told second.new ≡ B.told second.old }
-    ensures first { IsBlamed is_first (A.faults first.old) (A.faults first.new) result }
-    ensures second { IsBlamed is_second (B.faults second.old) (B.faults second.new) result }
-    ensures sink { IsBlamed is_sink (W.faults sink.old) (W.faults sink.new) result }
+    ensures blamed { AreBlamed (counts (A.faults first.old) (B.faults second.old) (W.faults sink.old)) (counts (A.faults first.new) (B.faults second.new) (W.faults sink.new)) result }
 {
     let mut room = room;
     let mut mended = 0;

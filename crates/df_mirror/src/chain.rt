@@ -2,7 +2,6 @@
 ghost use Rattle.std.specs.Prelude.{◌≡◌, ◌==◌, ◌+◌, ◌-◌, ◌<◌, ◌≤◌, ℕ, length, IfNone, IfOk, IfSome};
 ghost use Rattle.std.specs.List.{list_any};
 ghost use Rattle.arrayvec.specs.ArrayVec.{array_vec_len};
-ghost use Rattle.df_base.specs.Causes.{IsBlamed};
 ghost use Rattle.df_disk.specs.Told.{Told};
 ghost use Rattle.df_format.specs.declared.kind.Kind.TheVariants.{Trailer as AsTrailer};
 ghost use Rattle.df_format.specs.Spelling.{IsCheck};
@@ -13,8 +12,8 @@ ghost use Rattle.df_theory.specs.Trailer.{IsCount, piece_size};
 ghost use Rattle.df_units.specs.Meaning.{block_of};
 ghost use Rattle.df_mirror.specs.Known.{AreShown};
 ghost use Rattle.df_mirror.specs.Mends.{AreOfKind};
-ghost use Rattle.df_mirror.specs.Outside.{Tell, around};
-ghost use Rattle.df_mirror.specs.Statuses.{is_first, is_second, is_sink};
+ghost use Rattle.df_mirror.specs.Outside.{Tell, around, counts};
+ghost use Rattle.df_mirror.specs.Statuses.{AreBlamed};
 ghost use Rattle.df_mirror.specs.Taking.{count_in};
 ghost use Rattle.df_mirror.specs.Walks.{GoesOn, HasWalked, IsInside, Mended, WalksTo, before_of, broken_at, content_of, units_of};
 
@@ -157,9 +156,7 @@ fn mend_link<A: Disk, B: Disk, W: Sink>(
     ensures inside { IfOk result (λ done. 0 < index → IsInside base.now done.0.at.address) }
     ensures more { IfOk result (λ done. (array_vec_len done.0.read ≡ array_vec_len walk.read + 1) × (done.0.room.layout ≡ base.now.file.layout) × (done.1 ≤ 1)) }
     ensures same { B.told second.new ≡ B.told second.old }
-    ensures first { IsBlamed is_first (A.faults first.old) (A.faults first.new) result }
-    ensures second { IsBlamed is_second (B.faults second.old) (B.faults second.new) result }
-    ensures sink { IsBlamed is_sink (W.faults sink.old) (W.faults sink.new) result }
+    ensures blamed { AreBlamed (counts (A.faults first.old) (B.faults second.old) (W.faults sink.old)) (counts (A.faults first.new) (B.faults second.new) (W.faults sink.new)) result }
 {
     let Walk { at, read, room } = walk;
     if is_among(&read, at.address) {
@@ -208,9 +205,7 @@ pub(crate) fn mend_chain<A: Disk, B: Disk, W: Sink>(
         → Mended base.now (AreOfKind AsTrailer) t o (around (A.told first.old) (B.told second.old) (W.written sink.old)) (around (A.told first.new) (B.told second.new) (W.written sink.new)) result (λ image. AreShown (shape base.now.file) image (content_of base.now) AsTrailer) }
     ensures few { IfOk result (λ mended. mended ≤ 70) }
     ensures same { B.told second.new ≡ B.told second.old }
-    ensures first { IsBlamed is_first (A.faults first.old) (A.faults first.new) result }
-    ensures second { IsBlamed is_second (B.faults second.old) (B.faults second.new) result }
-    ensures sink { IsBlamed is_sink (W.faults sink.old) (W.faults sink.new) result }
+    ensures blamed { AreBlamed (counts (A.faults first.old) (B.faults second.old) (W.faults sink.old)) (counts (A.faults first.new) (B.faults second.new) (W.faults sink.new)) result }
 {
     let fields = base.content.fields();
     let checksum = fields.trailer_checksum;

@@ -1,13 +1,12 @@
 // All known units, in their order: the trailer, what it references, the prepares, and the replies.
 ghost use Rattle.std.specs.Prelude.{◌≡◌, ◌≤◌, ◌+◌, ◌^◌, length, IfOk};
-ghost use Rattle.df_base.specs.Causes.{IsBlamed};
 ghost use Rattle.df_disk.specs.Told.{Told};
 ghost use Rattle.df_opening.specs.Below.{shape};
 ghost use Rattle.df_sessions.specs.Requests.{sessions_of};
 ghost use Rattle.df_mirror.specs.Known.{AllShown, ShowsTrailer};
 ghost use Rattle.df_mirror.specs.Mends.{AreInOrder, AreLate};
-ghost use Rattle.df_mirror.specs.Outside.{Tell, around};
-ghost use Rattle.df_mirror.specs.Statuses.{is_first, is_second, is_sink};
+ghost use Rattle.df_mirror.specs.Outside.{Tell, around, counts};
+ghost use Rattle.df_mirror.specs.Statuses.{AreBlamed};
 ghost use Rattle.df_mirror.specs.Walks.{Mended, ShowsLog, content_of, units_of};
 
 use crate::blocks::mend_blocks;
@@ -63,9 +62,7 @@ fn mend_log<A: Disk, B: Disk, W: Sink>(
         → Mended base.now AreLate t o (around (A.told first.old) (B.told second.old) (W.written sink.old)) (around (A.told first.new) (B.told second.new) (W.written sink.new)) result (ShowsLog base.now (units_of base.now t.shown)) }
     ensures few { IfOk result (λ mended. mended ≤ base.now.file.layout.slots + 64) }
     ensures same { B.told second.new ≡ B.told second.old }
-    ensures first { IsBlamed is_first (A.faults first.old) (A.faults first.new) result }
-    ensures second { IsBlamed is_second (B.faults second.old) (B.faults second.new) result }
-    ensures sink { IsBlamed is_sink (W.faults sink.old) (W.faults sink.new) result }
+    ensures blamed { AreBlamed (counts (A.faults first.old) (B.faults second.old) (W.faults sink.old)) (counts (A.faults first.new) (B.faults second.new) (W.faults sink.new)) result }
 {
     let LogRooms {
         layout,
@@ -111,9 +108,7 @@ pub(crate) fn mend_all<A: Disk, B: Disk, W: Sink>(
     ensures mends { (t o : Told) → Tell t o (around (A.told first.old) (B.told second.old) (W.written sink.old))
         → Mended base.now AreInOrder t o (around (A.told first.old) (B.told second.old) (W.written sink.old)) (around (A.told first.new) (B.told second.new) (W.written sink.new)) result (λ image. AllShown (shape base.now.file) image (content_of base.now)) }
     ensures same { B.told second.new ≡ B.told second.old }
-    ensures first { IsBlamed is_first (A.faults first.old) (A.faults first.new) result }
-    ensures second { IsBlamed is_second (B.faults second.old) (B.faults second.new) result }
-    ensures sink { IsBlamed is_sink (W.faults sink.old) (W.faults sink.new) result }
+    ensures blamed { AreBlamed (counts (A.faults first.old) (B.faults second.old) (W.faults sink.old)) (counts (A.faults first.new) (B.faults second.new) (W.faults sink.new)) result }
 {
     let Reserved {
         rooms,

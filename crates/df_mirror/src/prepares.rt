@@ -1,6 +1,5 @@
 // The prepares that the superblock names above its checkpoint, from its head down: each names the one before it.
 ghost use Rattle.std.specs.Prelude.{◌≡◌, ◌≤◌, ◌%◌, IfOk};
-ghost use Rattle.df_base.specs.Causes.{IsBlamed};
 ghost use Rattle.df_disk.specs.Told.{Told};
 ghost use Rattle.df_format.specs.declared.kind.Kind.TheVariants.{Prepare as AsPrepare};
 ghost use Rattle.df_format.specs.Spelling.{IsCheck};
@@ -9,8 +8,8 @@ ghost use Rattle.df_layout.specs.Spans.{HasPlace};
 ghost use Rattle.df_theory.specs.Units.{PreparePlace};
 ghost use Rattle.df_units.specs.Meaning.{place_of};
 ghost use Rattle.df_mirror.specs.Mends.{AreOfKind};
-ghost use Rattle.df_mirror.specs.Outside.{Tell, around};
-ghost use Rattle.df_mirror.specs.Statuses.{is_first, is_second, is_sink};
+ghost use Rattle.df_mirror.specs.Outside.{Tell, around, counts};
+ghost use Rattle.df_mirror.specs.Statuses.{AreBlamed};
 ghost use Rattle.df_mirror.specs.Taking.{count_in};
 ghost use Rattle.df_mirror.specs.Walks.{Mended, ShowsNamed};
 
@@ -53,9 +52,7 @@ pub(crate) fn mend_prepares<A: Disk, B: Disk, W: Sink>(
         → Mended base.now (AreOfKind AsPrepare) t o (around (A.told first.old) (B.told second.old) (W.written sink.old)) (around (A.told first.new) (B.told second.new) (W.written sink.new)) (count_in result) (ShowsNamed base.now) }
     ensures back { IfOk result (λ done. (done.0.layout ≡ base.now.file.layout) × (done.1 ≤ base.now.file.layout.slots)) }
     ensures same { B.told second.new ≡ B.told second.old }
-    ensures first { IsBlamed is_first (A.faults first.old) (A.faults first.new) result }
-    ensures second { IsBlamed is_second (B.faults second.old) (B.faults second.new) result }
-    ensures sink { IsBlamed is_sink (W.faults sink.old) (W.faults sink.new) result }
+    ensures blamed { AreBlamed (counts (A.faults first.old) (B.faults second.old) (W.faults sink.old)) (counts (A.faults first.new) (B.faults second.new) (W.faults sink.new)) result }
 {
     let fields = base.content.fields();
     let mut room = room;

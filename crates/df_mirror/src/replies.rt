@@ -1,6 +1,5 @@
 // The replies that the superblock records, of the sessions at its head, in order of place.
 ghost use Rattle.std.specs.Prelude.{◌≡◌, ◌+◌, ◌<◌, ◌≤◌, length, slice_get, Some, IfOk, IsFalse, IsTrue};
-ghost use Rattle.df_base.specs.Causes.{IsBlamed};
 ghost use Rattle.df_disk.specs.Told.{Told};
 ghost use Rattle.df_format.specs.declared.kind.Kind.TheVariants.{Reply as AsReply};
 ghost use Rattle.df_format.specs.Spelling.{IsCheck};
@@ -10,8 +9,8 @@ ghost use Rattle.df_theory.specs.Units.{ReplyPlace};
 ghost use Rattle.df_units.specs.Meaning.{place_of};
 ghost use Rattle.df_mirror.specs.Known.{AreShown};
 ghost use Rattle.df_mirror.specs.Mends.{AreOfKind};
-ghost use Rattle.df_mirror.specs.Outside.{Tell, around};
-ghost use Rattle.df_mirror.specs.Statuses.{is_first, is_second, is_sink};
+ghost use Rattle.df_mirror.specs.Outside.{Tell, around, counts};
+ghost use Rattle.df_mirror.specs.Statuses.{AreBlamed};
 ghost use Rattle.df_mirror.specs.Taking.{count_in};
 ghost use Rattle.df_mirror.specs.Walks.{HasHead, IsNewer, Mended, MendsRecorded, ShowsReplies, content_of, units_of};
 
@@ -80,9 +79,7 @@ fn mend_recorded<A: Disk, B: Disk, W: Sink>(
     ensures mends { (t o : Told) → Tell t o (around (A.told first.old) (B.told second.old) (W.written sink.old)) → MendsRecorded base.now place checksum t o (around (A.told first.old) (B.told second.old) (W.written sink.old)) (around (A.told first.new) (B.told second.new) (W.written sink.new)) (count_in result) }
     ensures back { IfOk result (λ done. (done.0.layout ≡ base.now.file.layout) × (done.1 ≤ 1)) }
     ensures same { B.told second.new ≡ B.told second.old }
-    ensures first { IsBlamed is_first (A.faults first.old) (A.faults first.new) result }
-    ensures second { IsBlamed is_second (B.faults second.old) (B.faults second.new) result }
-    ensures sink { IsBlamed is_sink (W.faults sink.old) (W.faults sink.new) result }
+    ensures blamed { AreBlamed (counts (A.faults first.old) (B.faults second.old) (W.faults sink.old)) (counts (A.faults first.new) (B.faults second.new) (W.faults sink.new)) result }
 {
     let wanted = reply_at(base, place, checksum);
     let (room, seen) = scan_place(
@@ -125,9 +122,7 @@ fn mend_reply<A: Disk, B: Disk, W: Sink>(
         → Mended base.now (AreOfKind AsReply) t o (around (A.told first.old) (B.told second.old) (W.written sink.old)) (around (A.told first.new) (B.told second.new) (W.written sink.new)) (count_in result) (λ image. ShowsReplies base.now image slots.now sessions.now (place + 1)) }
     ensures back { IfOk result (λ done. (done.0.layout ≡ base.now.file.layout) × (done.1 ≤ 1)) }
     ensures same { B.told second.new ≡ B.told second.old }
-    ensures first { IsBlamed is_first (A.faults first.old) (A.faults first.new) result }
-    ensures second { IsBlamed is_second (B.faults second.old) (B.faults second.new) result }
-    ensures sink { IsBlamed is_sink (W.faults sink.old) (W.faults sink.new) result }
+    ensures blamed { AreBlamed (counts (A.faults first.old) (B.faults second.old) (W.faults sink.old)) (counts (A.faults first.new) (B.faults second.new) (W.faults sink.new)) result }
 {
     let checksum = recorded_at(base, place);
     if checksum == [0; 16] {
@@ -162,9 +157,7 @@ pub(crate) fn mend_replies<A: Disk, B: Disk, W: Sink>(
         → Mended base.now (AreOfKind AsReply) t o (around (A.told first.old) (B.told second.old) (W.written sink.old)) (around (A.told first.new) (B.told second.new) (W.written sink.new)) result (λ image. AreShown (shape base.now.file) image (content_of base.now) AsReply) }
     ensures few { IfOk result (λ mended. mended ≤ 64) }
     ensures same { B.told second.new ≡ B.told second.old }
-    ensures first { IsBlamed is_first (A.faults first.old) (A.faults first.new) result }
-    ensures second { IsBlamed is_second (B.faults second.old) (B.faults second.new) result }
-    ensures sink { IsBlamed is_sink (W.faults sink.old) (W.faults sink.new) result }
+    ensures blamed { AreBlamed (counts (A.faults first.old) (B.faults second.old) (W.faults sink.old)) (counts (A.faults first.new) (B.faults second.new) (W.faults sink.new)) result }
 {
     let mut room = room;
     let mut mended = 0;

@@ -4,8 +4,8 @@ ghost use Rattle.df_base.specs.Causes.{HasCause, IsBlamed};
 ghost use Rattle.df_format.specs.Valid.{IsUnit};
 ghost use Rattle.df_layout.specs.Spans.{HasPlace};
 ghost use Rattle.df_places.specs.Shelves.{IsFound};
-ghost use Rattle.df_mirror.specs.Outside.{around};
-ghost use Rattle.df_mirror.specs.Statuses.{is_first, is_second, is_sink};
+ghost use Rattle.df_mirror.specs.Outside.{around, counts};
+ghost use Rattle.df_mirror.specs.Statuses.{AreBlamed, is_first, is_sink};
 ghost use Rattle.df_mirror.specs.Taking.{HoldsShown, Loads, MendsUnit, PutsUnit, TakesUnit, WritesUnit, count_in};
 
 use crate::ending::Ending;
@@ -78,9 +78,7 @@ fn take_unit<A: Disk, B: Disk, W: Sink, K: UnitKind>(
         (around (A.told first.old) (B.told second.old) (W.written sink.old))
         (around (A.told first.new) (B.told second.new) (W.written sink.new)) result }
     ensures same { B.told second.new ≡ B.told second.old }
-    ensures first { IsBlamed is_first (A.faults first.old) (A.faults first.new) result }
-    ensures second { IsBlamed is_second (B.faults second.old) (B.faults second.new) result }
-    ensures sink { IsBlamed is_sink (W.faults sink.old) (W.faults sink.new) result }
+    ensures blamed { AreBlamed (counts (A.faults first.old) (B.faults second.old) (W.faults sink.old)) (counts (A.faults first.new) (B.faults second.new) (W.faults sink.new)) result }
 {
     match load(second, room, identity) {
         Ok(Ok(unit)) => write_mended(first, sink, identity, unit),
@@ -110,9 +108,7 @@ pub(crate) fn mend_unit<A: Disk, B: Disk, W: Sink, K: UnitKind>(
         (around (A.told first.old) (B.told second.old) (W.written sink.old))
         (around (A.told first.new) (B.told second.new) (W.written sink.new)) (count_in result) }
     ensures same { B.told second.new ≡ B.told second.old }
-    ensures first { IsBlamed is_first (A.faults first.old) (A.faults first.new) result }
-    ensures second { IsBlamed is_second (B.faults second.old) (B.faults second.new) result }
-    ensures sink { IsBlamed is_sink (W.faults sink.old) (W.faults sink.new) result }
+    ensures blamed { AreBlamed (counts (A.faults first.old) (B.faults second.old) (W.faults sink.old)) (counts (A.faults first.new) (B.faults second.new) (W.faults sink.new)) result }
 {
     match load(first, room, identity) {
         Ok(Ok(unit)) => Ok((unit, 0)),

@@ -14,7 +14,7 @@ returns-in-Err-clause-mends g c = λ ss t o tell has. stops c.loop-before.invari
 pub loop-before-preserved : goal.loop-before-preserved
 loop-before-preserved g c =
     let did = c.in-Ok.ensures in
-    goes_on c.loop-before.invariant (record { same = did.same; first = did.first; second = did.second; sink = did.sink }) did.back.0 (omega (arith, c.loop-before.invariant.few, did.back.1)) did.mends
+    goes_on c.loop-before.invariant did.same did.blamed did.back.0 (omega (arith, c.loop-before.invariant.few, did.back.1)) did.mends
 
 pub returns-clause-mends : goal.returns-clause-mends
 returns-clause-mends g c =

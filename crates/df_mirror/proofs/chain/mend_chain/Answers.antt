@@ -30,7 +30,7 @@ loop-done-preserved g c =
     let i = c.loop-done.invariant in
     let did = c.in-Ok.ensures in
     record {
-      walked = goes_on i.walked (record { same = did.same; first = did.first; second = did.second; sink = did.sink }) did.more.1 (omega (arith, i.walked.few, did.more.2))
+      walked = goes_on i.walked did.same did.blamed did.more.1 (omega (arith, i.walked.few, did.more.2))
           (λ x m o on walked. did.mends m o c.block_count-count.result on i.counted (omega (arith, i.size, c.loop-done-test.true)) walked);
       few = i.few;
       size = omega (arith, i.size, did.more.0);

@@ -25,7 +25,7 @@ pub returns-in-Ok-clause-causes : goal.returns-in-Ok-clause-causes
 returns-in-Ok-clause-causes g c =
     mended_causes (counts (g.A.Disk.faults c.args.first.now) (g.B.Disk.faults c.args.second.now) (g.W.Sink.faults c.args.sink.now))
     (counts (g.A.Disk.faults c.mend_all-mended.new.first) (g.B.Disk.faults c.mend_all-mended.new.second) (g.W.Sink.faults c.tell.new.sink)) (g.W.Sink.written c.mend_all-mended.new.sink) (g.W.Sink.written c.tell.new.sink) c.tell.result
-    (g.W.Sink.faults c.mend_all-mended.new.sink) c.mend_all-mended.result c.mend_all-mended.ensures.first c.mend_all-mended.ensures.second c.mend_all-mended.ensures.sink c.tell.ensures.sink c.tell.ensures.failed c.tell.ensures.tells
+    (g.W.Sink.faults c.mend_all-mended.new.sink) c.mend_all-mended.result c.mend_all-mended.ensures.blamed c.tell.ensures.sink c.tell.ensures.failed c.tell.ensures.tells
 
 pub returns-in-Ok-clause-memory : goal.returns-in-Ok-clause-memory
 returns-in-Ok-clause-memory g c = λ is. absurd ((tells_otherwise c.mend_all-mended.result (g.W.Sink.written c.mend_all-mended.new.sink) (g.W.Sink.written c.tell.new.sink) c.tell.result c.tell.ensures.tells).0 is)

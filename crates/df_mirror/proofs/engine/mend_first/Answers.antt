@@ -1,5 +1,5 @@
 -- The superblock is found behind the barrier, or it isn't.
-use Rattle.std.proofs.Common.{◌≡◌, ◌∙◌, ℕ, inl, inr, Option, Some, Ok, ap, refl, subst}
+use Rattle.std.proofs.Common.{◌∙◌, ℕ, inl, inr, Option, Ok, ap, refl, subst}
 use Rattle.df_base.specs.Log.{Sync}
 use Rattle.df_disk.specs.Told.{Told, after, did}
 use Rattle.df_damage.specs.Found.{TellsFoundAs}

@@ -41,7 +41,7 @@ loop-op-preserved g c =
     record {
       low = omega arith;
       high = omega (arith, now.invariant.high);
-      walked = goes_on now.invariant.walked (record { same = did.same; first = did.first; second = did.second; sink = did.sink })
+      walked = goes_on now.invariant.walked did.same did.blamed
           (ap (λ (r : Room). r.layout) c.loosen-room.ensures ∙ did.unit.0 ∙ ap (λ (i : Identity). i.layout) c.prepare_at.ensures.identity) (omega (arith, now.invariant.walked.few, now.invariant.high, did.unit.2))
           (λ x m o on from. prepare_mended c.args.base.now c.fields-fields.ensures.usable now.op now.named above c.prepare_at.result (record { is = c.prepare_at.ensures.identity; stands = tt; fits = c.prepare_at.ensures.check }) m o _ _ on from
           c.in-Ok.unit c.in-Ok.more did.mends did.shown c.header.result.now c.header.ensures.header);

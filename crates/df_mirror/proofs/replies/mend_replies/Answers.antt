@@ -18,7 +18,7 @@ returns-in-Err-clause-mends g c = λ t o tell head. stops c.loop-place.invariant
 pub loop-place-preserved : goal.loop-place-preserved
 loop-place-preserved g c =
     let did = c.in-Ok.ensures in
-    goes_on c.loop-place.invariant (record { same = did.same; first = did.first; second = did.second; sink = did.sink }) did.back.0 (omega (arith, c.loop-place.invariant.few, did.back.1)) (λ x. did.mends)
+    goes_on c.loop-place.invariant did.same did.blamed did.back.0 (omega (arith, c.loop-place.invariant.few, did.back.1)) (λ x. did.mends)
 
 pub returns-clause-mends : goal.returns-clause-mends
 returns-clause-mends g c =
