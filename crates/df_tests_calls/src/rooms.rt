@@ -47,7 +47,10 @@ fn rooms_serve_one_open_after_another(rt: HostRuntime) -> Result<(), Fail> {
     let Ok(replica) = open_in(&mut disk, surveyed.close()) else {
         return Err("the file isn't opened".into());
     };
-    assert_eq!(rt; (replica.summary().sequence, replica.summary().head), (1, 0));
+    assert_eq!(rt;
+        (replica.summary().sequence, replica.summary().head),
+        (1, 0)
+    );
     assert_eq!(rt; replica.close().layout(), small);
     Ok(())
 }
