@@ -30,7 +30,7 @@ use Rattle.df_mirror.specs.declared.ending.Ending.TheVariants.{First, Neither, S
 use Rattle.df_mirror.specs.Known.{IsDue, IsKnown, IsShownAs}
 use Rattle.df_mirror.specs.Mends.{Answers, AreAt, Came, Failed, IsMend, IsNeither, Mend, units_in}
 use Rattle.df_mirror.specs.Outside.{Outside}
-use Rattle.df_mirror.specs.Taking.{IsFor, LacksIt, PutsUnit, ShowsIt, ShowsUnit, Takes, TakesUnit, WritesUnit}
+use Rattle.df_mirror.specs.Taking.{IsFilled, IsFor, LacksIt, PutsUnit, ShowsIt, ShowsUnit, Takes, TakesUnit, WritesUnit}
 use Rattle.df_mirror.specs.Texts.{mended_text}
 use Rattle.df_mirror.proofs.Joined.{none_came, none_failed}
 use Rattle.df_mirror.proofs.Loaded.{IsUnitOf, class_is, found_unit, lacks_unit, shows_unit}
@@ -38,20 +38,20 @@ use Rattle.df_mirror.proofs.Loaded.{IsUnitOf, class_is, found_unit, lacks_unit, 
 -- ---- one
 
 -- what was written of the second file's unit
-pub takes_all : (kind : Kind) (identity : Identity) (class : Class) (old new : Outside) (held : Holding) (result : Result Holding Ending) → IsFound kind identity held.unit → ShowsIt identity old.second held.unit → PutsUnit identity.layout identity.place held
+pub takes_all : (kind : Kind) (identity : Identity) (class : Class) (old new : Outside) (held : Holding) (result : Result Holding Ending) → IsFound kind identity held.unit → ShowsIt identity old.second held.unit → PutsUnit identity.layout identity.place held → IsFilled held
     → WritesUnit identity.layout identity.place held old.first new.first old.written new.written result → IfOk result (λ back. back ≡ held) → TakesUnit kind identity class old new result
-takes_all kind identity class old new held (Ok back) found shown puts writes same =
-    subst (λ (h : Holding). Takes kind identity old new h (Ok tt)) (sym same) (record { found = found; shown = shown; puts = puts; writes = writes })
-takes_all kind identity class old new held (Err First) found shown puts writes same = (held, record { found = found; shown = shown; puts = puts; writes = writes })
-takes_all kind identity class old new held (Err Sink) found shown puts writes same = (held, record { found = found; shown = shown; puts = puts; writes = writes })
-takes_all kind identity class old new held (Err Second) found shown puts writes same = absurd writes
-takes_all kind identity class old new held (Err (Unopened e)) found shown puts writes same = absurd writes
-takes_all kind identity class old new held (Err (Neither place other)) found shown puts writes same = absurd writes
+takes_all kind identity class old new held (Ok back) found shown puts filled writes same =
+    subst (λ (h : Holding). Takes kind identity old new h (Ok tt)) (sym same) (record { found = found; shown = shown; puts = puts; filled = filled; writes = writes })
+takes_all kind identity class old new held (Err First) found shown puts filled writes same = (held, record { found = found; shown = shown; puts = puts; filled = filled; writes = writes })
+takes_all kind identity class old new held (Err Sink) found shown puts filled writes same = (held, record { found = found; shown = shown; puts = puts; filled = filled; writes = writes })
+takes_all kind identity class old new held (Err Second) found shown puts filled writes same = absurd writes
+takes_all kind identity class old new held (Err (Unopened e)) found shown puts filled writes same = absurd writes
+takes_all kind identity class old new held (Err (Neither place other)) found shown puts filled writes same = absurd writes
 
 abbrev bytes_of : Holding → List ℕ
 bytes_of held = take (sectors_end held.unit.header.size) held.bytes
 
-module _ (file : DataFile) (kind : Kind) (at : Place) (check : List ℕ) (identity : Identity) (for : IsFor file kind at check identity) (held : Holding) (found : IsFound kind identity held.unit) (puts : PutsUnit identity.layout identity.place held) where
+module _ (file : DataFile) (kind : Kind) (at : Place) (check : List ℕ) (identity : Identity) (for : IsFor file kind at check identity) (held : Holding) (found : IsFound kind identity held.unit) (puts : PutsUnit identity.layout identity.place held) (filled : IsFilled held) where
   there : IsUnitOf kind at check held.unit
   there = found_unit file kind at check identity for held.unit found
 
@@ -94,6 +94,7 @@ module _ (file : DataFile) (kind : Kind) (at : Place) (check : List ℕ) (identi
           of_kind = there.of_kind;
           from = from.shown ∙ sym from.unit_is ∙ there.unit_is;
           puts = put;
+          filled = (held.unit, there.unit_is, filled);
         }
 
     pub one_mended : (new : Option Told) (old text : Option (List ℕ)) → WritesUnit identity.layout identity.place held (Some t) new old text {T = Unit {0}} (Ok tt) → Came file c (AreAt kind at) t o new old text (λ ms n. 1 ≡ length ms)
@@ -151,9 +152,9 @@ module _ (file : DataFile) (c : Content) (kind : Kind) (at : Place) (check : Lis
 
   pub taken : (class : Class) (old : Option (List ℕ)) (new : Outside) (result : Result Holding Ending) → IsImage o.shown → LacksIt kind identity (Some t) class → TakesUnit kind identity class (From old) new result
       → Answers file c (AreAt kind at) t o new.first old new.written (one_in result)
-  taken class old new (Ok held) whole first takes = one_mended file kind at check identity for held takes.found takes.puts c t o takes.shown due lacks new.first old new.written takes.writes
-  taken class old new (Err First) whole first takes = let h = takes.0 in let by = takes.1 in one_unwritten file kind at check identity for h by.found by.puts c t o by.shown due lacks new.first old new.written by.writes
-  taken class old new (Err Sink) whole first takes = let h = takes.0 in let by = takes.1 in one_unprinted file kind at check identity for h by.found by.puts c t o by.shown due lacks new.first old new.written by.writes
+  taken class old new (Ok held) whole first takes = one_mended file kind at check identity for held takes.found takes.puts takes.filled c t o takes.shown due lacks new.first old new.written takes.writes
+  taken class old new (Err First) whole first takes = let h = takes.0 in let by = takes.1 in one_unwritten file kind at check identity for h by.found by.puts by.filled c t o by.shown due lacks new.first old new.written by.writes
+  taken class old new (Err Sink) whole first takes = let h = takes.0 in let by = takes.1 in one_unprinted file kind at check identity for h by.found by.puts by.filled c t o by.shown due lacks new.first old new.written by.writes
   taken class old new (Err Second) whole first takes = none_failed file c (AreAt kind at) tt t o new.first old new.written takes.0 takes.1
   taken class old new (Err (Unopened e)) whole first takes = absurd takes
   taken class old new (Err (Neither place other)) whole first takes =

@@ -1,5 +1,5 @@
 -- Units that are mended one after the other, what that writes and prints, and how it ends.
-use Rattle.std.specs.Prelude.{◌≡◌, ◌≤◌, ℕ, List, [], ◌∷◌, ◌++◌, length, Option, Some, Result, Ok, Err}
+use Rattle.std.specs.Prelude.{◌≡◌, ◌≤◌, ◌-◌, ℕ, List, [], ◌∷◌, ◌++◌, drop, length, replicate, Option, Some, Result, Ok, Err}
 use Rattle.df_base.specs.Image.{Image}
 use Rattle.df_base.specs.Log.{Event, Sync, Write}
 use Rattle.df_base.specs.Streams.{Appends, AppendsPart}
@@ -7,6 +7,7 @@ use Rattle.df_disk.specs.Adds.{AddsPart}
 use Rattle.df_disk.specs.Told.{Told}
 use Rattle.df_format.specs.declared.kind.Kind.{Kind}
 use Rattle.df_format.specs.declared.kind.Kind.TheVariants.{Block as AsBlock, Prepare, Reply, Reserved, Trailer}
+use Rattle.df_format.specs.Message.{Message}
 use Rattle.df_layout.specs.declared.damage.Class.{Class}
 use Rattle.df_layout.specs.declared.places.Place.{Place as FilePlace}
 use Rattle.df_theory.specs.Device.{IsPut}
@@ -14,7 +15,7 @@ use Rattle.df_theory.specs.UnitLog.{put_one}
 use Rattle.df_theory.specs.Units.{AnyUnit, Content, Place, Units}
 use Rattle.df_units.specs.Bytes.{first_at, unit_at}
 use Rattle.df_units.specs.Format.{format_of}
-use Rattle.df_units.specs.Meaning.{place_of}
+use Rattle.df_units.specs.Meaning.{place_of, unit_of}
 use Rattle.df_units.specs.Wanted.{IsOfKind, checksum_of, class_at}
 use Rattle.df_damage.specs.Anew.{told_after}
 use Rattle.df_opening.specs.Below.{DataFile, shape}
@@ -37,7 +38,11 @@ pub record Mend : Type 0 where
   pub unit : AnyUnit
   pub bytes : List ℕ
 
--- it is known and not shown, no known unit that is shown stands at its place, the second file shows it there, and its sectors bring it and touch no other place
+-- behind so many bytes there are zeros
+abbrev pub EndsInZeros : ℕ → List ℕ → Type 0
+EndsInZeros size bytes = drop size bytes ≡ replicate (length bytes - size) 0
+
+-- it is known and not shown, no known unit that is shown stands at its place, the second file shows it there, its sectors bring it and touch no other place, and hold zeros behind it
 pub record IsMend (file : DataFile) (c : Content) (shown second : Image) (m : Mend) : Type 0 where
   pub known : IsKnown (shape file) (units_in file shown) c m.kind m.place (checksum_of m.unit)
   pub lacks : IsShownAs (units_in file shown) m.kind m.place (checksum_of m.unit) → ⊥
@@ -45,6 +50,7 @@ pub record IsMend (file : DataFile) (c : Content) (shown second : Image) (m : Me
   pub of_kind : IsOfKind m.kind m.unit
   pub from : units_in file second m.place ≡ Some m.unit
   pub puts : IsPut (format_of file.layout file.cluster) (first_at file.layout m.place) m.bytes (put_one m.place m.unit)
+  pub filled : (u : Message) × (unit_of m.place u ≡ Some m.unit) × EndsInZeros u.header.size m.bytes
 
 -- ---- all of them
 

@@ -1,11 +1,11 @@
 -- What it does to mend one unit, by what a room holds of each file.
-use Rattle.std.specs.Prelude.{◌≡◌, ℕ, List, Option, Some, None, Result, Ok, Err}
+use Rattle.std.specs.Prelude.{◌≡◌, ℕ, List, take, Option, Some, None, Result, Ok, Err}
 use Rattle.df_base.specs.Image.{Image, IsImage}
 use Rattle.df_base.specs.Streams.{Appends, AppendsPart}
 use Rattle.df_disk.specs.Adds.{AddsPart, after_all}
 use Rattle.df_disk.specs.Told.{Told}
 use Rattle.df_format.specs.declared.kind.Kind.{Kind}
-use Rattle.df_format.specs.Message.{Message}
+use Rattle.df_format.specs.Message.{Message, sectors_end}
 use Rattle.df_format.specs.Shown.{class_at}
 use Rattle.df_format.specs.Spelling.{IsCheck}
 use Rattle.df_layout.specs.declared.damage.Class.{Class}
@@ -24,7 +24,7 @@ use Rattle.df_units.specs.Meaning.{number_of, place_of, unit_of}
 use Rattle.df_units.specs.Wanted.{IsOfKind, checksum_of}
 use Rattle.df_opening.specs.Below.{DataFile, shape}
 use Rattle.df_mirror.specs.Known.{IsDue}
-use Rattle.df_mirror.specs.Mends.{Answers, AreAt, units_in}
+use Rattle.df_mirror.specs.Mends.{Answers, AreAt, EndsInZeros, units_in}
 use Rattle.df_mirror.specs.Outside.{Outside, Tell}
 use Rattle.df_mirror.specs.Texts.{mended_text}
 use Rattle.df_mirror.specs.declared.ending.Ending.{Ending}
@@ -60,6 +60,10 @@ WritesUnit layout place held told new old text (Err e) = ⊥
 abbrev pub PutsUnit : Layout → FilePlace → Holding → Type 0
 PutsUnit layout place held = (at : Place) (x : AnyUnit) → place_of at ≡ place → unit_of at held.unit ≡ Some x → AreSteps (format_of layout held.unit.header.cluster) (unit_events layout place held) (unit_steps at x)
 
+-- what is written of it holds zeros behind the unit
+abbrev pub IsFilled : Holding → Type 0
+IsFilled held = EndsInZeros held.unit.header.size (take (sectors_end held.unit.header.size) held.bytes)
+
 -- nothing is written or printed
 abbrev pub IsSame : Outside → Outside → Type 0
 IsSame old new = (new.first ≡ old.first) × (new.written ≡ old.written)
@@ -69,6 +73,7 @@ pub record Takes (kind : Kind) (identity : Identity) (old new : Outside) (held :
   pub found : IsFound kind identity held.unit
   pub shown : ShowsIt identity old.second held.unit
   pub puts : PutsUnit identity.layout identity.place held
+  pub filled : IsFilled held
   pub writes : WritesUnit identity.layout identity.place held old.first new.first old.written new.written result
 
 -- or it doesn't show it

@@ -1,12 +1,13 @@
 // One known unit: the first file's place is proved for its checksum, and where it isn't shown the second file's is; what the second shows is written into the first.
-ghost use Rattle.std.specs.Prelude.{◌≡◌, ◌≤◌, IfOk};
+ghost use Rattle.std.specs.Prelude.{◌≡◌, ◌≤◌, ◌-◌, ◌++◌, length, replicate, take, IfOk};
 ghost use Rattle.df_base.specs.Causes.{HasCause, IsBlamed};
+ghost use Rattle.df_base.specs.Fields.{AreBytes};
 ghost use Rattle.df_format.specs.Valid.{IsUnit};
 ghost use Rattle.df_layout.specs.Spans.{HasPlace};
 ghost use Rattle.df_places.specs.Shelves.{IsFound};
 ghost use Rattle.df_mirror.specs.Outside.{around, counts};
 ghost use Rattle.df_mirror.specs.Statuses.{AreBlamed, is_first, is_sink};
-ghost use Rattle.df_mirror.specs.Taking.{HoldsShown, Loads, MendsUnit, PutsUnit, TakesUnit, WritesUnit, count_in};
+ghost use Rattle.df_mirror.specs.Taking.{HoldsShown, IsFilled, Loads, MendsUnit, PutsUnit, TakesUnit, WritesUnit, count_in};
 
 use crate::ending::Ending;
 use crate::telling::print_mended;
@@ -61,6 +62,33 @@ fn write_mended<A: Disk, W: Sink, K: UnitKind>(
     }
 }
 
+// Blanks a buffer from this byte on, if it has so many.
+fn blank_from(bytes: &mut [u8], from: usize)
+    ensures blank { from ≤ length bytes.old → bytes.new ≡ take from bytes.old ++ replicate (length bytes.old - from) 0 }
+    ensures were { AreBytes bytes.old }
+{
+    if from <= bytes.len() {
+        bytes[from..].fill(0);
+    }
+}
+
+// The same unit, with zeros behind it: what the second file shows there no checksum covers.
+fn fill_behind<K: UnitKind>(unit: Sound<K>, identity: &Identity) -> Sound<K>
+    requires layout { unit.layout ≡ identity.now.layout }
+    requires zone { identity.now.place.zone ≡ K.ZONE }
+    requires found { IsFound K.KIND identity.now unit.unit }
+    ensures same { (result.layout ≡ unit.layout) × (result.unit ≡ unit.unit) }
+    ensures filled { IsFilled result }
+{
+    let size = unit.header().size as usize;
+    let mut room = unit.loosen();
+    blank_from(room.bytes_mut(), size);
+    match room.prove(identity) {
+        Ok(unit) => unit,
+        Err(_) => unreachable!(),
+    }
+}
+
 // Takes a unit that the first file doesn't show from the second one, where that shows it.
 fn take_unit<A: Disk, B: Disk, W: Sink, K: UnitKind>(
     first: &mut A,
@@ -81,7 +109,10 @@ fn take_unit<A: Disk, B: Disk, W: Sink, K: UnitKind>(
     ensures blamed { AreBlamed (counts (A.faults first.old) (B.faults second.old) (W.faults sink.old)) (counts (A.faults first.new) (B.faults second.new) (W.faults sink.new)) result }
 {
     match load(second, room, identity) {
-        Ok(Ok(unit)) => write_mended(first, sink, identity, unit),
+        Ok(Ok(unit)) => {
+            let unit = fill_behind(unit, identity);
+            write_mended(first, sink, identity, unit)
+        }
         Ok(Err(_)) => Err(Ending::Neither {
             place: identity.place,
             class,

@@ -26,7 +26,7 @@ pub returns-in-Ok-clause-shown : goal.returns-in-Ok-clause-shown
 returns-in-Ok-clause-shown g c = λ file at check t n for old new whole.
     let i = c.args.identity.now in
     let takes = c.in-Ok.ensures.takes in
-    written_is_shown file g.K.UnitKind.KIND at check i for c.in-Ok.unit takes.found takes.puts t n _ _ _ whole
+    written_is_shown file g.K.UnitKind.KIND at check i for c.in-Ok.unit takes.found takes.puts takes.filled t n _ _ _ whole
     (subst (λ (f : Option Told). WritesUnit i.layout i.place c.in-Ok.unit f (g.A.Disk.told c.take_unit.new.first) (g.W.Sink.written c.args.sink.now) (g.W.Sink.written c.take_unit.new.sink) {T = Unit {0}} (Ok tt)) (c.load.ensures.same ∙ old) takes.writes) new
 
 pub returns-in-Ok-clause-mends : goal.returns-in-Ok-clause-mends
