@@ -16,7 +16,7 @@ use Rattle.df_format.specs.UnitLaws.{place_size}
 use Rattle.df_format.specs.Valid.{Begins, HasBody, IsBodyOf, IsUnit}
 use Rattle.df_format.proofs.Laws.{begun_is_shown, one_unit}
 use Rattle.df_format.proofs.Spelled.{length-spelling}
-use Rattle.df_buffers.specs.Rooms.{StandsIn, room_size}
+use Rattle.df_buffers.specs.Rooms.{Room, StandsIn, room_size}
 use Rattle.df_buffers.specs.Sounds.{Holding, IsSound}
 use Rattle.df_buffers.specs.declared.identity.Identity.{Identity}
 use Rattle.df_buffers.specs.Found.{FindsKind}
@@ -25,20 +25,13 @@ use Rattle.df_places.specs.Shelves.{IsFound}
 use Rattle.df_mirror.specs.Taking.{IsFilled}
 use Rattle.df_mirror.specs.Mends.{EndsInZeros}
 
--- elsewhere than in the header ring
-beside_size : (layout : Layout) (zone : Zone) → zone ≢ WalHeaders → place_size layout zone ≡ room_size layout zone
-beside_size layout Superblock beside = refl
-beside_size layout WalHeaders beside = absurd (beside refl)
-beside_size layout WalPrepares beside = refl
-beside_size layout ClientReplies beside = refl
-beside_size layout Grid beside = refl
-
-body_of : (zone : Zone) (h : Header) (body : List ℕ) → zone ≢ WalHeaders → HasBody zone h body → IsBodyOf h body
-body_of Superblock h body beside has = has
-body_of WalHeaders h body beside has = absurd (beside refl)
-body_of WalPrepares h body beside has = has
-body_of ClientReplies h body beside has = has
-body_of Grid h body beside has = has
+-- elsewhere than in the header ring a place has whole sectors, and a unit its body
+beside_ring : (layout : Layout) (zone : Zone) (h : Header) (body : List ℕ) → zone ≢ WalHeaders → (place_size layout zone ≡ room_size layout zone) × (HasBody zone h body → IsBodyOf h body)
+beside_ring layout WalHeaders h body beside = absurd (beside refl)
+beside_ring layout Superblock h body beside = (refl, λ has. has)
+beside_ring layout WalPrepares h body beside = (refl, λ has. has)
+beside_ring layout ClientReplies h body beside = (refl, λ has. has)
+beside_ring layout Grid h body beside = (refl, λ has. has)
 
 -- ---- lists
 
@@ -74,11 +67,14 @@ module _ (zone : Zone) (kind : Kind) (held : Holding) (stands : StandsIn kind zo
   beside : sound.place.zone ≢ WalHeaders
   beside ring = is_no_ring kind zone stands (sym sound.in_zone ∙ ring)
 
+  parts : (place_size held.layout sound.place.zone ≡ room_size held.layout sound.place.zone) × (HasBody sound.place.zone u.header u.body → IsBodyOf u.header u.body)
+  parts = beside_ring held.layout sound.place.zone u.header u.body beside
+
   begun : Begins held.layout u.header.cluster sound.place held.bytes u
-  begun = (one_unit held.layout u.header.cluster sound.place held.bytes u (subst (λ (z : Zone). length held.bytes ≡ room_size held.layout z) (sym sound.in_zone) sound.fills ∙ sym (beside_size held.layout sound.place.zone beside)) bytes).0 sound.valid
+  begun = (one_unit held.layout u.header.cluster sound.place held.bytes u (subst (λ (z : Zone). length held.bytes ≡ room_size held.layout z) (sym sound.in_zone) sound.fills ∙ sym parts.0) bytes).0 sound.valid
 
   long : length (unit_of u) ≡ u.header.size
-  long = omega (arith, length-append (spelling u.header) u.body, length-spelling u.header sound.is.sealed, (body_of sound.place.zone u.header u.body beside sound.is.body).size)
+  long = omega (arith, length-append (spelling u.header) u.body, length-spelling u.header sound.is.sealed, (parts.1 sound.is.body).size)
 
   -- it is no longer than its room
   pub within : u.header.size ≤ length held.bytes
@@ -120,3 +116,24 @@ module _ (zone : Zone) (kind : Kind) (held : Holding) (stands : StandsIn kind zo
     pub is_filled : (s : Holding) → FindsKind kind identity after s.unit → s.bytes ≡ after → IsFilled s
     is_filled s other bytes_are =
         subst (λ (v : Message). EndsInZeros v.header.size (take (sectors_end v.header.size) s.bytes)) (sym (same_unit s other)) (subst (λ (l : List ℕ). EndsInZeros u.header.size (take (sectors_end u.header.size) l)) (sym bytes_are) (now_filled after blank))
+
+-- ---- a room that is proved once more
+
+-- what was blanked so is found in these bytes, and nothing else is; and it is filled
+pub record IsStill (kind : Kind) (identity : Identity) (held : Holding) (after : List ℕ) : Type 0 where
+  pub finds : FindsKind kind identity after held.unit
+  pub same : (s : Holding) → FindsKind kind identity after s.unit → s.unit ≡ held.unit
+  pub filled : (s : Holding) → FindsKind kind identity after s.unit → s.bytes ≡ after → IsFilled s
+
+pub still : (zone : Zone) (kind : Kind) (held : Holding) → StandsIn kind zone → IsSound zone kind held → (identity : Identity) → IsFound kind identity held.unit
+    → (room : Room) (old w : List ℕ) (h : Header) → room ≡ record { layout = held.layout; bytes = held.bytes } → old ≡ room.bytes → AreBytes old → h ≡ held.unit.header → (h.size ≤ length old → w ≡ take h.size old ++ replicate (length old - h.size) 0)
+    → IsStill kind identity held (take (length room.bytes) (w ++ drop (length w) room.bytes))
+still zone kind held stands sound identity found room old w h room_is old_is are h_is blank =
+    let same : room.bytes ≡ held.bytes = ap (λ (r : Room). r.bytes) room_is in
+    let bytes : AreBytes held.bytes = subst AreBytes (old_is ∙ same) are in
+    let after = written_back zone kind held stands sound bytes room.bytes old w h.size same old_is (ap (λ (x : Header). x.size) h_is) blank in
+    record {
+      finds = finds zone kind held stands sound bytes identity found _ after;
+      same = same_unit zone kind held stands sound bytes identity found _ after;
+      filled = is_filled zone kind held stands sound bytes identity found _ after;
+    }
