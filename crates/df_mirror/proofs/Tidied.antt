@@ -1,7 +1,7 @@
 -- A unit whose room is blanked behind it is still that unit, and its sectors hold zeros there.
 use Rattle.std.proofs.lemmas.List.{length-replicate, length-take}
 use Rattle.std.proofs.lemmas.Option.{same_Some}
-use Rattle.std.proofs.Common.{◌≡◌, ◌≢◌, ℕ, zero, suc, ◌-◌, ◌≤◌, List, [], ◌∷◌, ◌++◌, length, take, drop, replicate, Some, refl, sym, ◌∙◌, ap, subst, arith, length-append}
+use Rattle.std.proofs.Common.{◌≡◌, ◌≢◌, ℕ, zero, suc, ◌+◌, ◌-◌, ◌≤◌, List, [], ◌∷◌, ◌++◌, length, take, drop, replicate, Some, refl, sym, ◌∙◌, ap, subst, arith, length-append}
 use Rattle.df_base.specs.Fields.{AreBytes}
 use Rattle.df_layout.specs.declared.places.Place.{Place}
 use Rattle.df_layout.specs.declared.places.Zone.{Zone}
@@ -87,12 +87,13 @@ module _ (zone : Zone) (kind : Kind) (held : Holding) (stands : StandsIn kind zo
   pub still_there : (layout : Layout) (cluster : ℕ) (place : Place) (after : List ℕ) → IsUnit layout cluster place u → after ≡ take u.header.size held.bytes ++ replicate (length held.bytes - u.header.size) 0 → unit_in layout cluster place after ≡ Some u
   still_there layout cluster place after is blank = begun_is_shown layout cluster place after u (record { is = is; rest = _; spelled = blank ∙ ap (λ (l : List ℕ). l ++ replicate (length held.bytes - u.header.size) 0) front })
 
-  pub now_filled : (after : List ℕ) → after ≡ take u.header.size held.bytes ++ replicate (length held.bytes - u.header.size) 0 → EndsInZeros u.header.size (take (sectors_end u.header.size) after)
+  pub now_filled : (after : List ℕ) → after ≡ take u.header.size held.bytes ++ replicate (length held.bytes - u.header.size) 0 → EndsInZeros (256 + length u.body) (take (sectors_end u.header.size) after)
   now_filled after blank =
       let rest : List ℕ = replicate (length held.bytes - u.header.size) 0 in
       let is : after ≡ unit_of u ++ rest = blank ∙ ap (λ (l : List ℕ). l ++ rest) front in
-      subst (λ (l : List ℕ). EndsInZeros u.header.size (take (sectors_end u.header.size) l)) (sym is)
-      (subst (λ (n : ℕ). EndsInZeros n (take (sectors_end u.header.size) (unit_of u ++ rest))) long (zeros_behind (unit_of u) (sectors_end u.header.size) (length held.bytes - u.header.size) (omega (arith, long))))
+      let own : length (unit_of u) ≡ 256 + length u.body = omega (arith, length-append (spelling u.header) u.body, length-spelling u.header sound.is.sealed) in
+      subst (λ (l : List ℕ). EndsInZeros (256 + length u.body) (take (sectors_end u.header.size) l)) (sym is)
+      (subst (λ (n : ℕ). EndsInZeros n (take (sectors_end u.header.size) (unit_of u ++ rest))) own (zeros_behind (unit_of u) (sectors_end u.header.size) (length held.bytes - u.header.size) (omega (arith, long))))
 
   -- the bytes of the room, once they are written back
   pub written_back : (room old w : List ℕ) (size : ℕ) → room ≡ held.bytes → old ≡ room → size ≡ u.header.size → (size ≤ length old → w ≡ take size old ++ replicate (length old - size) 0)
@@ -115,7 +116,7 @@ module _ (zone : Zone) (kind : Kind) (held : Holding) (stands : StandsIn kind zo
 
     pub is_filled : (s : Holding) → FindsKind kind identity after s.unit → s.bytes ≡ after → IsFilled s
     is_filled s other bytes_are =
-        subst (λ (v : Message). EndsInZeros v.header.size (take (sectors_end v.header.size) s.bytes)) (sym (same_unit s other)) (subst (λ (l : List ℕ). EndsInZeros u.header.size (take (sectors_end u.header.size) l)) (sym bytes_are) (now_filled after blank))
+        subst (λ (v : Message). EndsInZeros (256 + length v.body) (take (sectors_end v.header.size) s.bytes)) (sym (same_unit s other)) (subst (λ (l : List ℕ). EndsInZeros (256 + length u.body) (take (sectors_end u.header.size) l)) (sym bytes_are) (now_filled after blank))
 
 -- ---- a room that is proved once more
 

@@ -1,5 +1,5 @@
 -- Units that are mended one after the other, what that writes and prints, and how it ends.
-use Rattle.std.specs.Prelude.{◌≡◌, ◌≤◌, ◌-◌, ℕ, List, [], ◌∷◌, ◌++◌, drop, length, replicate, Option, Some, Result, Ok, Err}
+use Rattle.std.specs.Prelude.{◌≡◌, ◌≤◌, ◌+◌, ◌-◌, ℕ, List, [], ◌∷◌, ◌++◌, drop, length, replicate, Option, Some, Result, Ok, Err}
 use Rattle.df_base.specs.Image.{Image}
 use Rattle.df_base.specs.Log.{Event, Sync, Write}
 use Rattle.df_base.specs.Streams.{Appends, AppendsPart}
@@ -42,7 +42,7 @@ pub record Mend : Type 0 where
 abbrev pub EndsInZeros : ℕ → List ℕ → Type 0
 EndsInZeros size bytes = drop size bytes ≡ replicate (length bytes - size) 0
 
--- it is known and not shown, no known unit that is shown stands at its place, the second file shows it there, its sectors bring it and touch no other place, and hold zeros behind it
+-- it is known and not shown, no known unit that is shown stands at its place, the second file shows it there, its sectors bring it and touch no other place, and hold zeros behind its header and its body
 pub record IsMend (file : DataFile) (c : Content) (shown second : Image) (m : Mend) : Type 0 where
   pub known : IsKnown (shape file) (units_in file shown) c m.kind m.place (checksum_of m.unit)
   pub lacks : IsShownAs (units_in file shown) m.kind m.place (checksum_of m.unit) → ⊥
@@ -50,7 +50,7 @@ pub record IsMend (file : DataFile) (c : Content) (shown second : Image) (m : Me
   pub of_kind : IsOfKind m.kind m.unit
   pub from : units_in file second m.place ≡ Some m.unit
   pub puts : IsPut (format_of file.layout file.cluster) (first_at file.layout m.place) m.bytes (put_one m.place m.unit)
-  pub filled : (u : Message) × (unit_of m.place u ≡ Some m.unit) × EndsInZeros u.header.size m.bytes
+  pub filled : (u : Message) × (unit_of m.place u ≡ Some m.unit) × EndsInZeros (256 + length u.body) m.bytes
 
 -- ---- all of them
 

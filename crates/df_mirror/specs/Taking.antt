@@ -1,5 +1,5 @@
 -- What it does to mend one unit, by what a room holds of each file.
-use Rattle.std.specs.Prelude.{◌≡◌, ℕ, List, take, Option, Some, None, Result, Ok, Err}
+use Rattle.std.specs.Prelude.{◌≡◌, ◌+◌, ℕ, List, length, take, Option, Some, None, Result, Ok, Err}
 use Rattle.df_base.specs.Image.{Image, IsImage}
 use Rattle.df_base.specs.Streams.{Appends, AppendsPart}
 use Rattle.df_disk.specs.Adds.{AddsPart, after_all}
@@ -62,7 +62,7 @@ PutsUnit layout place held = (at : Place) (x : AnyUnit) → place_of at ≡ plac
 
 -- what is written of it holds zeros behind the unit
 abbrev pub IsFilled : Holding → Type 0
-IsFilled held = EndsInZeros held.unit.header.size (take (sectors_end held.unit.header.size) held.bytes)
+IsFilled held = EndsInZeros (256 + length held.unit.body) (take (sectors_end held.unit.header.size) held.bytes)
 
 -- nothing is written or printed
 abbrev pub IsSame : Outside → Outside → Type 0
