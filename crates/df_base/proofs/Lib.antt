@@ -7,3 +7,4 @@ pub mod Laws
 pub mod Pieces
 pub mod Plain
 pub mod Sinks
+pub mod Text

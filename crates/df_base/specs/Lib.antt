@@ -7,3 +7,4 @@ pub mod Streams
 pub mod Image
 pub mod Log
 pub mod Moments
+pub mod Text

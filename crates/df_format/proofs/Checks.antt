@@ -1,20 +1,22 @@
 -- Checksums one behind the other: their bytes, how they are read again, and what stands where none of them is named.
 use Rattle.std.proofs.Common.{◌≡◌, ◌<◌, ◌≤◌, ◌+◌, ◌-◌, ◌*◌, ℕ, zero, suc, List, [], ◌∷◌, ◌++◌, length, take, drop, replicate, get_or, refl, sym, ◌∙◌, ap, arith, append_assoc, length-append}
 use Rattle.std.specs.Prelude.{All}
-use Rattle.std.proofs.lemmas.List.{take_at, take_all, take-replicate, drop-replicate, take-append-drop, drop-drop, length-take-le, length-drop, length-replicate, get_or-replicate, replicate-append-replicate, ext_get_or, append-nil}
+use Rattle.std.proofs.lemmas.List.{take_at, take-replicate, drop-replicate, take-append-drop, drop-drop, length-take-le, length-drop, length-replicate, get_or-replicate, replicate-append-replicate, ext_get_or, append-nil}
+use Rattle.std.proofs.Math.Seq.{take-add}
 use Rattle.df_base.specs.Fields.{AreBytes}
+use Rattle.df_base.specs.Text.{AreSo}
 use Rattle.df_base.proofs.Laws.{AreBytes-nil, AreBytes-append, AreBytes-take, AreBytes-drop}
 use Rattle.df_format.specs.Spelling.{IsCheck, no_checksum}
 use Rattle.df_format.specs.Super.{AreNone, checks_bytes, no_checksums}
 use Rattle.df_format.specs.Copies.{checks_at}
-use Rattle.df_format.proofs.Parts.{past}
+use Rattle.df_base.proofs.Laws.{past}
 
 -- ---- their bytes
 
 behind : (P : List ℕ → Type 0) (check : List ℕ) (checks : List (List ℕ)) → All P (check ∷ checks) → All P checks
 behind P check checks each k d inside = each (suc k) d (omega arith)
 
-pub length-checks : (checks : List (List ℕ)) → All IsCheck checks → length (checks_bytes checks) ≡ 16 * length checks
+length-checks : (checks : List (List ℕ)) → All IsCheck checks → length (checks_bytes checks) ≡ 16 * length checks
 unfolding checks_bytes
 length-checks [] each = refl
 length-checks (check ∷ checks) each =
@@ -22,12 +24,16 @@ length-checks (check ∷ checks) each =
     let rest = length-checks checks (behind IsCheck check checks each) in
     omega (arith, length-append check (checks_bytes checks), first.size, rest)
 
-pub AreBytes-checks : (checks : List (List ℕ)) → All IsCheck checks → AreBytes (checks_bytes checks)
+AreBytes-checks : (checks : List (List ℕ)) → All IsCheck checks → AreBytes (checks_bytes checks)
 unfolding checks_bytes
 AreBytes-checks [] each = AreBytes-nil
 AreBytes-checks (check ∷ checks) each =
     let first : IsCheck check = each 0 check (omega arith) in
     AreBytes-append check (checks_bytes checks) first.each (AreBytes-checks checks (behind IsCheck check checks each))
+
+-- as many bytes as they have together
+pub so_many_checks : (n : ℕ) (checks : List (List ℕ)) → length checks ≡ n → All IsCheck checks → AreSo (16 * n) (checks_bytes checks)
+so_many_checks n checks size each = record { size = length-checks checks each ∙ ap (λ (k : ℕ). 16 * k) size; each = AreBytes-checks checks each }
 
 -- where none is named they are zeros
 pub checks_zero : (checks : List (List ℕ)) (n : ℕ) → 16 * length checks ≡ n → AreNone checks → checks_bytes checks ≡ replicate n 0
@@ -85,26 +91,29 @@ are_checks (suc n) at bytes are fits zero d inside = record {
 are_checks (suc n) at bytes are fits (suc k) d inside = are_checks n (at + 16) bytes are (omega (arith, fits)) k d (omega arith)
 
 -- what is read as checksums is their bytes
-pub spelled_checks : (n at : ℕ) (bytes : List ℕ) → checks_bytes (checks_at n at bytes) ++ drop (at + 16 * n) bytes ≡ drop at bytes
+pub checks_read : (n at : ℕ) (bytes : List ℕ) → at + 16 * n ≤ length bytes → take (16 * n) (drop at bytes) ≡ checks_bytes (checks_at n at bytes)
 unfolding checks_at checks_bytes
-spelled_checks zero at bytes = ap (λ (m : ℕ). drop m bytes) (let here : at + 16 * 0 ≡ at = omega arith in here)
-spelled_checks (suc n) at bytes =
-    let rest : List ℕ = checks_bytes (checks_at n (at + 16) bytes) in
-    let there : at + 16 * suc n ≡ at + 16 + 16 * n = omega arith in
-    append_assoc (take 16 (drop at bytes)) rest (drop (at + 16 * suc n) bytes)
-    ∙ ap (λ (l : List ℕ). take 16 (drop at bytes) ++ l) (ap (λ (m : ℕ). rest ++ drop m bytes) there ∙ spelled_checks n (at + 16) bytes ∙ sym (drop-drop 16 at bytes))
-    ∙ take-append-drop 16 (drop at bytes)
+checks_read zero at bytes inside = refl
+checks_read (suc n) at bytes inside =
+    let more : 16 * suc n ≡ 16 + 16 * n = omega arith in
+    ap (λ (m : ℕ). take m (drop at bytes)) more
+    ∙ take-add 16 (16 * n) (drop at bytes)
+    ∙ ap (λ (l : List ℕ). take 16 (drop at bytes) ++ l) (ap (λ (l : List ℕ). take (16 * n) l) (drop-drop 16 at bytes) ∙ checks_read n (at + 16) bytes (omega arith))
 
--- and their bytes are read as they
-pub read_checks : (checks : List (List ℕ)) (at : ℕ) (bytes rest : List ℕ) → All IsCheck checks → drop at bytes ≡ checks_bytes checks ++ rest → checks_at (length checks) at bytes ≡ checks
+checks_there : (checks : List (List ℕ)) (at : ℕ) (bytes rest : List ℕ) → All IsCheck checks → drop at bytes ≡ checks_bytes checks ++ rest → checks_at (length checks) at bytes ≡ checks
 unfolding checks_at checks_bytes
-read_checks [] at bytes rest each is = refl
-read_checks (check ∷ checks) at bytes rest each is =
+checks_there [] at bytes rest each is = refl
+checks_there (check ∷ checks) at bytes rest each is =
     let size : length check ≡ 16 = (each 0 check (omega arith)).size in
     let here : drop at bytes ≡ check ++ (checks_bytes checks ++ rest) = is ∙ append_assoc check (checks_bytes checks) rest in
     let first : take 16 (drop at bytes) ≡ check = ap (λ (l : List ℕ). take 16 l) here ∙ take_at check (checks_bytes checks ++ rest) 16 size in
-    let others = read_checks checks (at + 16) bytes rest (behind IsCheck check checks each) (past at 16 bytes check (checks_bytes checks ++ rest) here size) in
+    let others = checks_there checks (at + 16) bytes rest (behind IsCheck check checks each) (past at 16 bytes check (checks_bytes checks ++ rest) here size) in
     λ i. first i ∷ others i
+
+-- and their bytes are read as they
+pub read_checks : (n : ℕ) (checks : List (List ℕ)) (at : ℕ) (bytes : List ℕ) → length checks ≡ n → All IsCheck checks → take (16 * n) (drop at bytes) ≡ checks_bytes checks → checks_at n at bytes ≡ checks
+read_checks n checks at bytes size each is =
+    ap (λ (m : ℕ). checks_at m at bytes) (sym size) ∙ checks_there checks at bytes (drop (16 * n) (drop at bytes)) each (sym (take-append-drop (16 * n) (drop at bytes)) ∙ ap (λ (l : List ℕ). l ++ drop (16 * n) (drop at bytes)) is)
 
 -- among zeros none is named
 pub none_at : (n at m : ℕ) (bytes : List ℕ) → drop at bytes ≡ replicate m 0 → 16 * n ≤ m → AreNone (checks_at n at bytes)

@@ -5,7 +5,7 @@ use Rattle.std.specs.List.{list_all, prefix_len}
 use Rattle.std.specs.Option.{option_or}
 use Rattle.std.proofs.lemmas.Bool.{cond-true, cond-false, le-ltb, ltb-false, eq-eqb, ne_eqb, not_from_true, not_from_false, cases_eq, cases_Bool}
 use Rattle.std.specs.Str.{bytes_eq}
-use Rattle.std.proofs.lemmas.List.{take-append-drop, drop-drop, drop_at, take_all, length-take-le, length-replicate}
+use Rattle.std.proofs.lemmas.List.{drop-take, take-take, drop-replicate, take-replicate, length-drop, take-append-drop, drop-drop, drop_at, length-take-le, length-replicate}
 use Rattle.df_base.specs.Fields.{spelled, put_at}
 use Rattle.df_base.proofs.Laws.{length-spelled}
 use Rattle.df_format.specs.Copies.{nonzero_between}
@@ -77,6 +77,26 @@ unplaced n m is = elim (cases_Bool (nat_lt n m)) [
 -- so many bytes among which there is none that isn't zero
 pub all_zeros : (at n : ℕ) (bytes : List ℕ) → length bytes ≡ n → option_map (λ i. at + i) (position (λ b. not (b == 0)) bytes) ≡ None → bytes ≡ replicate n 0
 all_zeros at n bytes size none = zeros_by n bytes size (unplaced _ _ (no_place _ at none))
+
+-- a part of a front is a part of the whole
+part_of_front : (k n m : ℕ) (xs : List ℕ) → k + n ≤ m → take n (drop k (take m xs)) ≡ take n (drop k xs)
+part_of_front k n m xs inside =
+    let split : m ≡ k + (m - k) = omega arith in
+    ap (λ (i : ℕ). take n (drop k (take i xs))) split ∙ ap (λ (l : List ℕ). take n l) (drop-take k (m - k) xs) ∙ take-take n (m - k) (drop k xs) (omega arith)
+
+part_of_zeros : (k n m : ℕ) → k + n ≤ m → take {A = ℕ} n (drop k (replicate m 0)) ≡ replicate n 0
+part_of_zeros k n m inside = ap (λ (l : List ℕ). take n l) (drop-replicate k m 0) ∙ take-replicate n (m - k) 0 (omega arith)
+
+-- and any part of these is zeros
+pub zeros_within : (at end a n : ℕ) (bytes : List ℕ) → at ≤ a → a + n ≤ end → end ≤ length bytes → nonzero_between at end bytes ≡ None → take n (drop a bytes) ≡ replicate n 0
+zeros_within at end a n bytes before inside room none =
+    let zeros = all_zeros at (end - at) (take (end - at) (drop at bytes)) (length-take-le (end - at) (drop at bytes) (omega (arith, length-drop at bytes))) none in
+    let here : at + (a - at) ≡ a = omega arith in
+    ap (λ (m : ℕ). take n (drop m bytes)) (sym here)
+    ∙ ap (λ (l : List ℕ). take n l) (sym (drop-drop (a - at) at bytes))
+    ∙ sym (part_of_front (a - at) n (end - at) (drop at bytes) (omega arith))
+    ∙ ap (λ (l : List ℕ). take n (drop (a - at) l)) zeros
+    ∙ part_of_zeros (a - at) n (end - at) (omega arith)
 
 -- a part of a sector that is zeros has none
 pub nothing_between : (at end n : ℕ) (bytes : List ℕ) → take (end - at) (drop at bytes) ≡ replicate n 0 → nonzero_between at end bytes ≡ None

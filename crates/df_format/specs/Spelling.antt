@@ -1,6 +1,8 @@
 -- The one spelling of a header, field by field.
-use Rattle.std.specs.Prelude.{◌≡◌, ℕ, List, ◌∷◌, ◌++◌, length, replicate}
-use Rattle.df_base.specs.Fields.{AreBytes, spelled, check_of}
+use Rattle.std.specs.Prelude.{ℕ, List, [], ◌∷◌, ◌++◌, replicate}
+use Rattle.df_base.specs.Fields.{check_of}
+use Rattle.df_base.specs.Text.{Piece, AreSo, zeros, text}
+use Rattle.df_base.specs.Text.Piece.{Byte, Number, Bytes}
 use Rattle.df_format.specs.declared.header.Header.{Header}
 use Rattle.df_format.specs.declared.kind.Kind.{Kind}
 use Rattle.df_format.specs.declared.kind.Kind.TheVariants.{Reserved, Prepare, Reply, Block, Trailer}
@@ -19,23 +21,40 @@ code_of Trailer = 5
 
 -- bytes 122 to 256 of a header: its version, the boot in which it was made, the group that it was appended with, and zeros; in
 -- version 1, which has neither boots nor groups, all behind the version is zero
-unfoldable pub tail_of : Header → List ℕ
-tail_of h = spelled 2 h.version ++ (spelled 8 h.boot ++ (spelled 8 h.group ++ (spelled 8 h.group_last ++ replicate 108 0)))
+abbrev pub tail : List (Piece Header)
+tail = Number 2 (λ h. h.version) ∷ Number 8 (λ h. h.boot) ∷ Number 8 (λ h. h.group) ∷ Number 8 (λ h. h.group_last) ∷ zeros 108 ∷ []
 
--- bytes 16 to 256: one piece for each field that a kind may name, then the tail
+unfoldable pub tail_of : Header → List ℕ
+tail_of h = text tail h []
+
+-- bytes 16 to 122: one piece for each field that a kind may name
+abbrev pub fields : List (Piece Header)
+fields =
+    Bytes 16 (λ h. h.checksum_body)
+    ∷ Number 16 (λ h. h.cluster)
+    ∷ Bytes 16 (λ h. h.parent)
+    ∷ Number 16 (λ h. h.client)
+    ∷ Number 8 (λ h. h.op)
+    ∷ Number 8 (λ h. h.request)
+    ∷ Number 8 (λ h. h.mark)
+    ∷ Number 8 (λ h. h.checkpoint)
+    ∷ Number 4 (λ h. h.size)
+    ∷ Number 4 (λ h. h.slot)
+    ∷ Byte (λ h. code_of h.kind)
+    ∷ Byte (λ h. h.block_kind)
+    ∷ []
+
+-- bytes 16 to 256: the fields, then the tail
 unfoldable pub spelling_rest : Header → List ℕ
-spelling_rest h =
-    h.checksum_body ++ (spelled 16 h.cluster ++ (h.parent ++ (spelled 16 h.client ++ (spelled 8 h.op ++ (spelled 8 h.request ++ (spelled 8 h.mark ++ (spelled 8 h.checkpoint
-    ++ (spelled 4 h.size ++ (spelled 4 h.slot ++ (code_of h.kind ∷ (h.block_kind ∷ tail_of h)))))))))))
+spelling_rest h = text fields h (tail_of h)
 
 -- the 256 bytes of a header
 abbrev pub spelling : Header → List ℕ
 spelling h = h.checksum ++ spelling_rest h
 
 -- bytes of a checksum
-pub record IsCheck (bytes : List ℕ) : Type 0 where
-  pub size : length bytes ≡ 16
-  pub each : AreBytes bytes
+abbrev pub IsCheck : List ℕ → Type 0
+IsCheck bytes = AreSo 16 bytes
 
 -- the header with the checksum that its other fields give
 abbrev pub sealed : Header → Header

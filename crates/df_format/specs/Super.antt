@@ -1,8 +1,11 @@
 -- The one spelling of a copy of the superblock, field by field.
 use Rattle.std.specs.Prelude.{◌≡◌, ◌<◌, ◌^◌, ℕ, List, [], ◌∷◌, ◌++◌, All, length, replicate}
-use Rattle.df_base.specs.Fields.{spelled, check_of}
+use Rattle.df_base.specs.Fields.{check_of}
+use Rattle.df_base.specs.Text.{Piece, zeros, text}
+use Rattle.df_base.specs.Text.Piece.{Number, Bytes}
 use Rattle.df_format.specs.Spelling.{IsCheck, no_checksum}
 use Rattle.df_format.specs.declared.superblock.SuperFields.{SuperFields}
+use Rattle.df_format.specs.declared.superblock.SuperCopy.{SuperCopy}
 
 -- a checksum for each of the 64 places that sessions can have
 pub record AreChecks (checks : List (List ℕ)) : Type 0 where
@@ -44,11 +47,28 @@ pub record FitsSuper (f : SuperFields) : Type 0 where
   pub reply_checksums : AreChecks f.reply_checksums
 
 -- bytes 32 to 160, one piece for each field of both versions
+abbrev pub fields : List (Piece SuperFields)
+fields =
+    Number 4 (λ f. f.version)
+    ∷ Number 4 (λ f. f.slots)
+    ∷ Number 4 (λ f. f.message_size)
+    ∷ Number 4 (λ f. f.clients)
+    ∷ Number 16 (λ f. f.cluster)
+    ∷ Number 4 (λ f. f.block_size)
+    ∷ Number 4 (λ f. f.blocks)
+    ∷ Number 8 (λ f. f.sequence)
+    ∷ Number 8 (λ f. f.op)
+    ∷ Number 8 (λ f. f.head)
+    ∷ Number 8 (λ f. f.replies)
+    ∷ Number 8 (λ f. f.trailer_address)
+    ∷ Bytes 16 (λ f. f.op_checksum)
+    ∷ Bytes 16 (λ f. f.trailer_checksum)
+    ∷ Number 8 (λ f. f.trailer_size)
+    ∷ Number 8 (λ f. f.boot)
+    ∷ []
+
 unfoldable pub fields_bytes : SuperFields → List ℕ
-fields_bytes f =
-    spelled 4 f.version ++ (spelled 4 f.slots ++ (spelled 4 f.message_size ++ (spelled 4 f.clients ++ (spelled 16 f.cluster ++ (spelled 4 f.block_size ++ (spelled 4 f.blocks
-    ++ (spelled 8 f.sequence ++ (spelled 8 f.op ++ (spelled 8 f.head ++ (spelled 8 f.replies ++ (spelled 8 f.trailer_address ++ (f.op_checksum ++ (f.trailer_checksum
-    ++ (spelled 8 f.trailer_size ++ spelled 8 f.boot))))))))))))))
+fields_bytes f = text fields f []
 
 -- checksums, one behind the other
 unfoldable pub checks_bytes : List (List ℕ) → List ℕ
@@ -56,13 +76,24 @@ checks_bytes [] = []
 checks_bytes (check ∷ checks) = check ++ checks_bytes checks
 
 -- bytes 160 to 4096: what version 2 names, with zeros between and behind; all zeros in version 1, which names nothing
+abbrev pub named : List (Piece SuperFields)
+named = Bytes 16 (λ f. f.head_checksum) ∷ zeros 16 ∷ Bytes 1024 (λ f. checks_bytes f.reply_checksums) ∷ zeros 2880 ∷ []
+
 unfoldable pub named_bytes : SuperFields → List ℕ
-named_bytes f = f.head_checksum ++ (replicate 16 0 ++ (checks_bytes f.reply_checksums ++ replicate 2880 0))
+named_bytes f = text named f []
 
 -- bytes 32 to 4096, which the checksum covers
 unfoldable pub covered_bytes : SuperFields → List ℕ
-covered_bytes f = fields_bytes f ++ named_bytes f
+covered_bytes f = text fields f (named_bytes f)
 
--- the sector of a copy with this number
+-- bytes 0 to 32 of a copy: its checksum, its number and zeros
+abbrev pub front : List (Piece SuperCopy)
+front = Bytes 16 (λ c. c.checksum) ∷ Number 4 (λ c. c.number) ∷ zeros 12 ∷ []
+
+-- a copy with this number and these fields, with the checksum that they give
+abbrev pub copy_with : ℕ → SuperFields → SuperCopy
+copy_with number f = record { number = number; checksum = check_of (covered_bytes f); fields = f }
+
+-- the sector of such a copy
 unfoldable pub copy_bytes : ℕ → SuperFields → List ℕ
-copy_bytes number f = check_of (covered_bytes f) ++ (spelled 4 number ++ (replicate 12 0 ++ covered_bytes f))
+copy_bytes number f = text front (copy_with number f) (covered_bytes f)

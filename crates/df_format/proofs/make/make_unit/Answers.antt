@@ -1,5 +1,5 @@
 -- The body was put there.
-use Rattle.std.proofs.Common.{◌≡◌, ℕ, List, length, take, drop, sym, ◌∙◌, ap, subst, arith}
+use Rattle.std.proofs.Common.{ℕ, List, sym, ◌∙◌, ap, subst, arith}
 use Rattle.df_format.specs.Making.{for_body}
 use Rattle.df_format.specs.Message.{sectors_of}
 use Rattle.df_format.specs.Rules.{ObeysRules}
