@@ -33,11 +33,11 @@ use Rattle.df_model.specs.Making.{named_places}
 use Rattle.df_opening.specs.Below.{State, shape}
 use Rattle.df_opening.specs.Making.{reserved_table, sectors_in}
 use Rattle.df_opening.specs.Sparing.{image_after}
-use Rattle.df_opening.proofs.Laws.{shown_by, unit_after}
+use Rattle.df_opening.proofs.Laws.{shown_by, stays_whole, unit_after}
 use Rattle.df_copy.specs.Targets.{all_steps, check_of, checks_of, copy_events, copy_steps, reply_steps, superblock_of, trailer_of}
 use Rattle.df_grid.specs.Writes.{block_steps}
 use Rattle.df_copy.specs.Units.{moved, moved_from}
-use Rattle.df_copy.specs.Views.{file_in}
+use Rattle.df_copy.specs.Views.{IsOlder, file_in}
 use Rattle.df_copy.proofs.Afters.{placed}
 use Rattle.df_copy.proofs.Frees.{numbered_known}
 use Rattle.df_copy.proofs.Images.{image_behind, row_steps, shows_block, shows_copy, shows_no_prepare, shows_no_reply, shows_reply, shows_reserved, shows_slot, shows_trailer}
@@ -162,6 +162,13 @@ module _ (layout : Layout) (s : State) (rs bs : List Message) (image : Units) (v
   second : f.version ≡ 2
   second = is.state.second.rules.version
 
+  pub own_version : s.file.version ≡ 2
+  own_version = sym is.state.version ∙ second
+
+  -- it has whole sectors
+  pub copy_image : (start : Image) → ((sector : ℕ) → start sector ≡ blank sector) → IsImage (image_after (copy_events layout s rs bs) start)
+  copy_image start empty = stays_whole layout cluster (copy_events layout s rs bs) (copy_steps layout s rs bs) start (copy_are_steps layout s rs bs is) (subst IsImage (sym (nothing_shown layout cluster start empty).0) blank_is_image)
+
   all_named : NamesAll c
   all_named = record {
     head = refl;
@@ -239,6 +246,14 @@ module _ (layout : Layout) (s : State) (rs bs : List Message) (image : Units) (v
 
   pub copy_found : IsFound sh shown copy_view
   copy_found = rest_found sh shown copy_checkpoint (stored_of rs) (copy_sound layout s rs bs image v is source) all_named shows_rest
+
+  -- the superblock is newer than all that it shows
+  pub copy_older : IsOlder shown copy_view
+  copy_older = record {
+    prepares = shows_rest.prepares;
+    replies = λ k r there. (shows_rest.replies k r there).boot;
+    counted = (omega (arith, all_named.head), sym all_named.replies);
+  }
 
   pub copy_whole : IsWhole sh shown copy_view
   copy_whole = rest_whole sh shown copy_checkpoint (stored_of rs) (copy_sound layout s rs bs image v is source) all_named shows_rest

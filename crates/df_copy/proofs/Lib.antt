@@ -11,6 +11,7 @@ pub mod Holding
 pub mod Images
 pub mod Joining
 pub mod Listed
+pub mod Lives
 pub mod Named
 pub mod Naming
 pub mod Opening

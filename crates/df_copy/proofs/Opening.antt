@@ -40,9 +40,9 @@ use Rattle.df_copy.specs.Copying.{Copied, CopiesInto, IsAll, WritesCopy}
 use Rattle.df_copy.specs.Run.{CopiesFile, Prints, SparesCopies}
 use Rattle.df_copy.specs.Targets.{copy_events, unit_events}
 use Rattle.df_copy.specs.Tests.{blank_tests, tests, unit_tests}
-use Rattle.df_copy.specs.Views.{HoldsCopy, IsCopyOf, IsEmpty, file_in}
+use Rattle.df_copy.specs.Views.{HoldsCopy, IsCopyOf, IsEmpty, IsOlder, file_in}
 use Rattle.df_copy.proofs.Alike.{WereRead, copy_alike}
-use Rattle.df_copy.proofs.Holding.{copy_found, copy_stands, copy_view, copy_whole, mapped, place_shows, shown}
+use Rattle.df_copy.proofs.Holding.{copy_found, copy_image, copy_older, own_version, copy_stands, copy_view, copy_whole, mapped, place_shows, shown}
 use Rattle.df_copy.proofs.Planning.{Passes, passes_tests}
 use Rattle.df_copy.proofs.Seen.{block_seen, reply_seen}
 use Rattle.df_copy.proofs.Sources.{IsSource, opened_lawful, rest_source}
@@ -178,6 +178,9 @@ module _ (layout : Layout) (t m o n : Told) (whole : IsImage t.shown) (empty : I
       whole = subst (λ (w : Units). IsWhole (shape (file_in layout s.file)) w (copy_view layout s rs bs image v named source read)) target_is (copy_whole layout s rs bs image v named source read);
       stands = subst (λ (w : Units). Stands w (copy_view layout s rs bs image v named source read)) target_is
           (copy_stands layout s rs bs image v named source read (λ i b at. let there = may.copied.are_blocks.are.each i b at in there.2.known.of_kind));
+      older = subst (λ (w : Units). IsOlder w (copy_view layout s rs bs image v named source read)) target_is (copy_older layout s rs bs image v named source read);
+      image = subst IsImage (sym (ap (λ (l : Log). now l) log_is ∙ now_adds (copy_events layout s rs bs) o.log)) (copy_image layout s rs bs image v named source read (now o.log) empty);
+      version = own_version layout s rs bs image v named source read;
     }
 
   abbrev EachHolds : State → Type 0

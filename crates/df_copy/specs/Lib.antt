@@ -9,3 +9,4 @@ pub mod Trailers
 pub mod Copying
 pub mod Views
 pub mod Run
+pub mod Lives

@@ -1,13 +1,13 @@
 -- The view of a copy, beside that of its source: the same state in another layout, with the k-th referenced block at address k.
-use Rattle.std.specs.Prelude.{◌≡◌, ◌↔◌, ◌<◌, ◌≤◌, ◌+◌, ℕ, List, [], length, map, slice_get, Some}
-use Rattle.df_base.specs.Image.{Image, blank}
+use Rattle.std.specs.Prelude.{◌≡◌, ◌↔◌, ◌<◌, ◌≤◌, ◌+◌, ℕ, List, [], length, map, slice_get, Some, None}
+use Rattle.df_base.specs.Image.{Image, IsImage, blank}
 use Rattle.df_layout.specs.declared.layout.Layout.{Layout}
 use Rattle.df_theory.specs.Found.{IsFound}
 use Rattle.df_theory.specs.Holds.{IsWhole, Stands}
 use Rattle.df_theory.specs.Trailer.{InChain}
 use Rattle.df_theory.specs.Units as units
-use Rattle.df_theory.specs.Units.{Block, BlockPlace, BlockUnit, Content, Units}
-use Rattle.df_theory.specs.View.{View}
+use Rattle.df_theory.specs.Units.{Block, BlockPlace, BlockUnit, Content, Message, PreparePlace, ReplyPlace, ReplyUnit, Units}
+use Rattle.df_theory.specs.View.{View, boot_of, head}
 use Rattle.df_units.specs.Bytes.{unit_at}
 use Rattle.df_units.specs.Meaning.{layout_of}
 use Rattle.df_model.specs.Sense.{RiseFrom}
@@ -61,17 +61,26 @@ pub record IsCopyOf (layout : units.Layout) (source : Units) (v : View) (target 
   pub are : AreReferenced source v blocks
   pub renamed : AreRenamed target u blocks
 
+-- nothing that binds is as new as its superblock, which counts all that there is: it shows no prepare, and replies of earlier boots alone
+pub record IsOlder (image : Units) (u : View) : Type 0 where
+  pub prepares : (s : ℕ) → image (PreparePlace s) ≡ None
+  pub replies : (k : ℕ) (r : Message) → image (ReplyPlace k) ≡ Some (ReplyUnit r) → r.header.boot < boot_of u
+  pub counted : (head u ≡ u.checkpoint.content.head) × (u.replies ≡ u.checkpoint.content.replies)
+
 -- the file of another layout
 abbrev pub file_in : Layout → DataFile → DataFile
 file_in layout file = record { layout = layout; cluster = file.cluster; version = file.version; named = file.named }
 
--- an image of a target holds the copy of a view whole: an open finds it, nothing is to be mended, and each block that it references is shown
+-- an image of a target holds the copy of a view whole: an open finds it, nothing is to be mended, each block that it references is shown, and it is older than its superblock; and the file is of version 2, as the source is
 pub record HoldsCopy (layout : Layout) (file : DataFile) (source : Image) (v : View) (target : Image) : Type 0 where
   pub view : View
   pub copy : IsCopyOf (layout_of layout) (unit_at file.layout file.cluster source) v (unit_at layout file.cluster target) view
   pub found : IsFound (shape (file_in layout file)) (unit_at layout file.cluster target) view
   pub whole : IsWhole (shape (file_in layout file)) (unit_at layout file.cluster target) view
   pub stands : Stands (unit_at layout file.cluster target) view
+  pub older : IsOlder (unit_at layout file.cluster target) view
+  pub image : IsImage target
+  pub version : file.version ≡ 2
 
 -- nothing was ever written there
 abbrev pub IsEmpty : Image → Type 0

@@ -15,6 +15,7 @@ mod HurtLives
 mod Reborn
 mod Upgrades
 mod Agains
+mod Copies
 mod Others
 mod KeptReads
 mod Alike

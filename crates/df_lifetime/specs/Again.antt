@@ -36,7 +36,7 @@ pub record IsSpared (file : DataFile) (log : Log) (older : List Log) (image : Im
 
 -- The life of a file so far: which file it is, its logs behind which each next one was begun, the newest first, and what the newest of all tells.
 pub data Again : DataFile → List Log → Told → Type 0 where
-  -- a life without damage, on a disk that was empty at first, or held what an upgrade leaves
+  -- a life without damage, on a disk that was empty at first, or held what an upgrade or a copy leaves
   Once : (file : DataFile) (first : View) (b : Told) (chapters : List Chapter) (life : Life file first b chapters) → BeginsHistory (shape file) (unit_at file.layout file.cluster (began_with file first b chapters life)) → Again file [] b
   -- then sectors were damaged, lost or swapped, or none were, and a word was run over what the disk showed, to its end or up to a moment. It wrote to the file, so its open began a log at its barrier; a word that
   -- wrote nothing leaves a file as it was

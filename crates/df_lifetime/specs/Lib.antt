@@ -7,3 +7,4 @@ pub mod Hurt
 pub mod Upgraded
 pub mod Printed
 pub mod Again
+pub mod Copied

@@ -9,6 +9,6 @@ mod reads;
 
 pub use again::a_damaged_life_goes_on;
 pub use hurt::{a_life_may_be_hurt, hurt_sessions_keep};
-pub use life::{an_upgrade_begins_a_life, sessions_compose};
+pub use life::{a_copy_begins_a_life, an_upgrade_begins_a_life, sessions_compose};
 pub use printed::{a_front_is_written, a_run_has_one_result, a_word_has_one_text};
 pub use reads::what_is_kept_is_read;

@@ -1,6 +1,7 @@
 // The laws by which sessions compose, and where a life begins.
 ghost use Rattle.df_lifetime.specs.Life.{EveryLifeGoesOn, EveryLifeIsInOrder, EveryWordGoesAlong};
 ghost use Rattle.df_lifetime.specs.Acknowledged.{AcknowledgedIsFound};
+ghost use Rattle.df_lifetime.specs.Copied.{CopiedBegins};
 ghost use Rattle.df_lifetime.specs.Upgraded.{DoneIsUpgraded, StoppedIsUpgraded, UpgradedBegins};
 ghost use Rattle.df_lifetime.specs.NewDisks.{NewDisksAreMadeOn};
 
@@ -22,4 +23,10 @@ pub fn an_upgrade_begins_a_life()
     ensures begins { UpgradedBegins }
     ensures done { DoneIsUpgraded }
     ensures stopped { StoppedIsUpgraded }
+{}
+
+/// And one begins where a file was copied to another layout, on a target on which nothing had been written; it may be damaged, too, before
+/// any number of opens.
+pub fn a_copy_begins_a_life()
+    ensures { CopiedBegins }
 {}

@@ -1,0 +1,62 @@
+-- A history begins at an image that holds a copy.
+use Rattle.std.proofs.Common.{◌≡◌, inl, inr, ℕ, ◌<◌, [], Some, None, sym, ◌∙◌, subst, arith}
+use Rattle.std.proofs.lemmas.Bool.{cases_lt}
+use Rattle.df_base.specs.Image.{Image}
+use Rattle.df_layout.specs.declared.layout.Layout.{Layout}
+use Rattle.df_theory.specs.Found.{IsClean}
+use Rattle.df_theory.specs.Holds.{Holds}
+use Rattle.df_theory.specs.Shape.{Shape}
+use Rattle.df_theory.specs.Units.{Content, CopyPlace, CopyUnit, PreparePlace, PrepareUnit, Units}
+use Rattle.df_theory.specs.View.{View}
+use Rattle.df_theory.proofs.Laws.{clean_start_law}
+use Rattle.df_history.specs.Lives.{Starts}
+use Rattle.df_trailer.specs.Text.{parse_of}
+use Rattle.df_units.specs.Bytes.{unit_at}
+use Rattle.df_units.specs.Meaning.{layout_of}
+use Rattle.df_units.proofs.Laws.{of_places}
+use Rattle.df_opening.specs.Below.{AreDistinct, DataFile, shape}
+use Rattle.df_opening.proofs.Laws.{clean_beyond}
+use Rattle.df_copy.specs.Lives.{CopiedBegins, MayGoOn}
+use Rattle.df_copy.specs.Views.{HoldsCopy, file_in}
+
+module _ (layout : Layout) (file : DataFile) (source : Image) (v : View) (target : Image) (copy : HoldsCopy layout file source v target) where
+  abbrev sh : Shape
+  sh = shape (file_in layout file)
+
+  abbrev image : Units
+  image = unit_at layout file.cluster target
+
+  abbrev u : View
+  u = copy.view
+
+  -- the four copies are equal, and there is no other one
+  pub clean : IsClean image u
+  clean n c is away = elim (cases_lt n 4) [
+    | inl inside ↦ inl (let both : Some (CopyUnit c) ≡ Some (CopyUnit u.checkpoint.content) = sym is ∙ copy.whole.copies n inside in cc)
+    | inr past ↦ clean_beyond (file_in layout file) target u n c past is away
+  ]
+
+  pub holds : Holds sh image u
+  holds = (clean_start_law sh image u (of_places layout file.cluster file.named (parse_of (layout_of layout)) target copy.image) copy.found clean).holds
+
+  pub starts : Starts image [] u
+  starts = record {
+    prepares = λ s p at. elim at [
+      | inl is ↦ absurd (let both : None ≡ Some (PrepareUnit p) = sym (copy.older.prepares s) ∙ is in cc)
+      | inr none ↦ absurd none
+    ];
+    replies = λ k r at. elim at [ inl is ↦ copy.older.replies k r is | inr none ↦ absurd none ];
+    copies = λ n c away at. elim at [ inl is ↦ clean n c is away | inr none ↦ absurd none ];
+    counted = copy.older.counted;
+  }
+
+  pub goes_on : AreDistinct image → MayGoOn (file_in layout file) u target
+  goes_on distinct = record {
+    version = copy.version;
+    begins = record { whole = copy.image; found = copy.found; clean = clean; distinct = distinct };
+    stands = copy.stands;
+    history = inr (u, holds, starts);
+  }
+
+pub copied_begins : CopiedBegins
+copied_begins layout file source v target copy distinct = goes_on layout file source v target copy distinct
