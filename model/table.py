@@ -3,7 +3,8 @@
     python3 model/table.py PATH-TO-objecttable [--seconds N] [--seed N] [--lines N]
 
 Random puts, drops and gets on `small`, on `large` and on small layouts, in sessions one after the other; stops at random device calls, within writes
-too, and calls that fail; files of other programs and damaged ones. Prints what was tried, or the first disagreement.
+too, and calls that fail; files of other programs and damaged ones. Behind each session and stop the lines that `rows.py` prints make the same
+table in a file of another layout; of a damaged file they are a part of a state that it had. Prints what was tried, or the first disagreement.
 """
 
 import sys
@@ -16,7 +17,7 @@ import time
 from collections import Counter
 from random import Random, SystemRandom
 
-from tries import arguments, form, objects, script, stops
+from tries import arguments, form, objects, remaking, script, stops
 from tries.binary import Binary, Disagreement, expect, has_strace, require
 from tries.common import Try, same_bytes
 from tries.form import Home, Layout
@@ -97,6 +98,7 @@ def long(t: Try, layout: Layout, count: int) -> None:
     ran = same(t, "a long session", data, text)
     expect("the text of a map", told, ran.text)
     expect("the table behind it", rows, objects.table_of(ran.data))
+    remaking.remade(t, "a long session", ran.data, rows)
     t.counts["lines against a plain map"] += count
 
 
@@ -112,6 +114,7 @@ def stopped(t: Try, layout: Layout, count: int, moments: int) -> None:
         kept = wanted.kept(upto)
         require(f"after {upto} events the table is one of {len(kept)}", table in kept)
         t.counts["stops that kept one more" if len(kept) > 1 and table == kept[1] else "stops that kept the answered ones"] += 1
+        remaking.remade(t, f"a stop after {upto} events", image, table)
         if t.random.random() < 0.2:
             same(t, f"the open behind a stop after {upto} events", image, lines(t, table, 3) + b"count\n")
 
@@ -134,6 +137,7 @@ def failing(t: Try, layout: Layout, count: int) -> None:
     table = objects.table_of(t.binary.get())
     maps = [rows for rows, _, _ in wanted.spans]
     require(f"the table has {answered} puts and drops, or one more", table in maps[answered : answered + 2])
+    remaking.remade(t, "a call that fails", t.binary.get(), table)
     t.counts[f"calls of {name} that failed"] += 1
 
 
@@ -153,6 +157,7 @@ def others(t: Try) -> None:
     if t.random.random() < 0.3:
         at = form.SECTOR * t.random.randrange(len(data) // form.SECTOR)
         data = script.state(data, [script.Event("write", at, b"\xa5" * form.SECTOR)])
+    remaking.opening(t, "a file of another program", data)
     ran = same(t, "a file of another program", data, b"count\nput 9 aa\nget 9\n")
     t.counts["openings: " + " ".join(ran.text.decode().split()[:3])] += 1
 
@@ -167,6 +172,8 @@ def attempt(t: Try, count: int) -> None:
         stopped(t, layout, t.random.randint(1, 120), 10)
     elif kind < 0.7 and has_strace():
         failing(t, layout, t.random.randint(1, 60))
+    elif kind < 0.85:
+        remaking.damaged(t, lines)
     else:
         others(t)
 
