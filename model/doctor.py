@@ -17,7 +17,8 @@ sys.dont_write_bytecode = True
 
 from doctor_case import UNKNOWN, copies_of, examine, looks, members_of
 from doctor_picture import draw
-from doctor_words import layout_text, look_lines, next_lines, place_lines, refusal_lines
+from doctor_table import advice, table_lines
+from doctor_words import layout_text, look_lines, place_lines, refusal_lines
 from reader_units import SECTOR, zones_of
 
 FIVE = "each word of the program answers status 5"
@@ -149,7 +150,8 @@ def report(case, path):
         lines.append(f"layout {layout_text(f)}, {end} bytes; cluster {f['Cluster']}, version {f['Version']}, boot {f['Boot']}; the superblock stands in copies "
                      f"{members}")
     lines += refusal_lines(case, file.sectors()) if case.refusal else state_lines(case) + found_lines(case)
-    return [*lines, *(f"next: {line}" for line in next_lines(case))], case.status()
+    lines += table_lines(case)
+    return [*lines, *(f"next: {line}" for line in advice(case))], case.status()
 
 
 def parts(file):

@@ -2,8 +2,10 @@
 without a trace. It reads by `reader.py`, and writes nothing."""
 
 from dataclasses import dataclass, field
+from functools import cached_property
 
 from reader import NUMBERS, choose, class_of_copy, content, find, is_copy, is_own
+from reader_table import table_in
 from reader_trailer import Refused, class_at, number
 from reader_units import (
     BLOCK, COPIES, HEADER, PREPARE, REPLY, RESERVED, SECTOR, TRAILER, bytes_at, header_of, shown, zones_of,
@@ -38,11 +40,21 @@ class Case:
         """The superblock's fields, where there is one that can be used."""
         return self.state.get("fields")
 
+    @cached_property
+    def table(self):
+        """The table that is in it, as far as it can be read; None where nothing in it is a row, a put or a drop."""
+        table = table_in(self.file, self.state, self.refusal) if self.fields else None
+        return table if table and table.is_one() else None
+
+    def is_closed(self):
+        """Whether it is a table's, and another program wrote what no table has."""
+        return not self.refusal and self.table is not None and self.table.was_closed()
+
     def verdict(self):
         if self.refusal:
             return f"refused: {self.refusal}"
-        first = "would be mended" if self.mends else "opens" if self.failing or self.lost else "sound"
-        return first + (", with losses" if self.failing or self.lost else "")
+        first = "would be mended" if self.mends else "opens" if self.failing or self.lost or self.is_closed() else "sound"
+        return first + (", with losses" if self.failing or self.lost else "") + (", and its table is closed" if self.is_closed() else "")
 
     def status(self):
         return 2 if self.refusal else int(self.verdict() != "sound")

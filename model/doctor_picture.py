@@ -4,6 +4,7 @@ import os
 from html import escape
 
 from doctor_case import begun_blocks, cases_by_copy, copies_of, free_blocks, members_of, slot_case
+from doctor_table import table_title
 from reader import class_of_copy, rings_of
 from reader_trailer import class_at
 from reader_units import SECTOR, zones_of
@@ -247,6 +248,7 @@ def picture(case, name):
     out += [text(EDGE, top + 14 * number + 10, words, 11, RED) for number, words in enumerate(listed)]
     title = f"cluster {f['Cluster']}, sequence {f['Sequence']}, checkpoint {f['Op']}, " + (
         f"head {state['head']}, replies {state['stored']}" if not by.refusal else "not opened")
+    title += f"; {table_title(by.table)}" if by.table else ""
     title += "" if by is case else ", were a single copy enough"
     out += [text(EDGE, 26, f"{name}: {case.verdict()}", 16, RED if case.status() else INK), text(EDGE, 46, title, 12)]
     return framed(out, top + 14 * len(listed) + 20)

@@ -1,6 +1,7 @@
 """The table of a data file, for `rows.py` and the doctor, written from docs/OBJECTTABLE.md: its rows, what can't be read of them, and what
 another program wrote. It shares nothing with the model beside it. Of a file that an open refuses it reads what can be read."""
 
+from collections import Counter
 from dataclasses import dataclass, field
 
 from reader import is_cut, is_over, later_of, rings_of
@@ -21,6 +22,8 @@ class Table:
     stored: int = 0
     puts: int = 0
     drops: int = 0
+    # How many of these stand before the first prepare that is neither.
+    front: int = 0
     # What can't be read, and what another program wrote: places with texts. The first of all that keeps `objecttable` from opening it.
     missing: list = field(default_factory=list)
     foreign: list = field(default_factory=list)
@@ -33,6 +36,10 @@ class Table:
     def is_one(self):
         """Whether anything in it was written by a table."""
         return bool(self.stored or self.puts or self.drops or self.later)
+
+    def was_closed(self):
+        """Whether a table wrote it, and another program wrote behind it what no table has."""
+        return self.closed.startswith("NotTable") and bool(self.stored or self.front)
 
     def lacks(self, place, name, text):
         self.missing.append((f"{place} {name}", text))
@@ -134,14 +141,13 @@ def take_block(file, table, number, address, checksum):
         table.has_foreign(place, f"a block of kind {one['block_kind']} that isn't whole rows")
         return None
     table.boots.add(one["boot"])
-    if number >= blocks_of_table(f):
-        table.closed = table.closed or f"NotTable {place}"
+    twice = [key for key, _ in rows if key in table.rows] + [key for key, count in Counter(key for key, _ in rows).items() if count > 1]
+    if twice:
+        table.has_foreign(place, f"the key {twice[0]} stands here, and before it, too")
     for key, value in rows:
-        if key in table.rows:
-            table.has_foreign(place, f"its key {key} stands in an earlier block, too")
-        elif len(table.rows) >= most_rows(f):
-            table.closed = table.closed or f"NotTable {place}"
         table.rows.setdefault(key, value)
+    if number >= blocks_of_table(f) or len(table.rows) > most_rows(f):
+        table.has_foreign(place, "with it there are more blocks or rows than a table of this layout has")
     return (rows[0][0], rows[-1][0]) if rows else None
 
 
@@ -247,13 +253,14 @@ def change(table, one, found):
         table.has_foreign(f"WalPrepares {slot}", f"op {one['op']} of client {one['client']}, which is no put and no drop of a table")
         return
     key, value = found
+    table.front += not any(place.startswith("WalPrepares") for place, _ in table.foreign)
     if value is None:
         table.drops += 1
         table.rows.pop(key, None)
         return
     table.puts += 1
     if key not in table.rows and len(table.rows) >= most_rows(table.fields):
-        table.closed = table.closed or f"NotTable WalPrepares {slot}"
+        table.has_foreign(f"WalPrepares {slot}", f"op {one['op']} puts a row more than a table of this layout has")
     table.rows[key] = value
 
 

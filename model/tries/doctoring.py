@@ -10,7 +10,7 @@ import doctor as told
 from doctor_case import examine
 from doctor_picture import picture
 
-from . import form, generate, hurt, reading, recovery, reporting, rows, script
+from . import form, generate, hurt, objects, reading, recovery, reporting, rows, script
 from .binary import expect, require
 from .common import Try
 from .forge import put
@@ -32,10 +32,23 @@ def of_garbage(t: Try) -> bytes:
     return t.random.choice((t.random.randbytes(size), bytes(size), (b"append 1 1 -\n" * 2400)[:size]))
 
 
+def of_table(t: Try) -> bytes:
+    """A table's file, to which another program perhaps wrote, and of which a sector is perhaps hurt."""
+    random, layout = t.random, t.random.choice((form.SMALL, form.Layout(16, 4096, 1, 4096, 8)))
+    keys = [b"put %d aa" % random.randrange(50) for _ in range(random.randrange(60))] + [b"drop %d" % random.randrange(50)]
+    data = objects.run(script.fresh(form.Home(layout, 7)), b"\n".join(keys)).data
+    other = random.choice((b"", b"", b"", b"append 5 1 -", b"checkpoint -\nstep\nstep", b"block 1 00\ncheckpoint -\nstep\nstep"))
+    data = script.run(data, other).data if other else data
+    if random.random() < 0.3:
+        at = SECTOR * random.randrange(len(data) // SECTOR)
+        data = script.state(data, [script.Event("write", at, b"\xa5" * SECTOR)])
+    return data
+
+
 MAKERS = {
     "tied": reading.tied, "struck": reading.struck, "forged": reading.forged, "rewritten": reading.rewritten,
     "reported": reporting.file_for, "hurt": lambda t: hurt.damage(t, hurt.history(t))[0],
-    "with older copies": older, "of a worked row": lambda t: t.random.choice(rows.listed())[0] or b"", "of garbage": of_garbage,
+    "with older copies": older, "of a table": of_table, "of a worked row": lambda t: t.random.choice(rows.listed())[0] or b"", "of garbage": of_garbage,
 }
 
 
@@ -81,6 +94,7 @@ def doctor(t: Try) -> None:
         expect("sessions and what is mended", only(printed, "session", "mend"), only(lines, "session", "mend"))
         expect("whether something is mended", answer.status == 1, bool(case.mends))
         scrubbed(t, lines, status, case)
+        tabled(data, lines, case)
     t.counts[f"files {name}: " + (" ".join(lines[0].split()[:2]) if case.refusal else lines[0])] += 1
 
 
@@ -90,7 +104,25 @@ def scrubbed(t: Try, lines: list, status: int, case) -> None:
         toured = t.binary.run(words=["scrub"]).text.decode().splitlines()
         expect("failing blocks", [*only(toured, "failing"), f"tour {case.checked} {len(case.failing)}"],
                [*only(lines, "failing"), toured[-1]])
-    expect("the doctor's status", int(bool(case.mends or case.failing or case.lost)), status)
+    expect("the doctor's status", int(bool(case.mends or case.failing or case.lost or case.is_closed())), status)
+
+
+def tabled(data: bytes, lines: list, case) -> None:
+    """What it says of a table is the model's."""
+    table, wanted = case.table, objects.table_of(data)
+    if table is None:
+        require(f"a table with rows is told of, and not {len(wanted)} rows", isinstance(wanted, str) or not wanted)
+        return
+    expect("why it is no table", wanted if isinstance(wanted, str) else "", table.closed)
+    expect("the verdict on it", table.closed.startswith("NotTable") and bool(table.stored or table.front), "its table is closed" in lines[0])
+    if isinstance(wanted, dict):
+        found = recovery.found(data).view
+        commands = [objects.command_in(one.body)[0] for one in found.tail]
+        told_of = [line for line in lines if line.startswith("table: ")][0]
+        expect("its rows", wanted, table.rows)
+        require(f"the rows and the ring are told: {told_of}", told_of.startswith(f"table: {len(wanted)} row"))
+        expect("its puts and drops", (commands.count("put"), commands.count("drop")), (table.puts, table.drops))
+
 
 
 def taken_back(t: Try) -> None:
