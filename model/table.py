@@ -102,6 +102,17 @@ def long(t: Try, layout: Layout, count: int) -> None:
     t.counts["lines against a plain map"] += count
 
 
+def greatest(t: Try) -> None:
+    """The greatest table of 64 small blocks, to a ring of 32 slots and back: the same table, and the same lines."""
+    one, two = Layout(16, 4096, 1, 4096, 64), Layout(32, 4096, 1, 4096, 64)
+    rows = {key: t.random.randbytes(t.random.randint(0, 47)) for key in t.random.sample(range(2**64), objects.most_rows(one))}
+    data = b"".join(b"put %d %s\n" % (key, value.hex().encode() or b"-") for key, value in rows.items())
+    for layout in (one, two, one):
+        data = remaking.filled(t, f"the greatest table of {layout.word()}", layout, data, len(rows))
+    expect("its lines", remaking.spelled(rows), data.decode().splitlines())
+    t.counts["greatest tables, there and back"] += 1
+
+
 def stopped(t: Try, layout: Layout, count: int, moments: int) -> None:
     """Stops of one session at random moments: the next open finds the table with all that was answered, or one more."""
     home, data = Home(layout, 7), None
@@ -192,6 +203,7 @@ def main() -> int:
     with tempfile.TemporaryDirectory() as folder:
         binary = Binary(given.program, folder)
         try:
+            greatest(Try(Random(f"{seed} greatest"), binary, counts))
             for layout in (form.SMALL, form.LARGE):
                 t = Try(Random(f"{seed} {layout}"), binary, counts)
                 long(t, layout, given.lines)

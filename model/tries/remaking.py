@@ -51,20 +51,24 @@ def remade(t: Try, what: str, data: bytes, rows: dict) -> None:
 
 def made_of(t: Try, what: str, rows: dict) -> None:
     """The program makes the table of these lines in a file of another layout, and of that the tool prints them again."""
-    fit = [layout for layout in LAYOUTS if objects.most_rows(layout) >= len(rows)]
-    if not fit:
-        fit = [form.LARGE]
-    layout = t.random.choice(fit)
-    lines = spelled(rows)
-    t.binary.put(script.fresh(Home(layout, t.random.randint(1, 9))))
-    got = t.binary.run("".join(f"{line}\n" for line in lines).encode(), ("table",))
-    expect(f"{what}: what the new file answers", "".join(f"put {op}\n" for op in range(1, len(rows) + 1)).encode(), got.text)
-    expect(f"{what}: its status", 0, got.status)
-    expect(f"{what}: the lines of the new file", (lines, [], told.DONE), asked(t))
+    layout = t.random.choice([layout for layout in LAYOUTS if objects.most_rows(layout) >= len(rows)] or [form.LARGE])
+    text = "".join(f"{line}\n" for line in spelled(rows)).encode()
+    expect(f"{what}: the lines of the new file", text, filled(t, what, layout, text, len(rows)))
     if layout != form.LARGE:
         expect(f"{what}: its table", rows, objects.table_of(t.binary.get()))
     t.counts["tables remade in another layout"] += 1
     t.counts["rows of these"] += len(rows)
+
+
+def filled(t: Try, what: str, layout: Layout, text: bytes, count: int) -> bytes:
+    """So many new rows are put into a new file, each of which is accepted; gives what the tool prints of it."""
+    t.binary.put(script.fresh(Home(layout, t.random.randint(1, 9))))
+    got = t.binary.run(text, ("table",))
+    expect(f"{what}: what the new file answers", "".join(f"put {op}\n" for op in range(1, count + 1)).encode(), got.text)
+    expect(f"{what}: its status", 0, got.status)
+    lines, words, status = asked(t)
+    expect(f"{what}: nothing is wanting", ([], told.DONE), (words, status))
+    return "".join(f"{line}\n" for line in lines).encode()
 
 
 def opening(t: Try, what: str, data: bytes) -> None:
