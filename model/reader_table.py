@@ -9,6 +9,8 @@ from reader_trailer import class_at, number
 from reader_units import BLOCK, HEADER, shown
 
 CLIENT, KEY, LONGEST, ROW, MOST = 1, 16, 47, 64, 65_536
+# In place of a change: its prepare isn't shown any more.
+UNREAD = "unread"
 
 
 @dataclass
@@ -99,16 +101,25 @@ def table_in(file, state, refusal, past=False):
             table.has_foreign(f"ClientReplies {place}", f"a session of client {client}")
     read_blocks(file, state, table, refusal)
     run, lacking, later = log_of(state)
-    for one in run:
-        change(table, one, read_change(file, table, one))
-    table.op = table.fields["Op"] + len(run)
-    tell_lacking(state, table, lacking)
+    found = [read_change(file, table, one) for one in run]
+    # A prepare that was shown a moment ago, and isn't now, is missing with what follows it.
+    whole = found.index(UNREAD) if UNREAD in found else len(run)
+    for one, changed in zip(run[:whole], found):
+        change(table, one, changed)
+    table.op = table.fields["Op"] + whole
+    tell_lacking(state, table, [one["op"] for one, changed in zip(run, found) if changed == UNREAD] + lacking)
+    read_later(file, table, run[whole:] + later, past)
+    return table
+
+
+def read_later(file, table, later, past):
+    """Takes down what can be read behind a missing op, and lets it change the rows if it is to."""
     for one in later:
         found = read_change(file, table, one)
-        table.later += [(one["op"], found)] if found else []
-        if past or not found:
+        if found and found != UNREAD:
+            table.later.append((one["op"], found))
+        if found != UNREAD and (past or not found):
             change(table, one, found)
-    return table
 
 
 def read_blocks(file, state, table, refusal):
@@ -163,11 +174,10 @@ def other_program(file, state, table):
     """Why the checkpoint seems to be another program's than the table's, which writes a root of no bytes, all its blocks in the boot of
     the trailer, and a checkpoint as its ring is full; nothing where it doesn't."""
     f, chain = table.fields, state["chain"]
-    if not chain:
+    last = shown(file, f, "Grid", chain[-1][0]) if chain else ""
+    if isinstance(last, str) or (state["references"] and not table.boots):
         return ""
-    last = shown(file, f, "Grid", chain[-1][0])
-    sound = not isinstance(last, str) and not state["root"]
-    if sound and (table.boots == {last["boot"]} if table.boots else f["Op"] % f["Slots"] == 0):
+    if not state["root"] and (table.boots == {last["boot"]} if table.boots else f["Op"] % f["Slots"] == 0):
         return ""
     return ("another program than the table made it, or the file was copied to this layout: puts and drops that stood in the ring alone then "
             "are gone")
@@ -239,11 +249,11 @@ def log_of(state):
 
 
 def read_change(file, table, one):
-    """The put or the drop that a prepare is; None where it is another one's."""
+    """The put or the drop that a prepare is; None where it is another one's, `UNREAD` where it isn't shown any more."""
     if one["client"] != CLIENT or one["size"] > HEADER + 1 + KEY + LONGEST:
         return None
     seen = shown(file, table.fields, "WalPrepares", one["op"] % table.fields["Slots"])
-    return None if isinstance(seen, str) or seen["checksum"] != one["checksum"] else change_in(seen["body"])
+    return UNREAD if isinstance(seen, str) or seen["checksum"] != one["checksum"] else change_in(seen["body"])
 
 
 def change(table, one, found):
