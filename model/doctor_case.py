@@ -5,7 +5,7 @@ from dataclasses import dataclass, field
 from functools import cached_property
 
 from reader import NUMBERS, choose, class_of_copy, content, find, is_copy, is_own
-from reader_table import table_in
+from reader_table import greatest_blocks, table_in
 from reader_trailer import Refused, class_at, number
 from reader_units import (
     BLOCK, COPIES, HEADER, PREPARE, REPLY, RESERVED, SECTOR, TRAILER, bytes_at, header_of, shown, zones_of,
@@ -13,6 +13,8 @@ from reader_units import (
 
 # What a sector is that looks like no part of a data file.
 UNKNOWN = "sectors of something else"
+# Where there are so many blocks more than the greatest table has no table is looked for.
+OTHERS = 16
 NO_SESSION = ("no session has this place, and yet something stands here: the append and the reply of a new client may have been "
               "acknowledged and be lost")
 
@@ -43,8 +45,10 @@ class Case:
     @cached_property
     def table(self):
         """The table that is in it, as far as it can be read; None where nothing in it is a row, a put or a drop."""
-        table = table_in(self.file, self.state, self.refusal) if self.fields else None
-        return table if table and table.is_one() else None
+        if not self.fields or len(self.state.get("references", ())) > greatest_blocks(self.fields) + OTHERS:
+            return None
+        table = table_in(self.file, self.state, self.refusal)
+        return table if table.is_one() else None
 
     def is_closed(self):
         """Whether it is a table's, and another program wrote what no table has."""

@@ -65,6 +65,11 @@ def most_rows(f):
     return min(MOST, rows_in_block(f) * blocks_of_table(f))
 
 
+def greatest_blocks(f):
+    """How many blocks the greatest table of the layout has, as a table writes it."""
+    return -(-most_rows(f) // rows_in_block(f))
+
+
 def rows_in(body):
     """The rows that the body of a block is; None where it isn't whole rows."""
     if len(body) % ROW:
