@@ -28,8 +28,8 @@ def table_lines(case):
     lines = [f"table: {counted(len(table.rows), 'row')}, as of op {table.op}; the blocks have {table.stored}, as of op {table.fields['Op']}, and "
              f"{changes(table)} stand in the ring alone"]
     if table.puts or table.drops:
-        lines.append(f"table: no checkpoint by `datafile` here, and so no `paced`, no `workload` and no `filecopy`: it would drop {changes(table)} that "
-                     "were acknowledged, and no block has them")
+        lines.append(f"table: no checkpoint by `datafile` here (`checkpoint`, `paced`, `workload`), not for a `filecopy` either: it would lose "
+                     f"{changes(table)} that were acknowledged, since no block has them")
     if table.closed:
         lines.append(f"table: `objecttable` answers `refused {table.closed}`")
     return lines + [f"table: {place}: {text}" for place, text in table.foreign]
