@@ -20,7 +20,7 @@ from doctor import Bytes
 from doctor_case import Under, copies_of, lost_appends
 from reader import find, is_copy, rank
 from reader_table import line_of, table_in
-from reader_trailer import Refused
+from reader_trailer import Refused, class_at
 from reader_units import SECTOR
 
 DONE, MISSING, WORDS, REFUSED, DISK, WRITE = 0, 1, 2, 4, 5, 7
@@ -92,7 +92,7 @@ def table_of(file, past=False):
         raise Refused(refusal)
     table = table_in(file, state, refusal, past)
     if "head" in state and not table.missing:
-        table.missing += [(f"{zone} {slot}", text) for zone, slot, text in lost_appends(state)]
+        table.missing += [(f"{zone} {slot} {class_at(state['prepares'][slot])}", text) for zone, slot, text in lost_appends(state)]
     return table, refusal
 
 
@@ -106,6 +106,7 @@ def told(file, past=False):
         return [], ["no table: nothing in it is a row, a put or a drop", *said(table)], REFUSED
     lines = [line_of(key, value) for key, value in sorted(table.rows.items())]
     words = [f"note an open answers `refused {refusal}`"] if refusal else []
+    words += ["note it is of version 1: `datafile FILE upgrade` makes it one that opens"] if table.fields["Version"] == 1 else []
     words += [f"note `objecttable` answers `refused {table.closed}`"] if table.closed and not refusal else []
     words += said(table)
     words += [] if past else [f"later op {op}: {line_of(*change)}" for op, change in table.later]
