@@ -5,6 +5,7 @@ from collections import Counter
 from dataclasses import dataclass, field
 
 from reader import is_cut, is_over, later_of, rings_of
+from reader_lost import references_again
 from reader_trailer import class_at, number
 from reader_units import BLOCK, HEADER, shown
 
@@ -32,6 +33,8 @@ class Table:
     closed: str = ""
     # The puts and drops that can be read behind the first one that is missing: ops with these.
     later: list = field(default_factory=list)
+    # What is worth a word, and lacks nothing.
+    notes: list = field(default_factory=list)
     # The boots of the blocks of rows.
     boots: set = field(default_factory=set)
 
@@ -101,6 +104,11 @@ def table_in(file, state, refusal, past=False):
     if "headers" not in state:
         state = {**state, **rings_of(file, state["fields"], bodies=False)}
     table = Table(state["fields"])
+    again = None if "references" in state else references_again(file, state)
+    if again is not None:
+        state = {**state, "references": again, "chain": [], "root": b""}
+        table.notes.append(f"{refusal}: this block, the trailer of the checkpoint, was made again from the blocks of rows, and has the checksum that "
+                           "the superblock names: it lacks nothing")
     for place, client in enumerate(state.get("sessions", state.get("known", {}))):
         if client != CLIENT:
             table.has_foreign(f"ClientReplies {place}", f"a session of client {client}")

@@ -108,7 +108,7 @@ def told(file, past=False):
     words = [f"note an open answers `refused {refusal}`"] if refusal else []
     words += ["note it is of version 1: `datafile FILE upgrade` makes it one that opens"] if table.fields["Version"] == 1 else []
     words += [f"note `objecttable` answers `refused {table.closed}`"] if table.closed and not refusal else []
-    words += said(table)
+    words += [f"note {note}" for note in table.notes] + said(table)
     words += [] if past else [f"later op {op}: {line_of(*change)}" for op, change in table.later]
     lacking = bool(table.missing or table.foreign)
     if lacking:

@@ -134,12 +134,14 @@ def damaged(t: Try, lines) -> None:
         named = refusal.removeprefix("Damaged ")
         require(f"{what}: `{named}` is told, and not {words}", any(named in line for line in words))
     wanted = readable(machine, files[-1], image)
-    if wanted is not None:
+    if wanted is not None and (wanted[3] or any("made again" in line for line in words)):
         expect(f"{what}: what is printed", spelled(wanted[0]), lines)
-        t.counts["damaged files whose readable rows are known"] += 1
+        t.counts["damaged files whose readable rows are known" if wanted[3] else "trailers made again"] += 1
         if wanted[2] == 1:
             expect(f"{what}: what is printed with --past", spelled(wanted[1]), asked(t, True)[0])
             t.counts["damaged files with one op missing"] += 1
+    elif wanted is not None:
+        t.counts["trailers lost"] += 1
     t.counts[f"damaged files that rows.py ended with {status}"] += 1
     if lines and t.random.random() < 0.1:
         made_of(t, what, rows)
@@ -161,8 +163,8 @@ def chosen(t: Try, machine: Machine) -> list:
 
 
 def readable(machine: Machine, before: bytes, image: bytes) -> Optional[tuple]:
-    """The rows that can be read of a damaged file, by what it had: up to the first op that is lost, and all; and how many are lost. None where
-    the superblock is lost or an older one, or a block of the trailer is lost."""
+    """The rows that can be read of a damaged file, by what it had: up to the first op that is lost, and all; how many are lost; and whether each
+    block of the trailer is shown. None where the superblock is lost or an older one."""
     layout, home = machine.layout, machine.home
     whole, found = superblock.opened(before), superblock.opened(image)
     if found.refusal or found.content != whole.content:
@@ -171,8 +173,7 @@ def readable(machine: Machine, before: bytes, image: bytes) -> Optional[tuple]:
     def at(place: Place, kind: int, checksum: bytes) -> Optional[units.Unit]:
         one = units.shown(image, home, place)
         return one if units.known(one, kind, checksum) else None
-    if not all(at(Place(GRID, address), units.TRAILER, checksum) for address, checksum in machine.durable.chain):
-        return None
+    chained = all(at(Place(GRID, address), units.TRAILER, checksum) for address, checksum in machine.durable.chain)
     rows: dict = {}
     for address in sorted(machine.live):
         one = at(Place(GRID, address), BLOCK, machine.live[address])
@@ -183,4 +184,4 @@ def readable(machine: Machine, before: bytes, image: bytes) -> Optional[tuple]:
         lost += seen is None
         for each in ([rows, past] if not lost else [past]) if seen else []:
             objects.apply(each, objects.command_in(seen.body))
-    return rows, past, lost
+    return rows, past, lost, chained
