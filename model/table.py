@@ -185,6 +185,7 @@ def attempt(t: Try, count: int) -> None:
         failing(t, layout, t.random.randint(1, 60))
     elif kind < 0.85:
         remaking.damaged(t, lines)
+        remaking.old(t)
     else:
         others(t)
 

@@ -98,6 +98,26 @@ def history(t: Try, lines, layout: Layout) -> tuple:
     return files, maps
 
 
+def old(t: Try) -> None:
+    """A file of version 1, whose table stands in its ring."""
+    home, keys = Home(t.random.choice((form.SMALL, Layout(16, 4096, 1, 4096, 8))), 7), range(1, t.random.randint(2, 6))
+    rows, parent, slots = {}, units.NO_BYTES, [units.seal(units.fields_of(home, units.RESERVED, slot=slot)) for slot in range(home.layout.slots)]
+    events = [script.Event("write", SECTOR * place, superblock.first(home)._replace(version=1).encode(place)) for place in range(form.COPIES)]
+    for op in range(1, t.random.randint(1, 12)):
+        command = t.random.choice((("put", t.random.choice(keys), t.random.randbytes(t.random.randrange(4))), ("drop", t.random.choice(keys))))
+        body = objects.body_of(command)
+        one = units.seal(units.fields_of(home, PREPARE, body, parent=parent, client=form.number(1), op=op, request=op, mark=op - 1, checkpoint=1,
+                                         slot=op), body)
+        objects.apply(rows, command)
+        parent, slots[op] = one[:16], one[: form.HEADER]
+        events.append(script.Event("write", home.layout.place(op), form.whole_sectors(one)))
+    t.binary.put(script.state(b"", [*events, script.Event("write", SECTOR * form.COPIES, b"".join(slots))]))
+    lines, words, status = asked(t)
+    expect("the lines of a file of version 1", (spelled(rows), told.DONE), (lines, status))
+    require("its version is told", any("version 1" in line for line in words))
+    t.counts["files of version 1"] += 1
+
+
 def damaged(t: Try, lines) -> None:
     """A table's file with some sectors hurt."""
     layout = t.random.choice((Layout(16, 4096, 1, 4096, 8), Layout(16, 4096, 1, 4096, 16), form.SMALL))
@@ -133,6 +153,7 @@ def damaged(t: Try, lines) -> None:
     if isinstance(refusal, str):
         named = refusal.removeprefix("Damaged ")
         require(f"{what}: `{named}` is told, and not {words}", any(named in line for line in words))
+        require(f"{what}: an older superblock is missing something", not named.startswith("Superblock") or status == told.MISSING)
     wanted = readable(machine, files[-1], image)
     if wanted is not None and (wanted[3] or any("made again" in line for line in words)):
         expect(f"{what}: what is printed", spelled(wanted[0]), lines)
