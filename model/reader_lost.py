@@ -1,7 +1,8 @@
-"""A table's checkpoint of which the trailer's one block is lost: what that said follows from the blocks of rows that it referenced, and the
-superblock has its checksum, so that a guess is known to be right."""
+"""What the superblock of a table's file lost. Of a checkpoint whose trailer is gone what that said follows from the blocks of rows that it
+referenced, and the superblock has its checksum, so that a guess is known to be right. And of a superblock that is an older one, the latest
+checkpoint whose trailer stands in the grid."""
 
-from reader_trailer import Refused, number, parts_of
+from reader_trailer import TOP, Refused, chain_of, number, parts_of
 from reader_units import BLOCK, HEADER, TRAILER, bytes_at, checksum, header_of, shown, zones_of
 
 CLIENT = 1
@@ -29,18 +30,46 @@ def guesses(file, f, count):
     last = f["TrailerAddress"]
     if last > count:
         yield range(last - count, last)
-    for address in range(1, f["Blocks"] + 1):
-        header, _ = header_of(bytes_at(file, zones_of(f)["Grid"].at(address), HEADER))
-        if not header or header["kind"] != TRAILER or header["checkpoint"] + 1 != f["Sequence"]:
-            continue
-        one = shown(file, f, "Grid", address)
+    for address, one in trailers_of(file, f, f["Sequence"] - 1):
         try:
-            held = {address} if isinstance(one, str) else {address, *parts_of(one["body"], f)[2]}
+            held = {address, *parts_of(one["body"], f)[2]}
         except Refused:
             continue
         free = [other for other in range(1, f["Blocks"] + 1) if other not in held][: count + 1]
         if free[count:] == [last]:
             yield free[:count]
+
+
+def trailers_of(file, f, sequence):
+    """The trailer blocks of this sequence that stand in the grid, each with its address."""
+    for address in range(1, f["Blocks"] + 1):
+        one, _ = header_of(bytes_at(file, zones_of(f)["Grid"].at(address), HEADER))
+        if one and one["kind"] == TRAILER and one["checkpoint"] == sequence:
+            seen = shown(file, f, "Grid", address)
+            if not isinstance(seen, str):
+                yield address, seen
+
+
+def latest_state(file, state):
+    """The state by the latest checkpoint that some unit of the rings or some reply is of, and so was durable, where its trailer is in the grid, whole;
+    None where it isn't, or is the superblock's own."""
+    f = state["fields"]
+    units = [one for ring in ("headers", "prepares", "places") for one in state[ring] if not isinstance(one, str)]
+    sequence = max(one["checkpoint"] for one in units)
+    for address, last in trailers_of(file, f, sequence) if sequence > f["Sequence"] else ():
+        named = {"Sequence": sequence, "TrailerAddress": address, "TrailerChecksum": number(last["checksum"], 0, 16),
+                 "TrailerSize": last["mark"] * (f["BlockSize"] - HEADER) + len(last["body"])}
+        try:
+            text, chain = chain_of(lambda there: shown(file, f, "Grid", there), {**f, **named})
+            root, sessions, references = parts_of(text, {**f, "Op": TOP})
+        except Refused:
+            continue
+        op = max((one["op"] for one in sessions.values()), default=0)
+        behind = state["prepares"][(op + 1) % f["Slots"]]
+        before = 0 if isinstance(behind, str) else behind["parent"]
+        fields = {**f, **named, "Op": op, "OpChecksum": before, "Pin": op, "PinChecksum": before, "Head": op}
+        return {**state, "fields": fields, "root": root, "known": sessions, "references": references, "chain": chain}
+    return None
 
 
 def is_named(state, blocks, bits):

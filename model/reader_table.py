@@ -5,7 +5,7 @@ from collections import Counter
 from dataclasses import dataclass, field
 
 from reader import is_cut, is_over, later_of, rings_of
-from reader_lost import references_again
+from reader_lost import latest_state, references_again
 from reader_trailer import class_at, number
 from reader_units import BLOCK, HEADER, shown
 
@@ -104,6 +104,8 @@ def table_in(file, state, refusal, past=False):
     if "headers" not in state:
         state = {**state, **rings_of(file, state["fields"], bodies=False)}
     table = Table(state["fields"])
+    if later_of(state):
+        state = older(file, state, table)
     again = None if "references" in state else references_again(file, state)
     if again is not None:
         state = {**state, "references": again, "chain": [], "root": b""}
@@ -120,7 +122,7 @@ def table_in(file, state, refusal, past=False):
     for one, changed in zip(run[:whole], found):
         change(table, one, changed)
     table.op = table.fields["Op"] + whole
-    tell_lacking(state, table, [one["op"] for one, changed in zip(run, found) if changed == UNREAD] + lacking)
+    tell_lacking(table, state["prepares"], [one["op"] for one, changed in zip(run, found) if changed == UNREAD] + lacking)
     read_later(file, table, run[whole:] + later, past)
     return table
 
@@ -287,15 +289,21 @@ def change(table, one, found):
     table.rows[key] = value
 
 
-def tell_lacking(state, table, lacking):
+def older(file, state, table):
+    """The state of a file whose superblock is an older one: by a later checkpoint, where that is there."""
+    f, found = table.fields, latest_state(file, state)
+    by = f"; read by the later checkpoint of sequence {found['fields']['Sequence']} that stands in the grid" if found else ""
+    table.missing.append((f"Superblock {f['Copy']} Stale", f"the superblock is an older one, of sequence {f['Sequence']} and boot {f['Boot']}{by}: what "
+                                                           "was put and dropped since may be missing"))
+    table.fields = (found or state)["fields"]
+    return found or state
+
+
+def tell_lacking(table, prepares, lacking):
     """Names the ops that are missing."""
-    f = table.fields
-    if later_of(state):
-        table.missing.append((f"Superblock {f['Copy']} Stale", f"the superblock is an older one, of sequence {f['Sequence']} and boot {f['Boot']}: what was put and "
-                                                  "dropped since"))
     for op in lacking:
         if isinstance(op, range):
             table.missing.append((f"WalPrepares ops {op[0]} to {op[-1]}", "the puts and drops of these ops, whose slots have later ones"))
         else:
-            slot = op % f["Slots"]
-            table.missing.append((f"WalPrepares {slot} {class_at(state['prepares'][slot])}", f"the put or the drop of op {op}"))
+            slot = op % table.fields["Slots"]
+            table.missing.append((f"WalPrepares {slot} {class_at(prepares[slot])}", f"the put or the drop of op {op}"))

@@ -163,6 +163,8 @@ def damaged(t: Try, lines) -> None:
             t.counts["damaged files with one op missing"] += 1
     elif wanted is not None:
         t.counts["trailers lost"] += 1
+    if any("read by the later checkpoint" in line for line in words):
+        t.counts["older superblocks, with all rows printed" if rows == maps[-1] else "older superblocks, with some rows printed"] += 1
     t.counts[f"damaged files that rows.py ended with {status}"] += 1
     if lines and t.random.random() < 0.1:
         made_of(t, what, rows)
