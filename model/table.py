@@ -105,7 +105,7 @@ def long(t: Try, layout: Layout, count: int) -> None:
 def greatest(t: Try) -> None:
     """The greatest table of 64 small blocks, to a ring of 32 slots and back: the same table, and the same lines."""
     one, two = Layout(16, 4096, 1, 4096, 64), Layout(32, 4096, 1, 4096, 64)
-    rows = {key: t.random.randbytes(t.random.randint(0, 47)) for key in t.random.sample(range(2**64), objects.most_rows(one))}
+    rows = {key: t.random.randbytes(t.random.randint(0, 47)) for key in t.random.sample(range(2**62), objects.most_rows(one))}
     data = b"".join(b"put %d %s\n" % (key, value.hex().encode() or b"-") for key, value in rows.items())
     for layout in (one, two, one):
         data = remaking.filled(t, f"the greatest table of {layout.word()}", layout, data, len(rows))
