@@ -98,8 +98,7 @@ def main() -> None:
         shutil.copytree(crate / "src", copy / "src")
         shutil.copytree(crate / "specs", copy / "specs")
         (pathlib.Path(folder) / "crates.txt").write_text("df_freeset:\n", encoding="utf-8")
-        for name in ("lib.rt", "tests.rt"):
-            (copy / "src" / name).unlink()
+        (copy / "src" / "lib.rt").unlink()
         patched(copy / "src" / "bits.rt", BITS)
         patched(copy / "src" / "set.rt", SET)
         (copy / "src" / "main.rt").write_text(MAIN, encoding="utf-8")
