@@ -4,7 +4,8 @@
     python3 model/doctor.py FILE [--picture OUT.svg]
 
 The first line is the verdict: `sound`, `would be mended` or `opens`, each perhaps `, with losses`, `refused: WORDS`, or
-`no data file`. Status 0 is sound; 1, something is to be mended or lost; 2, refused or no data file. See docs/OPERATING.md.
+`no data file`. Status 0 is sound; 1, something is to be mended or lost; 2, refused or no data file; 3, the words have no meaning, the
+file couldn't be read to its end, or what is told couldn't be written. See docs/OPERATING.md.
 """
 
 import argparse
@@ -16,7 +17,8 @@ import sys
 sys.dont_write_bytecode = True
 
 from doctor_case import UNKNOWN, copies_of, examine, looks, members_of
-from doctor_picture import draw
+from doctor_next import blank_next, cut_lines
+from doctor_picture import NoPicture, draw, may_draw
 from doctor_table import advice, table_lines
 from doctor_words import layout_text, look_lines, place_lines, refusal_lines
 from reader_units import SECTOR, zones_of
@@ -26,6 +28,8 @@ KINDS = {stat.S_ISDIR: f"a folder: {FIVE}", stat.S_ISFIFO: f"a pipe: {FIVE}", st
          stat.S_ISCHR: "a device, no ordinary file", stat.S_ISBLK: "a device, no ordinary file"}
 # So many places that are to be mended are described one by one.
 FEW = 4
+# The status where the doctor can't say what it is asked for.
+CANNOT = 3
 
 
 class NoFile(Exception):
@@ -99,6 +103,8 @@ def missing(path, error):
 def head_lines(path, file):
     """What the file is for the operating system."""
     lines = [f"file {path}: {file.size} bytes"]
+    if file.size % SECTOR:
+        lines.append(f"no program of these leaves such a length, no multiple of {SECTOR}: it was cut, or something was written behind its end")
     if not os.access(path, os.W_OK):
         lines.append(f"this user may not write it, so that {FIVE}")
     return lines
@@ -121,13 +127,20 @@ def found_lines(case):
     for number, (zone, index, name) in enumerate(case.mends):
         lines.append(f"mend {zone} {index} {name}")
         lines += indented(place_lines(file, f, zone, index)) if number < FEW else []
-    for address, name in case.failing:
-        lines += [f"failing {address} {name}", *indented(place_lines(file, f, "Grid", address))]
+    lines += failing_lines(case)
     for word, listed in (("lost", case.lost), ("note", case.notes)):
         for zone, index, text in listed:
             lines += [f"{word} {zone} {index}: {text}", *indented(place_lines(file, f, zone, index))]
     return [*lines, f"to mend: {len(case.mends)}; failing, of {case.checked} referenced blocks: {len(case.failing)}; perhaps lost: "
                     f"{len(case.lost)}"]
+
+
+def failing_lines(case):
+    """The referenced blocks that aren't shown, each with what its address holds."""
+    file, f, lines = case.file, case.fields, []
+    for address, name in case.failing:
+        lines += [f"failing {address} {name}", *indented(place_lines(file, f, "Grid", address) + cut_lines(file, f, "Grid", address))]
+    return lines
 
 
 def indented(lines):
@@ -141,15 +154,16 @@ def report(case, path):
         first = "no data file"
         why = [f"an open would answer `refused {case.refusal}`, and no part of a data file is in it",
                *(look_lines(file, file.sectors()) if file.size else ["it is empty"])]
-        what = "next: name the right file; an empty one that a mistyped path left may be removed"
-        return [first, *head_lines(path, file), *why, what], 2
+        what = ["name the right file; an empty one that a mistyped path left may be removed"]
+        what = blank_next(file) if case.refusal == "NotFormatted" and file.size else what
+        return [first, *head_lines(path, file), *why, *(f"next: {line}" for line in what)], 2
     lines = [case.verdict(), *head_lines(path, file)]
     if f:
         end = zones_of(f)["Grid"].at(f["Blocks"] + 1)
         members = " ".join(map(str, members_of(copies_of(file))))
         lines.append(f"layout {layout_text(f)}, {end} bytes; cluster {f['Cluster']}, version {f['Version']}, boot {f['Boot']}; the superblock stands in copies "
                      f"{members}")
-    lines += refusal_lines(case, file.sectors()) if case.refusal else state_lines(case) + found_lines(case)
+    lines += refusal_lines(case, file.sectors()) + failing_lines(case) if case.refusal else state_lines(case) + found_lines(case)
     lines += table_lines(case)
     return [*lines, *(f"next: {line}" for line in advice(case))], case.status()
 
@@ -159,29 +173,53 @@ def parts(file):
     return any(run[2] != UNKNOWN for run in looks(file, file.sectors()))
 
 
+class Words(argparse.ArgumentParser):
+    """The words; those without a meaning end it with a status of their own."""
+
+    def error(self, message):
+        self.print_usage(sys.stderr)
+        self.exit(CANNOT, f"{self.prog}: {message}\n")
+
+
 def words():
-    parser = argparse.ArgumentParser(description="Says what a path is, and what an open of it would answer and why.")
+    parser = Words(description="Says what a path is, and what an open of it would answer and why.")
     parser.add_argument("file", help="the data file, which isn't written")
-    parser.add_argument("--picture", metavar="OUT.svg", help="where a picture of the file is to be written")
+    parser.add_argument("--picture", metavar="OUT.svg", help="where a picture of the file is to be written, which has to be new or a picture")
     return parser.parse_args()
+
+
+def told(given):
+    """What is told of a path, and the status."""
+    try:
+        file = opened(given.file)
+    except NoFile as why:
+        return [f"no data file\n{given.file}: {why}"], 2
+    if given.picture:
+        may_draw(given.file, given.picture)
+    case = examine(file)
+    lines, status = report(case, given.file)
+    # The picture comes first, since who reads the first line alone ends the rest.
+    lines += [draw(case, given.file, given.picture)] if given.picture else []
+    if os.fstat(file.fd).st_mtime_ns != file.changed:
+        lines.append("the file was written while it was read: another process uses it, and this may be true of no moment of it")
+    return lines, status
 
 
 def main():
     signal.signal(signal.SIGPIPE, signal.SIG_DFL)
-    sys.stdout.reconfigure(errors="backslashreplace")
     given = words()
     try:
-        file = opened(given.file)
-    except NoFile as why:
-        print(f"no data file\n{given.file}: {why}")
-        return 2
-    case = examine(file)
-    lines, status = report(case, given.file)
-    # The picture comes first, since who reads the first line alone ends the rest.
-    drawn = [draw(case, given.file, given.picture)] if given.picture else []
-    print("\n".join(lines + drawn))
-    if os.fstat(file.fd).st_mtime_ns != file.changed:
-        print("the file was written while it was read: another process uses it, and this may be true of no moment of it")
+        lines, status = told(given)
+        if sys.stdout is None:
+            return CANNOT
+        sys.stdout.reconfigure(errors="backslashreplace")
+        print("\n".join(lines), flush=True)
+    except (NoPicture, OSError) as why:
+        # Nothing that is left to be written may fail once more as the program ends.
+        sys.stdout = None
+        if sys.stderr is not None:
+            print(f"doctor.py: {why}", file=sys.stderr)
+        return CANNOT
     return status
 
 

@@ -71,11 +71,12 @@ def examine(file):
         find(file, case.state, bodies=False)
     except Refused as why:
         case.refusal = str(why)
-        return case
-    case.mends = mends_of(file, case.state)
-    known = sorted([*case.state["references"].items(), *case.state["chain"]])
+    known = sorted([*case.state.get("references", {}).items(), *case.state.get("chain", [])])
     case.checked = len(known)
     case.failing = [(address, name) for address, checksum in known if (name := fault_of(file, case.fields, address, checksum))]
+    if case.refusal:
+        return case
+    case.mends = mends_of(file, case.state)
     case.lost = lost_appends(case.state) + lost_replies(case.state)
     case.notes = torn_appends(case.state) + begun_blocks(file, case.state)
     return case

@@ -1,12 +1,13 @@
 """The file as a picture, in SVG: the zones to scale, and each slot and block by what stands there."""
 
 import os
+import stat
 from html import escape
 
 from doctor_case import begun_blocks, cases_by_copy, copies_of, free_blocks, members_of, slot_case
 from doctor_table import table_title
 from reader import class_of_copy, rings_of
-from reader_trailer import class_at
+from reader_trailer import class_at, number
 from reader_units import SECTOR, zones_of
 
 WIDTH, EDGE = 1120, 20
@@ -14,7 +15,7 @@ RED, INK = "#d1242f", "#24292f"
 # Between a zone's title and its cells; and the width below which cells aren't drawn one by one.
 GAP, SMALL = 20, 12
 COLOURS = {  # what a place may hold: its colour and its words in the legend
-    "empty": ("#ffffff", "empty: zeros, or a reserved header"), "taken": ("#3b6fb6", "taken: in the state"),
+    "empty": ("#ffffff", "empty: zeros, or a reserved header"), "taken": ("#3b6fb6", "taken: in the state, or needed for it"),
     "waiting": ("#16365c", "taken, and waits for its reply"), "old": ("#c4c8cc", "old: a unit that nothing needs any more"),
     "beyond": ("#a6c6ee", "a prepare that the tail doesn't reach"), "torn": ("#f0a030", "torn: no unit is shown"),
     "elsewhere": ("#9a6bc4", "elsewhere: the unit of another place"),
@@ -22,10 +23,17 @@ COLOURS = {  # what a place may hold: its colour and its words in the legend
     "chain": ("#1d6b38", "a block of the checkpoint's trailer"), "begun": ("#a8dcb4", "of a trailer that was begun"),
     "free": ("#eef0f2", "free: nothing stands there"),
 }
+# The zones of the strip, in colours that the legend doesn't have.
 ZONES = {
-    "Superblock": "#3b6fb6", "WalHeaders": "#f0a030", "WalPrepares": "#8fb0d8", "ClientReplies": "#9a6bc4", "Grid": "#9ccfa8",
+    "Superblock": "#4d4a45", "WalHeaders": "#8a7f6d", "WalPrepares": "#d8cbb0", "ClientReplies": "#a8977a", "Grid": "#ece4d2",
 }
+# So long may the name of a file be in the picture.
+LONGEST = 60
 DARK = ("taken", "waiting", "chain", "elsewhere")
+
+
+class NoPicture(Exception):
+    """Why no picture is written to a path."""
 
 
 class Cells:
@@ -62,9 +70,10 @@ def superblock_cells(file):
 def ring_cells(state):
     """The cells of both rings."""
     f, row = state["fields"], row_of(state["fields"]["Slots"])
-    tail = {one["op"] for one in state.get("tail", [])}
-    base, head = f["Op"], f["Op"] + len(tail)
-    title = f"tail: ops {base + 1} to {head}" if tail else "the tail is empty"
+    tail = {one["op"] for one in state["tail"]} if "tail" in state else named_ops(state)
+    base, head = f["Op"], state.get("head", f["Pin"])
+    known = "tail: ops" if "tail" in state else "named by the superblock: ops"
+    title = f"{known} {base + 1} to {head}" if head > base else "the tail is empty"
     headers = Cells("WalHeaders", "WalHeaders: the ring of headers, sixteen to a sector", row)
     prepares = Cells("WalPrepares", f"WalPrepares: the ring of prepares; checkpoint {base}, {title}", row)
     for slot in range(f["Slots"]):
@@ -73,7 +82,7 @@ def ring_cells(state):
         if isinstance(header, str):
             headers.add(kind_of(header))
         else:
-            kind = "taken" if header["op"] in tail else "beyond" if header["op"] > head else "old" if header["op"] else "empty"
+            kind = "taken" if base < header["op"] <= head else "beyond" if header["op"] > head else "old" if header["op"] else "empty"
             headers.add(kind, header["op"] or "")
         if isinstance(one, str):
             prepares.add(kind_of(one))
@@ -84,16 +93,36 @@ def ring_cells(state):
     return headers, prepares
 
 
+def named_ops(state):
+    """The ops above the checkpoint whose prepares the superblock names, and the rings show, where no tail was found."""
+    f = state["fields"]
+    op, wanted, found = f["Pin"], f["PinChecksum"], set()
+    while op > f["Op"]:
+        one = state["prepares"][op % f["Slots"]]
+        shown = not isinstance(one, str) and one["op"] == op and wanted in (None, number(one["checksum"], 0, 16))
+        found |= {op} if shown else set()
+        # Below one that isn't shown nothing tells which one is meant: that of the op which belongs there is taken for it.
+        op, wanted = op - 1, one["parent"] if shown else None
+    return found
+
+
 def reply_cells(state):
     title = "ClientReplies: one place for each client, with the op of the reply"
     cells = Cells("ClientReplies", title, row_of(state["fields"]["Clients"]))
-    last = [one["op"] for one in state.get("sessions", {}).values()]
+    last = [one["op"] for one in state["sessions"].values()] if "sessions" in state else None
     for place, one in enumerate(state["places"]):
         if isinstance(one, str):
             cells.add(kind_of(one))
         else:
-            cells.add("taken" if last[place : place + 1] == [one["op"]] else "old", one["op"])
+            cells.add("taken" if is_needed(state["fields"], last, place, one) else "old", one["op"])
     return cells
+
+
+def is_needed(f, last, place, one):
+    """Whether a session has this reply; where no sessions were found, whether the superblock names it."""
+    if last is not None:
+        return last[place : place + 1] == [one["op"]]
+    return number(one["checksum"], 0, 16) in [*f["ReplyChecksums"]][place : place + 1]
 
 
 def grid_cells(file, state, failing):
@@ -250,8 +279,13 @@ def picture(case, name):
         f"head {state['head']}, replies {state['stored']}" if not by.refusal else "not opened")
     title += f"; {table_title(by.table)}" if by.table else ""
     title += "" if by is case else ", were a single copy enough"
-    out += [text(EDGE, 26, f"{name}: {case.verdict()}", 16, RED if case.status() else INK), text(EDGE, 46, title, 12)]
+    out += [text(EDGE, 26, f"{cut(name)}: {case.verdict()}", 16, RED if case.status() else INK), text(EDGE, 46, title, 12)]
     return framed(out, top + 14 * len(listed) + 20)
+
+
+def cut(name):
+    """A name, of which the middle is left out where it is long, so that what stands behind it is seen."""
+    return name if len(name) <= LONGEST else f"{name[: LONGEST // 2]}..{name[-LONGEST // 2 :]}"
 
 
 def framed(out, height):
@@ -259,6 +293,20 @@ def framed(out, height):
             'font-family="sans-serif">\n<defs><marker id="tip" viewBox="0 0 8 8" refX="7" refY="4" markerWidth="6" '
             'markerHeight="6" orient="auto"><path d="M 0 0 L 8 4 L 0 8 z" fill="#1d6b38"/></marker></defs>')
     return "\n".join([head, rect(0, 0, WIDTH, height, "#ffffff", "none"), *out, "</svg>", ""])
+
+
+def may_draw(path, into):
+    """Refuses a path that is the data file, by whatever name, or any other file that is there and no picture."""
+    try:
+        what = os.stat(into)
+    except OSError:
+        return
+    if os.path.samefile(path, into):
+        raise NoPicture(f"{into} is the data file itself: name another path for the picture")
+    if stat.S_ISREG(what.st_mode) and what.st_size:
+        with open(into, "rb") as old:
+            if not old.read(4) == b"<svg":
+                raise NoPicture(f"{into} is there, and no picture: name another path for it, or remove that file")
 
 
 def draw(case, path, into):

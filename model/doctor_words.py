@@ -1,6 +1,7 @@
 """The doctor's words: what a place holds, why a file is refused, and what to do next."""
 
 from doctor_case import cases_by_copy, copies_of, copy_fields, looks, members_of, slot_case
+from doctor_next import CHECK, cut_lines, refused_next, rolled_lines
 from reader import class_of_copy, evidence_of, is_copy, later_of
 from reader_units import BLOCK, HEADER, PREPARE, REPLY, RESERVED, SECTOR, bytes_at, fields_at, look, zones_of
 
@@ -25,15 +26,6 @@ FIELDS = {  # what is asked of a field of the superblock, or of a part of its ch
     "TrailerBits": "at this offset of the trailer's text the bits end too early, or have one past the last block",
     "TrailerEnd": "the text has so many bytes, and its references ask for another number",
     "Pending": "this op waits for its reply, and is the last op of no session",
-}
-COPY_AND_CHECK = "take the file from a copy, and check the device"
-NEXT = {
-    "NotFormatted": "name the right file; or, where it was never used, `format` it",
-    "NoQuorum": "a file that was never used: remove it and make it anew. Else " + COPY_AND_CHECK,
-    "Version": "use the program that made the file",
-    "BadField": "use the program that made the file; if it is this one, " + COPY_AND_CHECK,
-    "Damaged": "what was acknowledged isn't all there: " + COPY_AND_CHECK,
-    "BootSpent": COPY_AND_CHECK,
 }
 
 
@@ -118,7 +110,12 @@ def named_lines(file, state, slot):
     lines = [f"the superblock names the prepares up to op {f['Pin']}, of boot {f['Boot']} and before, and op {op} belongs into slot {slot}"]
     if not isinstance(state["prepares"][slot], str):
         lines.append("another prepare stands there, or this one doesn't fit those before it")
-    return lines + place_lines(file, f, "WalPrepares", slot) + place_lines(file, f, "WalHeaders", slot)
+    return lines + slot_lines(file, f, slot)
+
+
+def slot_lines(file, f, slot):
+    """What both rings have of a slot."""
+    return place_lines(file, f, "WalPrepares", slot) + cut_lines(file, f, "WalPrepares", slot) + place_lines(file, f, "WalHeaders", slot)
 
 
 def lost_lines(file, state):
@@ -132,7 +129,7 @@ def lost_lines(file, state):
         lines.append("a prepare of this op is there, but " + (
             "its header in the ring of headers is that of another one" if other else
             "doesn't fit those before it by its parent, its mark, or its client's request"))
-    return lines + place_lines(file, f, "WalPrepares", slot) + place_lines(file, f, "WalHeaders", slot)
+    return lines + slot_lines(file, f, slot)
 
 
 def damaged_lines(case, zone, index):
@@ -142,15 +139,13 @@ def damaged_lines(case, zone, index):
         return lost_lines(file, state) if "head" in state else named_lines(file, state, index)
     if zone == "Superblock":
         found = later_of(state)
-        lines = [f"{len(found)} places are of a later checkpoint or boot than the superblock's, of sequence {f['Sequence']}, boot {f['Boot']} "
-                 f"and op {f['Op']}"]
-        return lines + [line for each in found[:FEW] for line in place_lines(file, f, *each)] + copy_lines(file)
+        return rolled_lines(state) + [line for each in found[:FEW] for line in place_lines(file, f, *each)] + copy_lines(file)
     if zone == "ClientReplies":
         client, last = list(state["sessions"].items())[index]
         lines = [f"the reply to op {last['op']}, request {last['request']} of client {client}, was stored, and isn't shown here"]
     else:
         lines = [f"the trailer of the checkpoint, whose last block is at address {f['TrailerAddress']}, needs its block here"]
-    return lines + place_lines(file, f, zone, index)
+    return lines + place_lines(file, f, zone, index) + cut_lines(file, f, zone, index)
 
 
 def copy_lines(file):
@@ -195,7 +190,7 @@ def look_lines(file, sectors):
 def next_lines(case):
     """What to do."""
     if case.refusal:
-        return [NEXT[case.refusal.split()[0]]]
+        return refused_next(case)
     lines = []
     if case.lost:
         lines.append("keep a copy of the file, since mending takes some of these traces away; then compare what was acknowledged, "
@@ -203,6 +198,7 @@ def next_lines(case):
     if case.mends:
         lines.append("`run`, `recover` or `scrub` mends what is listed so, with nothing to do by hand")
     if case.failing:
-        lines.append("what the blocks that fail held is lost: release them, write them again from elsewhere, make a checkpoint, "
-                     "and check the device")
+        lines.append("copy this file, then `filemirror FILE COPY` gives the blocks that fail back from any copy that shows them "
+                     "(docs/OPERATING.md, \"Mending from a copy\"). Where none does: release them, write them again from elsewhere, and make a "
+                     f"checkpoint. In any case {CHECK}")
     return lines or ["nothing"]
