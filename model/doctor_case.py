@@ -33,6 +33,8 @@ class Case:
     # How many blocks are referenced, those of the trailer among them, and those that aren't shown: addresses with classes.
     checked: int = 0
     failing: list = field(default_factory=list)
+    # The addresses of blocks that were written after the superblock that is chosen, by their boot or their checkpoint.
+    later: list = field(default_factory=list)
     # What may have been acknowledged and isn't in the state, and what is worth a look: places with texts.
     lost: list = field(default_factory=list)
     notes: list = field(default_factory=list)
@@ -74,10 +76,11 @@ def examine(file):
     known = sorted([*case.state.get("references", {}).items(), *case.state.get("chain", [])])
     case.checked = len(known)
     case.failing = [(address, name) for address, checksum in known if (name := fault_of(file, case.fields, address, checksum))]
+    case.later = later_blocks(file, case.fields) if case.fields else []
     if case.refusal:
         return case
     case.mends = mends_of(file, case.state)
-    case.lost = lost_appends(case.state) + lost_replies(case.state)
+    case.lost = lost_appends(case.state) + lost_replies(case.state) + lost_checkpoints(case)
     case.notes = torn_appends(case.state) + begun_blocks(file, case.state)
     return case
 
@@ -208,6 +211,23 @@ def lost_replies(state):
             what = f"the reply to op {last['op']} (client {client}, request {last['request']}) may have been stored and be lost: the "
             found.append(("ClientReplies", place, what + "op waits, and its place doesn't show the reply before"))
     return found
+
+
+def later_blocks(file, f):
+    """The addresses whose block is of a later boot than the superblock's, or of the trailer of a checkpoint behind the next one: an open
+    raises the boot, and a checkpoint the sequence, before such a block is written."""
+    grid = zones_of(f)["Grid"]
+    headers = ((address, header_of(bytes_at(file, grid.at(address), HEADER))[0]) for address in range(1, f["Blocks"] + 1))
+    return [address for address, one in headers if one and one["kind"] in (BLOCK, TRAILER) and one["cluster"] == f["Cluster"]
+            and one["op"] == address and (one["boot"] > f["Boot"] or one["checkpoint"] > f["Sequence"] + 1)]
+
+
+def lost_checkpoints(case):
+    """The superblock, where blocks were written after it under a later one."""
+    f = case.fields
+    text = (f"it is older than the file: of boot {f['Boot']} and sequence {f['Sequence']}, and blocks of a later boot or checkpoint stand in the grid. It was put "
+            "back from an older copy, or later ones were lost; or something else stood in this file before it was made")
+    return [("Superblock", f["Copy"], text)] + [("Grid", address, "written under a later superblock") for address in case.later[:1]] if case.later else []
 
 
 def free_blocks(file, state):

@@ -2,7 +2,7 @@
 
 from doctor_case import UNKNOWN, cases_by_copy, looks
 from reader import is_own, later_of
-from reader_units import SECTOR, zones_of
+from reader_units import HEADER, SECTOR, bytes_at, header_of, zones_of
 
 CHECK = "check the device, and that one process at a time uses the file"
 FROM_COPY = f"take the file from a copy, and {CHECK}"
@@ -55,7 +55,7 @@ def split_next(case):
 def damaged_next(case, words):
     """What to do where a place is damaged."""
     zone, index = words[1], int(words[2])
-    if zone == "Superblock":
+    if zone == "Superblock" or case.later:
         return ["no `filemirror` here: by the older superblock it writes older replies over newer ones. Keep the file as it is, and take it "
                 "whole from its newest copy, never parts of one",
                 "where it was made by a `filecopy` or a `format`, something else stood in it before: remove it, and make it anew",
@@ -89,11 +89,16 @@ def cut_lines(file, f, zone, index):
     return [] if at < file.size else [f"the file ends at byte {file.size}, before this place: it was cut, or its copy ended early"]
 
 
-def rolled_lines(state):
-    """By how much the superblock is older than what stands in the file."""
-    f = state["fields"]
-    units = [one for ring in ("headers", "prepares", "places") for one in state[ring] if not isinstance(one, str)]
+def rolled_lines(case):
+    """By how much the superblock is older than what stands in the file; nothing where nothing says that it is."""
+    state, f = case.state, case.fields
+    units = [one for ring in ("headers", "prepares", "places") for one in state.get(ring, []) if not isinstance(one, str)]
+    grid = zones_of(f)["Grid"]
+    units += [header_of(bytes_at(case.file, grid.at(address), HEADER))[0] for address in case.later]
+    later = [*(later_of(state) if "places" in state else []), *(("Grid", address) for address in case.later)]
+    if not later:
+        return []
     boot, checkpoint = max(one["boot"] for one in units), max(one["checkpoint"] for one in units)
     return [f"the superblock is older than the file: it is of boot {f['Boot']} and sequence {f['Sequence']}, and units up to boot {boot} and "
             f"sequence {checkpoint} stand here. It was put back from an older copy, or later ones were lost; or what stands here is of another life of the file",
-            f"{len(later_of(state))} places are of a later checkpoint or boot than the superblock's, or above its op {f['Op']} and the ring"]
+            f"{len(later)} places were written under a later superblock, or are above the ring behind its checkpoint's op {f['Op']}"]

@@ -135,11 +135,13 @@ def lost_lines(file, state):
 def damaged_lines(case, zone, index):
     """Why a place refuses the file."""
     file, state, f = case.file, case.state, case.fields
-    if zone == "WalPrepares":
-        return lost_lines(file, state) if "head" in state else named_lines(file, state, index)
     if zone == "Superblock":
         found = later_of(state)
-        return rolled_lines(state) + [line for each in found[:FEW] for line in place_lines(file, f, *each)] + copy_lines(file)
+        return rolled_lines(case) + [line for each in found[:FEW] for line in place_lines(file, f, *each)] + copy_lines(file)
+    if case.later:
+        return rolled_lines(case) + place_lines(file, f, zone, index) + copy_lines(file)
+    if zone == "WalPrepares":
+        return lost_lines(file, state) if "head" in state else named_lines(file, state, index)
     if zone == "ClientReplies":
         client, last = list(state["sessions"].items())[index]
         lines = [f"the reply to op {last['op']}, request {last['request']} of client {client}, was stored, and isn't shown here"]
@@ -192,7 +194,10 @@ def next_lines(case):
     if case.refusal:
         return refused_next(case)
     lines = []
-    if case.lost:
+    if case.later:
+        lines.append("the superblock is older than the file: keep it as it is, no `filemirror`, and take it whole from its newest copy; where it was "
+                     "made by a `filecopy` or a `format`, remove it, and make it anew (docs/OPERATING.md, \"An older superblock\")")
+    elif case.lost:
         lines.append("keep a copy of the file, since mending takes some of these traces away; then compare what was acknowledged, "
                      "with `prepare` and `lookup`, before a new line is given: what was taken back is accepted again")
     if case.mends:
