@@ -26,7 +26,10 @@ def act(words: list) -> int:
         return filemirrors.WORDS
     first, second = (File(path) for path in paths)
     data = opened(first)
-    ran = filemirrors.run(data, opened(second))
+    # The second file is opened, and made where it isn't there, once a unit is wanted of it.
+    ran = filemirrors.run(data, b"")
+    if b"refused Neither" in ran.text:
+        ran = filemirrors.run(data, opened(second))
     answers = iter(ran.printed)
     for event in ran.events[:1]:
         first.sync()

@@ -3,7 +3,8 @@
 
     BUG=NAME python3 model/model.py model/imitation.py
 
-Reads, writes, syncs and answers with the calls that the built program makes, in its order. Without BUG it has none.
+Reads, writes, syncs and answers with the calls that the built program makes, in its order. Without BUG it has none. Python itself ends with status 1
+before it begins, where standard input is a folder.
 """
 
 import sys

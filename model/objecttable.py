@@ -27,7 +27,7 @@ def script() -> bytes:
 
 def act(words: list) -> int:
     """Does what the words say, and gives the status."""
-    path, rest = (words[0], [word.decode() for word in words[1:]]) if words else (b"", ["-"])
+    path, rest = (words[0], [word.decode() for word in words][1:]) if words else (b"", ["-"])
     if rest != ["table"]:
         tell(objects.USAGE)
         return objects.WORDS
@@ -46,8 +46,9 @@ def act(words: list) -> int:
 
 
 def whole(file: File) -> bytes:
-    """All bytes of the file."""
+    """All bytes of the file. One that has no places, as a pipe, fails, whatever length it says."""
     try:
+        file.read(0, 1)
         return file.read(0, os.fstat(file.fd).st_size)
     except OSError:
         raise End(DISK) from None

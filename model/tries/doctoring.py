@@ -8,9 +8,10 @@ from xml.etree import ElementTree
 
 import doctor as told
 from doctor_case import examine
+from doctor_next import is_named
 from doctor_picture import picture
 
-from . import form, generate, hurt, objects, reading, recovery, reporting, rows, script
+from . import filemirrors, form, generate, hurt, objects, reading, recovery, reporting, rows, script
 from .binary import expect, require
 from .common import Try
 from .forge import put
@@ -150,6 +151,36 @@ def taken_back(t: Try) -> None:
     t.counts[f"newest units hurt: {what}"] += 1
 
 
+def advised(t: Try) -> None:
+    """Of the place for which a hurt file is refused the doctor says that a copy gives it back exactly where `filemirror` does; of a file whose copies are
+    those of an earlier moment it says so, where blocks or units tell."""
+    past = hurt.history(t)
+    image, _ = hurt.damage(t, past)
+    t.binary.put(image)
+    case = asked(t)[2]
+    words = case.refusal.split()
+    if words[:1] != ["Damaged"] or words[1] == "Superblock" or case.later:
+        return
+    given = b"mended %s %s" % (words[1].encode(), words[2].encode()) in filemirrors.run(image, past.data).text.splitlines()
+    expect(f"whether a copy gives back {' '.join(words[1:])}", given, is_named(case, words[1], int(words[2])))
+    t.counts[f"{words[1]} refused: {'a copy gives it back' if given else 'nothing names it'}"] += 1
+
+
+def rolled_back(t: Try) -> None:
+    """A file whose four copies are those of an earlier moment is called so wherever a unit of a later boot or checkpoint stands in it, and a file
+    that is whole never."""
+    past = hurt.history(t)
+    t.binary.put(past.data)
+    expect("blocks that are later than a whole file's superblock", [], asked(t)[2].later)
+    old = t.random.choice(past.earlier)[: SECTOR * form.COPIES]
+    t.binary.put(old + past.data[SECTOR * form.COPIES :])
+    lines, _, case = asked(t)
+    if case.later or case.refusal.startswith("Damaged Superblock"):
+        require("a superblock that is older is called so", any("older than the file" in line for line in lines))
+        require("and what to do is not filemirror", any("no `filemirror`" in line for line in lines))
+    t.counts["older copies: " + ("told" if case.later or case.refusal else "opened")] += 1
+
+
 def doctor_paths(t: Try) -> None:
     """Paths that are no file: the doctor names the status that the program answers."""
     loop = os.path.join(t.binary.folder, "ring")
@@ -167,4 +198,6 @@ def doctor_paths(t: Try) -> None:
     t.counts["paths of no file"] += 1
 
 
-KINDS = {"doctor": (doctor, 6), "taken_back": (taken_back, 3), "doctor_paths": (doctor_paths, 1)} if knows("reports") else {}
+KINDS = {
+    "doctor": (doctor, 6), "taken_back": (taken_back, 3), "doctor_paths": (doctor_paths, 1), "advised": (advised, 3), "rolled_back": (rolled_back, 2),
+} if knows("reports") else {}
