@@ -194,12 +194,13 @@ def told(given):
         file = opened(given.file)
     except NoFile as why:
         return [f"no data file\n{given.file}: {why}"], 2
-    if given.picture:
+    drawn = given.picture is not None
+    if drawn:
         may_draw(given.file, given.picture)
     case = examine(file)
     lines, status = report(case, given.file)
     # The picture comes first, since who reads the first line alone ends the rest.
-    lines += [draw(case, given.file, given.picture)] if given.picture else []
+    lines += [draw(case, given.file, given.picture)] if drawn else []
     if os.fstat(file.fd).st_mtime_ns != file.changed:
         lines.append("the file was written while it was read: another process uses it, and this may be true of no moment of it")
     return lines, status

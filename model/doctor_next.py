@@ -63,7 +63,7 @@ def damaged_next(case, words):
     if is_named(case, zone, index):
         return ["what belongs here is known by its checksum: copy this file, then `filemirror FILE COPY` gives it back from any copy that "
                 "shows it, and keeps all that is newer here (docs/OPERATING.md, \"Mending from a copy\")",
-                f"where no copy shows it, what was acknowledged isn't all there: {FROM_COPY}"]
+                f"where no copy shows it, this file lacks what was acknowledged: take the whole file from a copy, and {CHECK}"]
     return [f"what was acknowledged isn't all there, and `filemirror` doesn't know what belongs here, which came after the last open and the last "
             f"checkpoint: {FROM_COPY}"]
 
