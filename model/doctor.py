@@ -103,8 +103,6 @@ def missing(path, error):
 def head_lines(path, file):
     """What the file is for the operating system."""
     lines = [f"file {path}: {file.size} bytes"]
-    if file.size % SECTOR:
-        lines.append(f"no program of these leaves such a length, no multiple of {SECTOR}: it was cut, or something was written behind its end")
     if not os.access(path, os.W_OK):
         lines.append(f"this user may not write it, so that {FIVE}")
     return lines
@@ -163,6 +161,8 @@ def report(case, path):
         members = " ".join(map(str, members_of(copies_of(file))))
         lines.append(f"layout {layout_text(f)}, {end} bytes; cluster {f['Cluster']}, version {f['Version']}, boot {f['Boot']}; the superblock stands in copies "
                      f"{members}")
+        if file.size % SECTOR:
+            lines.append(f"no program of these leaves such a length, no multiple of {SECTOR}: it was cut, or something was written behind its end")
     lines += refusal_lines(case, file.sectors()) + failing_lines(case) if case.refusal else state_lines(case) + found_lines(case)
     lines += table_lines(case)
     return [*lines, *(f"next: {line}" for line in advice(case))], case.status()

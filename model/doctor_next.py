@@ -55,11 +55,15 @@ def split_next(case):
 def damaged_next(case, words):
     """What to do where a place is damaged."""
     zone, index = words[1], int(words[2])
-    if zone == "Superblock" or case.later:
+    if zone == "Superblock" or case.later or newer_reply(case, zone, index):
         return ["no `filemirror` here: by the older superblock it writes older replies over newer ones. Keep the file as it is, and take it "
                 "whole from its newest copy, never parts of one",
                 "where it was made by a `filecopy` or a `format`, something else stood in it before: remove it, and make it anew",
                 CHECK + ": a later superblock that was lost, and two processes at once, leave the same"]
+    if cut_lines(case.file, case.fields, zone, index):
+        return [f"the file was cut: take it whole from a copy that is as new, and {CHECK}",
+                "where none is, copy this file, and `filemirror FILE COPY` gives back from any copy what the superblock names here; what was appended or "
+                "answered after the last open and the last checkpoint, and stood behind the end, is gone without a trace then"]
     if is_named(case, zone, index):
         return ["what belongs here is known by its checksum: copy this file, then `filemirror FILE COPY` gives it back from any copy that "
                 "shows it, and keeps all that is newer here (docs/OPERATING.md, \"Mending from a copy\")",
@@ -81,6 +85,15 @@ def is_named(case, zone, index):
     went_on = [one["op"] > f["Replies"] for one in state["places"][index : index + 1] if is_own(one, f)]
     went_on += [one["op"] > f["Pin"] and one["client"] == client for one in state["prepares"] if is_own(one, f)]
     return last["op"] <= f["Replies"] and not any(went_on)
+
+
+def newer_reply(case, zone, index):
+    """The reply of a later op that stands where an earlier one is wanted; None where none does. The superblock is older then, or of another life of the
+    file, though its boot was raised since."""
+    if zone != "ClientReplies":
+        return None
+    one, (client, last) = case.state["places"][index], list(case.state["sessions"].items())[index]
+    return one if not isinstance(one, str) and one["client"] == client and one["op"] > last["op"] else None
 
 
 def cut_lines(file, f, zone, index):

@@ -1,7 +1,7 @@
 """The doctor's words: what a place holds, why a file is refused, and what to do next."""
 
 from doctor_case import cases_by_copy, copies_of, copy_fields, looks, members_of, slot_case
-from doctor_next import CHECK, cut_lines, refused_next, rolled_lines
+from doctor_next import CHECK, cut_lines, newer_reply, refused_next, rolled_lines
 from reader import class_of_copy, evidence_of, is_copy, later_of
 from reader_units import BLOCK, HEADER, PREPARE, REPLY, RESERVED, SECTOR, bytes_at, fields_at, look, zones_of
 
@@ -145,6 +145,8 @@ def damaged_lines(case, zone, index):
     if zone == "ClientReplies":
         client, last = list(state["sessions"].items())[index]
         lines = [f"the reply to op {last['op']}, request {last['request']} of client {client}, was stored, and isn't shown here"]
+        newer = newer_reply(case, zone, index)
+        lines += [f"the superblock is older than the file: what stands here is the reply to op {newer['op']}, a later one"] if newer else []
     else:
         lines = [f"the trailer of the checkpoint, whose last block is at address {f['TrailerAddress']}, needs its block here"]
     return lines + place_lines(file, f, zone, index) + cut_lines(file, f, zone, index)
