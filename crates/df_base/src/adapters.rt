@@ -49,7 +49,7 @@ fn read_some<R: Read>(reader: &mut R, into: &mut [u8]) -> io::Result<usize>
 
 impl<R: Read> Source for FromRead<R> {
     ghost use Rattle.df_base.specs.Adapters.{reader_of, read_faults};
-    ghost use Rattle.df_base.specs.Causes.{counted, HasCause};
+    ghost use Rattle.df_base.specs.Causes.{HasCause};
 
     ghost left = { λ s. None };
 
@@ -60,7 +60,6 @@ impl<R: Read> Source for FromRead<R> {
         ensures bound { IfOk result (λ n. n ≤ length into.new) }
         ensures cause { HasCause (read_faults self.old) (read_faults self.new) result }
 
-        ensures counted_once { OnErr result (read_faults self.new ≡ counted (read_faults self.old)) }
         ensures bytes { IfOk result (λ n. Consumes (R.remaining (reader_of self.old)) (R.remaining (reader_of self.new)) (take n into.new)) }
         ensures end { IfOk result (λ n. n ≡ 0 → IsAtEnd (R.remaining (reader_of self.new))) }
         ensures kept { OnErr result (Keeps (R.remaining (reader_of self.old)) (R.remaining (reader_of self.new))) }
@@ -158,7 +157,7 @@ fn write_piece<W: Write>(writer: &mut W, piece: &[u8]) -> io::Result<()>
 
 impl<W: Write> Sink for ToWrite<W> {
     ghost use Rattle.df_base.specs.Adapters.{writer_of, write_faults};
-    ghost use Rattle.df_base.specs.Causes.{counted, HasCause};
+    ghost use Rattle.df_base.specs.Causes.{HasCause};
 
     ghost written = { λ s. None };
 
@@ -167,7 +166,6 @@ impl<W: Write> Sink for ToWrite<W> {
     fn write(&mut self, piece: &[u8]) -> Result<(), Failed>
         ensures cause { HasCause (write_faults self.old) (write_faults self.new) result }
 
-        ensures counted_once { OnErr result (write_faults self.new ≡ counted (write_faults self.old)) }
         ensures appended { OnOk result (Appends (W.contents (writer_of self.old)) (W.contents (writer_of self.new)) piece.now) }
         ensures front { OnErr result (HoldsFront (W.contents (writer_of self.old)) (W.contents (writer_of self.new)) piece.now) }
     {

@@ -47,7 +47,7 @@ pub record Beside : Type 0 where
 abbrev pub beside : State → Option Told → (faults target_faults : ℕ) → Beside
 beside source told faults target_faults = record { source = source; told = told; faults = faults; target_faults = target_faults }
 
--- a call leaves the source as it was where it is Ok, and what the source's disk tells in any case; and each disk's count rose exactly where the ending blames it
+-- a call leaves the source as it was where it is Ok, and what the source's disk tells in any case; and each disk's count rose, once, exactly where the ending blames it
 pub record Leaves {T : Type 0} (before now : Beside) (result : Result T Ending) : Type 0 where
   pub kept : OnOk result (now.source ≡ before.source)
   pub same : now.told ≡ before.told

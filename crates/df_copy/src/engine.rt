@@ -137,7 +137,8 @@ pub fn copy<A: Disk, B: Disk, W: Sink>(
     // and the source is kept as an open keeps it.
     ensures runs { (layout : Shape) → Means (map string_bytes words.now) layout → Runs layout (around (A.told from.old) (B.told to.old) (W.written sink.old)) (around (A.told from.new) (B.told to.new) (W.written sink.new)) result }
 
-    // Each fault has its cause; want of memory comes before anything was written.
+    // A call ends at its first fault: of the three counts one at most rises, once, that of what the status blames; want of memory
+    // comes before anything was written.
     ensures causes { HasCauses Status.DiskFault Status.WriteFault (counts (A.faults from.old) (B.faults to.old) (W.faults sink.old)) (counts (A.faults from.new) (B.faults to.new) (W.faults sink.new)) result }
     ensures memory { result ≡ Status.Memory → around (A.told from.new) (B.told to.new) (W.written sink.new) ≡ around (A.told from.old) (B.told to.old) (W.written sink.old) }
 {

@@ -11,7 +11,7 @@ pub trait Disk {
     /// The log of what it was asked to do and what a read gives, where the disk tells them.
     ghost told: { Self → Option Told };
 
-    /// How often a call has failed. The count never falls.
+    /// How often a call has failed. One that fails counts once, no other call counts, and the count stops at `u64::MAX`.
     ghost faults: { Self → ℕ };
 
     /// Reads whole sectors from sector `at` on. A sector that was never written holds zeros.

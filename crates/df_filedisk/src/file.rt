@@ -1,7 +1,7 @@
 // The disk over a file. It counts its faults and tells nothing else, since no contract can say what
 // a file holds.
 ghost use Rattle.std.specs.Prelude.{◌≡◌, ◌⊎◌, length, OnErr, OnOk};
-ghost use Rattle.df_base.specs.Causes.{HasCause, counted};
+ghost use Rattle.df_base.specs.Causes.{HasCause};
 ghost use Rattle.df_base.specs.Log.{Write, Sync};
 ghost use Rattle.df_disk.specs.Told.{AreSectors, Shows, after};
 ghost use Rattle.df_filedisk.specs.Tells.{tells};
@@ -79,7 +79,6 @@ impl<'a, R: Files> FileDisk<'a, R> {
     // Counts the fault of an answer that is one.
     fn counts(&mut self, answer: io::Result<()>) -> Result<(), Failed>
         ensures cause { HasCause self.old self.new result }
-        ensures counted_once { OnErr result (self.new ≡ counted self.old) }
     {
         match answer {
             Ok(()) => Ok(()),
@@ -142,7 +141,6 @@ where
         ensures bytes { OnOk result (Shows (tells self.old) at into.new) }
         ensures same { tells self.new ≡ tells self.old }
         ensures cause { HasCause self.old self.new result }
-        ensures counted_once { OnErr result (self.new ≡ counted self.old) }
     {
         let answer = self.try_read(at, into);
         self.counts(answer)
@@ -153,7 +151,6 @@ where
         ensures ok { OnOk result (tells self.new ≡ after (Write at bytes.now) (tells self.old)) }
         ensures err { OnErr result ((tells self.new ≡ tells self.old) ⊎ (tells self.new ≡ after (Write at bytes.now) (tells self.old))) }
         ensures cause { HasCause self.old self.new result }
-        ensures counted_once { OnErr result (self.new ≡ counted self.old) }
     {
         let answer = self.try_write(at, bytes);
         self.counts(answer)
@@ -163,7 +160,6 @@ where
         ensures ok { OnOk result (tells self.new ≡ after Sync (tells self.old)) }
         ensures err { OnErr result (tells self.new ≡ tells self.old) }
         ensures cause { HasCause self.old self.new result }
-        ensures counted_once { OnErr result (self.new ≡ counted self.old) }
     {
         let answer = self.try_sync();
         self.counts(answer)

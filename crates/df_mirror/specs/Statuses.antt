@@ -38,6 +38,6 @@ is_sink e = false
 abbrev pub IsOfFirst : Ending → Type 0
 IsOfFirst e = (is_second e ≡ false) × (is_sink e ≡ false)
 
--- each count of faults rose exactly where the answer blames what it counts, and is the same behind every other answer
+-- each count of faults rose, once, exactly where the answer blames what it counts, and is the same after every other answer
 abbrev pub AreBlamed : {T : Type 0} → (before now : Faults) → Result T Ending → Type 0
 AreBlamed before now result = IsBlamed is_first before.first now.first result × IsBlamed is_second before.second now.second result × IsBlamed is_sink before.sink now.sink result

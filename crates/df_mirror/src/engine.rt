@@ -155,7 +155,8 @@ pub fn mirror<A: Disk, B: Disk, W: Sink>(
     ensures runs { map string_bytes words.now ≡ [] → Runs (around (A.told first.old) (B.told second.old) (W.written sink.old)) (around (A.told first.new) (B.told second.new) (W.written sink.new)) result }
     ensures second { B.told second.new ≡ B.told second.old }
 
-    // Each fault has its cause; want of memory comes before anything was written.
+    // A call ends at its first fault: of the three counts one at most rises, once, that of what the status blames; want of memory
+    // comes before anything was written.
     ensures causes { HasCauses Status.DiskFault Status.WriteFault (counts (A.faults first.old) (B.faults second.old) (W.faults sink.old)) (counts (A.faults first.new) (B.faults second.new) (W.faults sink.new)) result }
     ensures memory { result ≡ Status.Memory → IsUndone (around (A.told first.old) (B.told second.old) (W.written sink.old)) (around (A.told first.new) (B.told second.new) (W.written sink.new)) }
 {

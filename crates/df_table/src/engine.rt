@@ -122,7 +122,8 @@ pub fn run_table<D: Disk, S: Source, W: Sink>(
         (record { told = D.told disk.old; left = S.left source.old; written = W.written sink.old })
         (record { told = D.told disk.new; left = S.left source.new; written = W.written sink.new }) result }
 
-    // Want of memory comes before anything was read of the script or written; each fault has its cause.
+    // Want of memory comes before anything was read of the script or written. A call ends at its first fault: of the three counts one at most
+    // rises, once, that of what the status blames.
     ensures memory { result ≡ Status.Memory → IsSilent
         (record { told = D.told disk.old; left = S.left source.old; written = W.written sink.old })
         (record { told = D.told disk.new; left = S.left source.new; written = W.written sink.new }) }

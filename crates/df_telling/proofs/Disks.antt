@@ -15,11 +15,11 @@ module _ {S : Type 0} (disks sink : S) (before now : Faults) (status : S) (blame
 
   -- the first one did
   pub first_causes : status ≡ disks → (before.first ≤ now.first) × Rose before.first now.first → now.second ≡ before.second → HasCauses disks sink before now status
-  first_causes is rose two = record { by_disks = record { rose = λ yes. inl rose.1; later = (rose.0, omega (arith, two)); same = λ no. absurd (no is) }; by_sink = blame }
+  first_causes is rose two = record { by_disks = record { rose = λ yes. inl (rose.1, two); later = (rose.0, omega (arith, two)); same = λ no. absurd (no is) }; by_sink = blame }
 
   -- or the second one
   pub second_causes : status ≡ disks → now.first ≡ before.first → (before.second ≤ now.second) × Rose before.second now.second → HasCauses disks sink before now status
-  second_causes is one rose = record { by_disks = record { rose = λ yes. inr rose.1; later = (omega (arith, one), rose.0); same = λ no. absurd (no is) }; by_sink = blame }
+  second_causes is one rose = record { by_disks = record { rose = λ yes. inr (one, rose.1); later = (omega (arith, one), rose.0); same = λ no. absurd (no is) }; by_sink = blame }
 
   module _ (apart : sink ≡ disks → ⊥) (old new : Option (List ℕ)) where
     -- a text was printed

@@ -6,7 +6,7 @@ use Rattle.df_inspect.specs.Opening.{open_refusal}
 use Rattle.df_model.specs.declared.errors.OpenError.{OpenError}
 use Rattle.df_model.specs.declared.errors.OpenError.TheVariants.{DiskFault}
 
--- it ended with this fault only where the count rose, and else the count is as it was
+-- it ended with this fault only where the count rose, once, and else the count is as it was
 pub record Blames {S : Type 0} (fault : S) (before now : ℕ) (status : S) : Type 0 where
   pub rose : status ≡ fault → Rose before now
   pub same : (status ≡ fault → ⊥) → now ≡ before

@@ -22,13 +22,13 @@ pub record Faults : Type 0 where
 abbrev pub counts : (first second sink : ℕ) → Faults
 counts first second sink = record { first = first; second = second; sink = sink }
 
--- a fault of one of the two disks has its cause: one of their counts rose, and else both are as they were
+-- a fault of one of the two disks has its cause: the count of one rose, once, and the other is as it was; and without one both are
 pub record BlamesDisks {S : Type 0} (fault : S) (before now : Faults) (status : S) : Type 0 where
-  pub rose : status ≡ fault → Rose before.first now.first ⊎ Rose before.second now.second
+  pub rose : status ≡ fault → (Rose before.first now.first × (now.second ≡ before.second)) ⊎ ((now.first ≡ before.first) × Rose before.second now.second)
   pub later : (before.first ≤ now.first) × (before.second ≤ now.second)
   pub same : (status ≡ fault → ⊥) → (now.first ≡ before.first) × (now.second ≡ before.second)
 
--- each fault has its cause
+-- each fault has its cause: of the three counts one at most rose, once, that of what the status blames
 pub record HasCauses {S : Type 0} (disks sink : S) (before now : Faults) (status : S) : Type 0 where
   pub by_disks : BlamesDisks disks before now status
   pub by_sink : Blames sink before.sink now.sink status

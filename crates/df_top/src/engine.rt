@@ -145,7 +145,8 @@ pub fn run<D: Disk, S: Source, W: Sink>(
         (record { told = D.told disk.old; left = S.left source.old; written = W.written sink.old })
         (record { told = D.told disk.new; left = S.left source.new; written = W.written sink.new }) result }
 
-    // Each fault has its cause; want of memory comes before anything was read or written.
+    // A call ends at its first fault: of the three counts one at most rises, once, that of what the status blames; want of memory
+    // comes before anything was read or written.
     ensures causes { HasCauses
         (record { disk = D.faults disk.old; source = S.faults source.old; sink = W.faults sink.old })
         (record { disk = D.faults disk.new; source = S.faults source.new; sink = W.faults sink.new }) result }
