@@ -45,11 +45,26 @@ so_both {xs = xs} {ys = ys} one two = record { size = omega (arith, length-appen
 
 -- ---- one piece
 
--- the bytes of one piece
-fitting : {R : Type 0} (p : Piece R) (r : R) → FitsIn p r → AreSo (width p) (spell p r)
-fitting (Byte get) r fits = record { size = refl; each = AreBytes-cons (get r) [] fits AreBytes-nil }
-fitting (Number n get) r fits = so_spelled n (get r)
-fitting (Bytes n get) r fits = fits
+-- a piece has its bytes, whatever number it is
+abbrev pub HasBytes : {R : Type 0} → Piece R → R → Type 0
+HasBytes (Byte get) r = get r < 256
+HasBytes (Number n get) r = Unit {0}
+HasBytes (Bytes n get) r = AreSo n (get r)
+
+abbrev pub HaveBytes : {R : Type 0} → List (Piece R) → R → Type 0
+HaveBytes [] r = Unit {0}
+HaveBytes (p ∷ ps) r = HasBytes p r × HaveBytes ps r
+
+so_piece : {R : Type 0} (p : Piece R) (r : R) → HasBytes p r → AreSo (width p) (spell p r)
+so_piece (Byte get) r has = record { size = refl; each = AreBytes-cons (get r) [] has AreBytes-nil }
+so_piece (Number n get) r has = so_spelled n (get r)
+so_piece (Bytes n get) r has = has
+
+-- and the more where it fits
+fitting : {R : Type 0} (p : Piece R) (r : R) → FitsIn p r → length (spell p r) ≡ width p
+fitting (Byte get) r fits = refl
+fitting (Number n get) r fits = length-spelled n (get r)
+fitting (Bytes n get) r fits = fits.size
 
 read_here : {R : Type 0} (p : Piece R) (at : ℕ) (bytes rest : List ℕ) (r : R) → FitsIn p r → drop at bytes ≡ spell p r ++ rest → IsReadAt p at bytes r
 read_here (Byte get) at bytes rest r fits is =
@@ -73,11 +88,11 @@ fits_here (Bytes n get) at bytes r are inside is =
 
 -- ---- all of them
 
--- pieces that fit are as many bytes as they have together
-pub so_text : {R : Type 0} (ps : List (Piece R)) (r : R) {n : ℕ} {rest : List ℕ} → Fit ps r → AreSo n rest → AreSo (total ps + n) (text ps r rest)
-so_text [] r fit is = record { size = omega (arith, is.size); each = is.each }
-so_text (p ∷ ps) r fit is =
-    let all = so_both (fitting p r fit.0) (so_text ps r fit.1 is) in
+-- pieces are as many bytes as they have together
+pub so_text : {R : Type 0} (ps : List (Piece R)) (r : R) {n : ℕ} {rest : List ℕ} → HaveBytes ps r → AreSo n rest → AreSo (total ps + n) (text ps r rest)
+so_text [] r has is = record { size = omega (arith, is.size); each = is.each }
+so_text (p ∷ ps) r has is =
+    let all = so_both (so_piece p r has.0) (so_text ps r has.1 is) in
     record { size = omega (arith, all.size); each = all.each }
 
 total-append : {R : Type 0} (ps qs : List (Piece R)) → total (ps ++ qs) ≡ total ps + total qs
@@ -97,14 +112,14 @@ pub behind : {R : Type 0} (ps : List (Piece R)) (at : ℕ) (bytes rest : List �
 behind [] at bytes rest r fit is = ap (λ (n : ℕ). drop n bytes) (let here : at + 0 ≡ at = omega arith in here) ∙ is
 behind (p ∷ ps) at bytes rest r fit is =
     let there : at + (width p + total ps) ≡ at + width p + total ps = omega arith in
-    ap (λ (n : ℕ). drop n bytes) there ∙ behind ps (at + width p) bytes rest r fit.1 (past at (width p) bytes (spell p r) _ is (fitting p r fit.0).size)
+    ap (λ (n : ℕ). drop n bytes) there ∙ behind ps (at + width p) bytes rest r fit.1 (past at (width p) bytes (spell p r) _ is (fitting p r fit.0))
 
 -- each is read where it stands
 pub read_back : {R : Type 0} (ps : List (Piece R)) (at : ℕ) (bytes rest : List ℕ) (r : R) → Fit ps r → drop at bytes ≡ text ps r rest → AreRead ps at bytes r
 read_back [] at bytes rest r fit is = tt
 read_back (p ∷ ps) at bytes rest r fit is = (
   read_here p at bytes _ r fit.0 is,
-  read_back ps (at + width p) bytes rest r fit.1 (past at (width p) bytes (spell p r) _ is (fitting p r fit.0).size),
+  read_back ps (at + width p) bytes rest r fit.1 (past at (width p) bytes (spell p r) _ is (fitting p r fit.0)),
 )
 
 -- and what is read stands there

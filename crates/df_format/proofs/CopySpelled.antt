@@ -11,11 +11,11 @@ use Rattle.df_base.specs.Image.{IsSector}
 use Rattle.df_format.specs.declared.superblock.SuperFields.{SuperFields}
 use Rattle.df_format.specs.declared.superblock.SuperCopy.{SuperCopy}
 use Rattle.df_format.specs.Spelling.{no_checksum}
-use Rattle.df_base.specs.Text.{AreSo, Fit, AreRead, text}
+use Rattle.df_base.specs.Text.{AreSo, Fit, AreRead}
 use Rattle.df_format.specs.Super.{AreChecks, FitsSuper, NamesNone, checks_bytes, fields, named, named_bytes, covered_bytes, front, copy_with, copy_bytes}
 use Rattle.df_format.specs.Copies.{nonzero_between, first_nonzero_of, checks_at, super_fields_of, has_checksum, has_zeros, is_copy, copy_in}
 use Rattle.df_format.specs.CopyLaws.{IsWritten, CopiesHaveOneSpelling, NamelessEndsInZeros}
-use Rattle.df_base.proofs.Laws.{so_none, so_many_zeros, so_spelled, so_check, so_both, so_text, behind, read_back, spelled_back, fit_back}
+use Rattle.df_base.proofs.Laws.{so_none, so_many_zeros, so_check, so_text, behind, read_back, spelled_back, fit_back}
 use Rattle.df_format.proofs.Checks.{so_many_checks, checks_zero, length-checks_at, are_checks, checks_read, read_checks, none_at}
 use Rattle.df_format.proofs.CopyParts.{zeros_within, neither, nothing_between}
 
@@ -32,7 +32,9 @@ front_fit number f small = assumption (so_check (covered_bytes f), so_many_zeros
 
 covered_size : (f : SuperFields) → FitsSuper f → AreSo 4064 (covered_bytes f)
 unfolding covered_bytes named_bytes
-covered_size f fits = so_text fields f (fields_fit f fits) (so_text named f (named_fit f fits) so_none)
+covered_size f fits =
+    let all = fields_fit f fits in
+    so_text fields f (assumption) (so_text named f (named_fit f fits) so_none)
 
 -- what names nothing is zeros there
 pub named_zeros : NamelessEndsInZeros
@@ -46,8 +48,8 @@ named_zeros f fits none =
 pub copy_is_sector : (number : ℕ) (f : SuperFields) → FitsSuper f → IsSector (copy_bytes number f)
 unfolding copy_bytes
 copy_is_sector number f fits =
-    let all : AreSo 4096 (text front (copy_with number f) (covered_bytes f)) = so_both (so_check (covered_bytes f)) (so_both (so_spelled 4 number) (so_both (so_many_zeros 12) (covered_size f fits))) in
-    record { size = all.size; each = all.each }
+    let all = so_text front (copy_with number f) (assumption (so_check (covered_bytes f), so_many_zeros 12)) (covered_size f fits) in
+    assumption
 
 -- ---- a copy is read from its spelling
 

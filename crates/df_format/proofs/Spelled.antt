@@ -8,7 +8,7 @@ use Rattle.std.proofs.lemmas.Option.{cond_some}
 use Rattle.df_base.specs.Fields.{AreBytes, spelled, check_of}
 use Rattle.df_format.specs.declared.header.Header.{Header}
 use Rattle.df_format.specs.declared.kind.Kind.{Kind}
-use Rattle.df_format.specs.declared.kind.Kind.TheVariants.{Reserved, Prepare, Reply, Block, Trailer}
+use Rattle.df_format.specs.declared.kind.Kind.TheVariants.{Reserved}
 use Rattle.df_base.specs.Text.{AreSo, Fit, AreRead}
 use Rattle.df_format.specs.Spelling.{code_of, tail, tail_of, fields, spelling, spelling_rest}
 use Rattle.df_format.specs.Rules.{FitsFields, IsSealed}
@@ -34,10 +34,7 @@ first_ends h is =
 
 code-small : (kind : Kind) → code_of kind < 256
 code-small Reserved = omega arith
-code-small Prepare = omega arith
-code-small Reply = omega arith
-code-small Block = omega arith
-code-small Trailer = omega arith
+code-small _ = omega arith
 
 fields_fit : (h : Header) → FitsFields h → Fit fields h
 fields_fit h fits = assumption (code-small h.kind)
@@ -47,7 +44,9 @@ tail_fit h fits = assumption (so_many_zeros 108)
 
 rest_size : (h : Header) → FitsFields h → AreSo 240 (spelling_rest h)
 unfolding spelling_rest tail_of
-rest_size h fits = so_text fields h (fields_fit h fits) (so_text tail h (tail_fit h fits) so_none)
+rest_size h fits =
+    let all = fields_fit h fits in
+    so_text fields h (assumption) (so_text tail h (assumption (so_many_zeros 108)) so_none)
 
 checksum_size : (h : Header) → IsSealed h → AreSo 16 h.checksum
 checksum_size h is = subst (λ (l : List ℕ). AreSo 16 l) (sym is.checksum) (so_check (spelling_rest h))
@@ -100,7 +99,7 @@ module _ (h : Header) (sealed : IsSealed h) where
       and_from _ _ (same_bytes _ _ (f_checksum ∙ sealed.checksum ∙ ap check_of (sym rest))) (same_bytes _ _ tail_read.1.1.1.1.0)
 
   header_ok : (is_spelled bytes && has_numbers (fields_of h.kind bytes)) ≡ true
-  header_ok = and_from _ _ fixed_ok (ap has_numbers is_fields ∙ passes h (record { cluster = sealed.rules.cluster; size = sealed.rules.size; kind = sealed.rules.kind; version = sealed.rules.version }))
+  header_ok = and_from _ _ fixed_ok (ap has_numbers is_fields ∙ passes h (assumption))
 
   pub reads : header_in bytes ≡ Some h
   unfolding header_in
@@ -169,17 +168,10 @@ module _ (bytes : List ℕ) (size : length bytes ≡ 256) (are : AreBytes bytes)
 
   all_spelled : take 16 bytes ≡ check_of (take 240 (drop 16 bytes)) → AreInRange found → IsSealed found × (bytes ≡ spelling found)
   all_spelled sum range =
-      let front : take 16 bytes ≡ found.checksum = unfold fields_of in refl in (
-        record {
-          rules = record {
-            fits = all_fit found (fit_back fields 16 bytes found are (omega arith) fields_found) (fit_back tail 122 bytes found are (omega arith) tail_found);
-            cluster = range.cluster;
-            size = range.size;
-            kind = range.kind;
-            version = range.version;
-          };
-          checksum = sym front ∙ sum ∙ ap check_of (take_all 240 (drop 16 bytes) (omega (arith, length-drop 16 bytes)) ∙ is_rest);
-        },
+      let front : take 16 bytes ≡ found.checksum = unfold fields_of in refl in
+      let fits = all_fit found (fit_back fields 16 bytes found are (omega arith) fields_found) (fit_back tail 122 bytes found are (omega arith) tail_found) in
+      let checksum = sym front ∙ sum ∙ ap check_of (take_all 240 (drop 16 bytes) (omega (arith, length-drop 16 bytes)) ∙ is_rest) in (
+        assumption (fits, checksum),
         piece 0 16 bytes found.checksum _ (sym front) is_rest,
       )
 

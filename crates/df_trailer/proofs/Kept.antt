@@ -2,7 +2,7 @@
 use Rattle.std.proofs.Common.{◌≡◌, ℕ, zero, suc, ◌+◌, ◌-◌, ◌*◌, ◌/◌, ◌<◌, ◌≤◌, ◌==◌, Bool, true, false, nat_lt, inl, inr, Option, Some, None, List, [], ◌∷◌, ◌++◌, length, take, drop, refl, sym, ap, ◌∙◌, subst, arith, append_assoc, length-append, length-drop, append-nil, ◌⊎◌}
 use Rattle.std.specs.Prelude.{if◌then◌else◌, slice_index}
 use Rattle.std.proofs.lemmas.Bool.{cases_eq, cases_lt, eq-eqb, ne_eqb, lt-ltb, le-ltb, ltb-false}
-use Rattle.std.proofs.lemmas.List.{ext_get_or, get_or-take, get_or_append_left, get_or-append-add, length-take-le, take-append-drop}
+use Rattle.std.proofs.lemmas.List.{drop_at, ext_get_or, get_or-take, get_or_append_left, get_or-append-add, length-take-le, take-append-drop}
 use Rattle.df_base.specs.Fields.{field_at}
 use Rattle.df_base.proofs.Laws.{field_front}
 use Rattle.df_theory.specs.Units.{Layout}
@@ -12,7 +12,6 @@ use Rattle.df_trailer.specs.declared.fault.Failing.{Failing}
 use Rattle.df_trailer.specs.Reading.{AreChecksKept, IsKept, failing_of, rest_tests}
 use Rattle.df_trailer.specs.Text.{bits, bits_at, bits_in, bits_of, head_end, head_tests, is_whole, ones, sessions_at, tests}
 use Rattle.df_trailer.proofs.Longer.{count_front, head_end_is, root_front, same_tests, whole_has}
-use Rattle.df_trailer.proofs.Pieces.{seam}
 
 abbrev pub or_first : Option Failing → Option Failing → Option Failing
 or_first None g = g
@@ -65,7 +64,7 @@ bits_kept n h rest bs size enough are =
     let same : bs ≡ take n rest =
     ext_get_or 0 bs (take n rest) (size ∙ sym (length-take-le n rest enough)) (λ i within. are i (omega arith) within ∙ sym (get_or-take n rest i 0 (omega arith))) in
     let front : field_at n 0 (take n rest ++ drop n rest) ≡ field_at n 0 (take n rest) = field_front n 0 (take n rest) (drop n rest) (omega (arith, length-take-le n rest enough)) in
-    ap (λ (xs : List ℕ). field_at n 0 xs) (seam (length h) h rest refl)
+    ap (λ (xs : List ℕ). field_at n 0 xs) (drop_at h rest (length h) refl)
     ∙ ap (λ (xs : List ℕ). field_at n 0 xs) (sym (take-append-drop n rest))
     ∙ front
     ∙ ap (λ (xs : List ℕ). field_at n 0 xs) (sym same)

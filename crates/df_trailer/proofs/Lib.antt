@@ -9,7 +9,6 @@ pub mod Longer
 pub mod OneBit
 pub mod Fed
 pub mod Kept
-pub mod Pieces
 pub mod Read
 pub mod References
 pub mod Rules

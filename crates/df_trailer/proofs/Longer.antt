@@ -6,16 +6,8 @@ use Rattle.std.proofs.lemmas.List.{take_more}
 use Rattle.df_base.specs.Fields.{field_at}
 use Rattle.df_base.proofs.Laws.{field_front}
 use Rattle.df_model.specs.Refusals.{first_refusal}
+use Rattle.df_trailer.proofs.Sessions.{sessions_front}
 use Rattle.df_trailer.specs.Text.{bits_at, count, count_at, head_end, head_tests, is_whole, read_sessions, root_size, sessions_at}
-
-pub sessions_front : (n at : ℕ) (xs ys : List ℕ) → at + 32 * n ≤ length xs → read_sessions n at (xs ++ ys) ≡ read_sessions n at xs
-sessions_front zero at xs ys fits = refl
-sessions_front (suc n) at xs ys fits =
-    let a = field_front 16 at xs ys (omega arith) in
-    let b = field_front 8 (at + 16) xs ys (omega arith) in
-    let c = field_front 8 (at + 24) xs ys (omega arith) in
-    let others = sessions_front n (at + 32) xs ys (omega arith) in
-    rw (a, b, c, others) refl
 
 pub root_front : (xs ys : List ℕ) → 4 ≤ length xs → root_size (xs ++ ys) ≡ root_size xs
 root_front xs ys fits = field_front 4 0 xs ys fits

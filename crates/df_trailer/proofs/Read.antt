@@ -2,19 +2,19 @@
 use Rattle.std.proofs.Common.{◌≡◌, ℕ, zero, suc, ◌+◌, ◌-◌, ◌*◌, ◌/◌, ◌^◌, ◌<◌, ◌≤◌, ◌==◌, Bool, true, false, Option, Some, None, List, [], ◌∷◌, ◌++◌, length, take, drop, refl, sym, ap, ◌∙◌, subst, arith, length-drop}
 use Rattle.std.specs.Prelude.{map, min}
 use Rattle.std.specs.List.{slice_get}
-use Rattle.std.proofs.lemmas.List.{length-take-le}
+use Rattle.std.proofs.lemmas.List.{length-take-le, take_at}
 use Rattle.std.proofs.lemmas.Bool.{ltb-false, leb-false, eqb-true, not-false}
-use Rattle.df_base.specs.Fields.{AreBytes, field_at, spelled}
-use Rattle.df_base.proofs.Laws.{field_at-lt, AreBytes-take, AreBytes-drop}
+use Rattle.df_base.specs.Fields.{AreBytes, field_at}
+use Rattle.df_base.specs.Text.{AreSo, total}
+use Rattle.df_base.proofs.Laws.{field_at-lt, AreBytes-take, AreBytes-drop, spelled_back}
 use Rattle.df_theory.specs.Units.{Layout, Parts, Session}
 use Rattle.df_model.specs.Codec.{InGrid, IsChecksum, IsLawful}
 use Rattle.df_model.specs.Refusals.{first_refusal}
 use Rattle.df_model.proofs.Laws.{all_pass}
 use Rattle.df_trailer.specs.declared.fault.Failing.{Failing}
 use Rattle.df_trailer.specs.declared.fault.Fault.{Fault}
-use Rattle.df_trailer.specs.Spelling.{bits_size, blocks_of, is_referenced, listed, number_of, spell, spell_blocks, spell_checks, spell_sessions}
-use Rattle.df_trailer.specs.Text.{at_address, at_place, bits, bits_at, bits_of, checks_at, count, count_at, end_at, fault, fault_in, first_wrong, parse, parts_of, read_blocks, read_sessions, root_size, sessions_at, tests, unless, whole}
-use Rattle.df_trailer.proofs.Pieces.{joined, number_joined}
+use Rattle.df_trailer.specs.Spelling.{bits_size, blocks_of, is_referenced, listed, number_of, spell, spell_checks, spell_sessions, trailer_pieces}
+use Rattle.df_trailer.specs.Text.{at_address, at_place, bits, bits_at, bits_of, checks_at, count, count_at, end_at, fault, fault_in, first_wrong, parse, parts_of, read_blocks, read_sessions, root_size, session, sessions_at, tests, unless, whole}
 use Rattle.df_trailer.proofs.Bits.{length_bits, number_bits}
 use Rattle.df_trailer.proofs.Blocks as blocks
 use Rattle.df_trailer.proofs.Sessions as sessions
@@ -61,44 +61,31 @@ fine l op text none =
 
 pub spelled_again : (l : Layout) (op : ℕ) (text : List ℕ) → AreBytes text → IsFine l op text → spell l (parts_of l text) ≡ text
 spelled_again l op text are f =
-    let bs : List (Option ℕ) = read_blocks (bits_of l.blocks (bits l text)) (checks_at l text) text in
-    let ss : List Session = read_sessions (count text) (sessions_at text) text in
-    let root : List ℕ = take (root_size text) (drop 4 text) in
-    let n_bits : length (bits_of l.blocks (bits l text)) ≡ l.blocks = length_bits l.blocks (bits l text) in
-    let n_blocks : length bs ≡ l.blocks = blocks.length_read (bits_of l.blocks (bits l text)) (checks_at l text) text ∙ n_bits in
-    let listed_is : blocks_of l (parts_of l text) ≡ bs = ap (λ (n : ℕ). listed (at_place bs) n) (sym n_blocks) ∙ blocks.listed_places bs in
-    let number_is : number_of (map is_referenced bs) ≡ bits l text =
-    ap (λ (xs : List Bool). number_of xs) (blocks.bits_read (bits_of l.blocks (bits l text)) (checks_at l text) text) ∙ number_bits l.blocks (bits l text) f.bits_are in
-    let d5 : spell_checks bs ≡ drop (checks_at l text) text = blocks.checks_spelled (bits_of l.blocks (bits l text)) (checks_at l text) text are (sym f.ends) in
-    let d4 : spelled (bits_size l) (bits l text) ++ spell_checks bs ≡ drop (bits_at text) text = number_joined (bits_at text) (bits_size l) text (spell_checks bs) are (omega (arith, f.ends)) (sym d5) in
-    let d4' : spell_blocks l bs ≡ drop (bits_at text) text = ap (λ (x : ℕ). spelled (bits_size l) x ++ spell_checks bs) number_is ∙ d4 in
-    let d3 : spell_sessions ss ++ spell_blocks l bs ≡ drop (sessions_at text) text =
-    sessions.sessions_spelled (count text) (sessions_at text) text (spell_blocks l bs) are (omega (arith, f.ends)) (sym d4') in
-    let d2 : spelled 4 (count text) ++ (spell_sessions ss ++ spell_blocks l bs) ≡ drop (count_at text) text =
-    number_joined (count_at text) 4 text (spell_sessions ss ++ spell_blocks l bs) are (omega (arith, f.ends)) (sym d3) in
-    let n_ss : length ss ≡ count text = sessions.length_read (count text) (sessions_at text) text in
-    let d2' : spelled 4 (length ss) ++ (spell_sessions ss ++ spell_blocks l bs) ≡ drop (count_at text) text =
-    ap (λ (n : ℕ). spelled 4 n ++ (spell_sessions ss ++ spell_blocks l bs)) n_ss ∙ d2 in
-    let d1 : root ++ (spelled 4 (length ss) ++ (spell_sessions ss ++ spell_blocks l bs)) ≡ drop 4 text =
-    ap (λ (ys : List ℕ). root ++ ys) d2' ∙ joined 4 (root_size text) text in
-    let n_root : length root ≡ root_size text = length-take-le (root_size text) (drop 4 text) (omega (arith, f.ends, length-drop 4 text)) in
-    let d0 : spelled 4 (root_size text) ++ (root ++ (spelled 4 (length ss) ++ (spell_sessions ss ++ spell_blocks l bs))) ≡ text =
-    number_joined 0 4 text (root ++ (spelled 4 (length ss) ++ (spell_sessions ss ++ spell_blocks l bs))) are f.start (sym d1) in
-    ap (λ (xs : List (Option ℕ)). spelled 4 (length root) ++ (root ++ (spelled 4 (length ss) ++ (spell_sessions ss ++ spell_blocks l xs)))) listed_is
-    ∙ ap (λ (n : ℕ). spelled 4 n ++ (root ++ (spelled 4 (length ss) ++ (spell_sessions ss ++ spell_blocks l bs)))) n_root
-    ∙ d0
+    let parts : Parts = parts_of l text in
+    let set : List Bool = bits_of l.blocks (bits l text) in
+    let bs : List (Option ℕ) = read_blocks set (checks_at l text) text in
+    let rest : List ℕ = drop (bits_at text) text in
+    let n_root : length parts.root ≡ root_size text = length-take-le (root_size text) (drop 4 text) (omega (arith, f.ends, length-drop 4 text)) in
+    let n_sessions : length parts.sessions ≡ count text = sessions.length_read (count text) (sessions_at text) text in
+    let n_blocks : length bs ≡ l.blocks = blocks.length_read set (checks_at l text) text ∙ length_bits l.blocks (bits l text) in
+    let blocks_are : blocks_of l parts ≡ bs = ap (λ (n : ℕ). listed (at_place bs) n) (sym n_blocks) ∙ blocks.listed_places bs in
+    let number : number_of (map is_referenced (blocks_of l parts)) ≡ bits l text =
+    ap (λ (all : List (Option ℕ)). number_of (map is_referenced all)) blocks_are ∙ ap number_of (blocks.bits_read set (checks_at l text) text) ∙ number_bits l.blocks (bits l text) f.bits_are in
+    let spelled_sessions : take (32 * count text) (drop (sessions_at text) text) ≡ spell_sessions parts.sessions =
+    ap (take (32 * count text)) (sessions.sessions_spelled (count text) (sessions_at text) text rest are (omega (arith, f.ends)) refl)
+    ∙ take_at (spell_sessions parts.sessions) rest (32 * count text) (omega (arith, (sessions.so_sessions parts.sessions).size, n_sessions)) in
+    let checks : drop (checks_at l text) text ≡ spell_checks (blocks_of l parts) = sym (ap spell_checks blocks_are ∙ blocks.checks_spelled set (checks_at l text) text are (sym f.ends)) in
+    let ends : 0 + total (trailer_pieces l (root_size text) (count text)) ≡ checks_at l text = omega arith in
+    sym (spelled_back (trailer_pieces l (root_size text) (count text)) 0 text (spell_checks (blocks_of l parts)) parts are (omega (arith, f.ends)) (assumption (sym n_root, sym n_sessions, sym number))
+    (ap (λ (n : ℕ). drop n text) ends ∙ checks))
 
 -- ---- the parts are lawful
 
 clients_small : (n at : ℕ) (text : List ℕ) → AreBytes text → (k : ℕ) (s : Session) → slice_get (read_sessions n at text) k ≡ Some s → s.client < 2 ^ 128
 clients_small zero at text are k s is = absurd (cc)
-clients_small (suc n) at text are zero s is = under (ap (λ (t : Session). t.client) (one is)) (field_at-lt 16 at text are)
-  where
-    one : {t : Session} → Some t ≡ Some s → t ≡ s
-    one e = cc
-
-    under : {x c : ℕ} → x ≡ c → x < 256 ^ 16 → c < 2 ^ 128
-    under e h = omega arith
+clients_small (suc n) at text are zero s is =
+    let one : session at text ≡ s = cc in
+    omega (arith, field_at-lt 16 at text are, ap (λ (t : Session). t.client) one)
 clients_small (suc n) at text are (suc k) s is = clients_small n (at + 32) text are k s is
 
 -- what is at a place of the blocks
@@ -110,10 +97,7 @@ block_is : (bits : List Bool) (at : ℕ) (text : List ℕ) → AreBytes text →
 block_is [] at text are k c is = absurd (cc)
 block_is (false ∷ bits) at text are zero c is = absurd (cc)
 block_is (false ∷ bits) at text are (suc k) c is = let b = block_is bits at text are k c is in record { within = omega (arith, b.within); small = b.small }
-block_is (true ∷ bits) at text are zero c is = let e : field_at 16 at text ≡ c = cc in record { within = omega arith; small = under e (field_at-lt 16 at text are) }
-  where
-    under : {x c : ℕ} → x ≡ c → x < 256 ^ 16 → c < 2 ^ 128
-    under e h = omega arith
+block_is (true ∷ bits) at text are zero c is = let e : field_at 16 at text ≡ c = cc in record { within = omega arith; small = omega (arith, e, field_at-lt 16 at text are) }
 block_is (true ∷ bits) at text are (suc k) c is = let b = block_is bits (at + 16) text are k c is in record { within = omega (arith, b.within); small = b.small }
 
 pub parts_lawful : (l : Layout) (op : ℕ) (text : List ℕ) → op ≤ 2 ^ 62 → AreBytes text → IsFine l op text → IsLawful l op (parts_of l text)

@@ -17,7 +17,8 @@ use Rattle.df_trailer.specs.Spelling.{bits_size, listed}
 use Rattle.df_trailer.specs.Text.{bits_in, bits_of, count, fault, fault_in, head_tests, ones, parts_of, read_sessions, root_size, sessions_at}
 use Rattle.df_trailer.proofs.Fed.{fails_as_read, room_size}
 use Rattle.df_trailer.proofs.Kept.{IsEnd, append_first, head_ends, or_first}
-use Rattle.df_trailer.proofs.Longer.{count_front, root_front, sessions_front}
+use Rattle.df_trailer.proofs.Longer.{count_front, root_front}
+use Rattle.df_trailer.proofs.Sessions.{sessions_front}
 use Rattle.df_trailer.proofs.OneBit.{count_next, count_same}
 use Rattle.df_trailer.proofs.References.{few_ones, reference_at}
 use Rattle.df_trailer.proofs.Words.{at_listed, length_listed}

@@ -1,72 +1,63 @@
 -- The sessions of a trailer, spelled and read back.
-use Rattle.std.proofs.Common.{◌≡◌, ℕ, zero, suc, ◌+◌, ◌*◌, ◌^◌, ◌<◌, ◌≤◌, List, [], ◌∷◌, ◌++◌, length, drop, refl, sym, ap, ◌∙◌, arith, length-append, append_assoc}
-use Rattle.df_base.specs.Fields.{AreBytes, field_at, spelled}
-use Rattle.df_base.proofs.Laws.{length-spelled, field_spelled}
+use Rattle.std.proofs.Common.{◌≡◌, ℕ, zero, suc, ◌+◌, ◌*◌, ◌^◌, ◌<◌, ◌≤◌, List, [], ◌∷◌, ◌++◌, length, drop, refl, sym, ap, ◌∙◌, arith}
+use Rattle.df_base.specs.Fields.{AreBytes, field_at}
+use Rattle.df_base.specs.Text.{AreSo, Fit, AreRead}
+use Rattle.df_base.proofs.Laws.{field_front, so_none, so_text, text-append, behind, read_back, spelled_back}
 use Rattle.df_theory.specs.Units.{Session}
-use Rattle.df_trailer.specs.Spelling.{spell_sessions}
+use Rattle.df_trailer.specs.Spelling.{session_pieces, spell_sessions}
 use Rattle.df_trailer.specs.Text.{read_sessions, session}
-use Rattle.df_trailer.proofs.Pieces.{behind_number, number_joined}
 
 -- the numbers of the sessions fit their fields
 abbrev pub AreSmall : List Session → Type 0
 AreSmall [] = Unit {0}
-AreSmall (s ∷ ss) = (s.client < 2 ^ 128) × (s.request < 2 ^ 64) × (s.op < 2 ^ 64) × AreSmall ss
+AreSmall (s ∷ ss) = Fit session_pieces s × AreSmall ss
 
-pub length_sessions : (ss : List Session) → length (spell_sessions ss) ≡ 32 * length ss
-length_sessions [] = refl
-length_sessions (s ∷ ss) =
-    let a = length-append (spelled 16 s.client) (spelled 8 s.request ++ (spelled 8 s.op ++ spell_sessions ss)) in
-    let b = length-append (spelled 8 s.request) (spelled 8 s.op ++ spell_sessions ss) in
-    let c = length-append (spelled 8 s.op) (spell_sessions ss) in
-    omega (arith, length_sessions ss, length-spelled 16 s.client, length-spelled 8 s.request, length-spelled 8 s.op)
+pub so_sessions : (ss : List Session) → AreSo (32 * length ss) (spell_sessions ss)
+so_sessions [] = so_none
+so_sessions (s ∷ ss) =
+    let all = so_text session_pieces s (assumption) (so_sessions ss) in
+    record { size = omega (arith, all.size); each = all.each }
 
 pub length_read : (n at : ℕ) (text : List ℕ) → length (read_sessions n at text) ≡ n
 length_read zero at text = refl
 length_read (suc n) at text = ap suc (length_read n (at + 32) text)
 
-regroup : (s : Session) (ss : List Session) (rest : List ℕ)
-    → spell_sessions (s ∷ ss) ++ rest ≡ spelled 16 s.client ++ (spelled 8 s.request ++ (spelled 8 s.op ++ (spell_sessions ss ++ rest)))
-regroup s ss rest = simp append_assoc refl
+-- the op stands behind the request
+op_at : (at : ℕ) (text : List ℕ) → field_at 8 (at + 24) text ≡ field_at 8 (at + 16 + 8) text
+op_at at text = ap (λ (n : ℕ). field_at 8 n text) (let there : at + 24 ≡ at + 16 + 8 = omega arith in there)
 
 pub sessions_read : (ss : List Session) (at : ℕ) (text rest : List ℕ) → AreSmall ss → drop at text ≡ spell_sessions ss ++ rest → read_sessions (length ss) at text ≡ ss
 sessions_read [] at text rest small is = refl
 sessions_read (s ∷ ss) at text rest small is =
-    let third : List ℕ = spell_sessions ss ++ rest in
-    let second : List ℕ = spelled 8 s.op ++ third in
-    let first : List ℕ = spelled 8 s.request ++ second in
-    let from = is ∙ regroup s ss rest in
-    let client : field_at 16 at text ≡ s.client = field_spelled 16 at s.client text first from small.0 in
-    let from1 = behind_number at 16 s.client text first from in
-    let request : field_at 8 (at + 16) text ≡ s.request = field_spelled 8 (at + 16) s.request text second from1 small.1 in
-    let from2 : drop (at + 24) text ≡ second = ap (λ (n : ℕ). drop n text) (plus at 16 8) ∙ behind_number (at + 16) 8 s.request text second from1 in
-    let op : field_at 8 (at + 24) text ≡ s.op = field_spelled 8 (at + 24) s.op text third from2 small.2 in
-    let from3 : drop (at + 32) text ≡ third = ap (λ (n : ℕ). drop n text) (plus at 24 8) ∙ behind_number (at + 24) 8 s.op text third from2 in
-    let others = sessions_read ss (at + 32) text rest small.3 from3 in
-    rw (client, request, op, others) refl
-  where
-    plus : (at a b : ℕ) → at + (a + b) ≡ (at + a) + b
-    plus at a b = omega arith
+    let from = is ∙ text-append session_pieces s (spell_sessions ss) rest in
+    let here = read_back session_pieces at text (spell_sessions ss ++ rest) s small.0 from in
+    let op : field_at 8 (at + 24) text ≡ s.op = op_at at text ∙ here.1.1.0 in
+    let others = sessions_read ss (at + 32) text rest small.1 (behind session_pieces at text (spell_sessions ss ++ rest) s small.0 from) in
+    λ i. record { client = here.0 i; request = here.1.0 i; op = op i } ∷ others i
 
-pub sessions_spelled : (n at : ℕ) (text rest : List ℕ) → AreBytes text → at + 32 * n ≤ length text → drop (at + 32 * n) text ≡ rest → spell_sessions (read_sessions n at text) ++ rest ≡ drop at text
-sessions_spelled zero at text rest are fits is = sym is ∙ ap (λ (m : ℕ). drop m text) (none at)
-  where
-    none : (at : ℕ) → at + 32 * 0 ≡ at
-    none at = omega arith
+pub sessions_spelled : (n at : ℕ) (text rest : List ℕ) → AreBytes text → at + 32 * n ≤ length text → drop (at + 32 * n) text ≡ rest → drop at text ≡ spell_sessions (read_sessions n at text) ++ rest
+sessions_spelled zero at text rest are fits is = ap (λ (m : ℕ). drop m text) (let here : at ≡ at + 32 * 0 = omega arith in here) ∙ is
 sessions_spelled (suc n) at text rest are fits is =
     let ss : List Session = read_sessions n (at + 32) text in
-    let others : spell_sessions ss ++ rest ≡ drop (at + 32) text =
-    sessions_spelled n (at + 32) text rest are (omega arith) (ap (λ (m : ℕ). drop m text) (far at n) ∙ is) in
-    let third = number_joined (at + 24) 8 text (spell_sessions ss ++ rest) are (omega arith) (ap (λ (m : ℕ). drop m text) (plus at 24 8) ∙ sym others) in
-    let second = number_joined (at + 16) 8 text (drop (at + 24) text) are (omega arith) (ap (λ (m : ℕ). drop m text) (plus at 16 8)) in
-    let first = number_joined at 16 text (drop (at + 16) text) are (omega arith) refl in
-    regroup (record { client = field_at 16 at text; request = field_at 8 (at + 16) text; op = field_at 8 (at + 24) text }) ss rest
-    ∙ rw (third, second, first) refl
-  where
-    plus : (at a b : ℕ) → (at + a) + b ≡ at + (a + b)
-    plus at a b = omega arith
+    let far : (at + 32) + 32 * n ≡ at + 32 * suc n = omega arith in
+    let others = sessions_spelled n (at + 32) text rest are (omega arith) (ap (λ (m : ℕ). drop m text) far ∙ is) in
+    spelled_back session_pieces at text (spell_sessions ss ++ rest) (session at text) are (omega arith) (assumption (sym (op_at at text))) others
+    ∙ sym (text-append session_pieces (session at text) (spell_sessions ss) rest)
 
-    far : (at n : ℕ) → (at + 32) + 32 * n ≡ at + 32 * suc n
-    far at n = omega arith
+-- what stands in a text stays where more comes behind it
+pub session_front : (at : ℕ) (xs ys : List ℕ) → at + 32 ≤ length xs → session at (xs ++ ys) ≡ session at xs
+session_front at xs ys fits =
+    let client = field_front 16 at xs ys (omega arith) in
+    let request = field_front 8 (at + 16) xs ys (omega arith) in
+    let op = field_front 8 (at + 24) xs ys (omega arith) in
+    λ i. record { client = client i; request = request i; op = op i }
+
+pub sessions_front : (n at : ℕ) (xs ys : List ℕ) → at + 32 * n ≤ length xs → read_sessions n at (xs ++ ys) ≡ read_sessions n at xs
+sessions_front zero at xs ys fits = refl
+sessions_front (suc n) at xs ys fits =
+    let here = session_front at xs ys (omega arith) in
+    let others = sessions_front n (at + 32) xs ys (omega arith) in
+    λ i. here i ∷ others i
 
 -- one session more
 pub read_more : (n at : ℕ) (text : List ℕ) → read_sessions n at text ++ session (at + 32 * n) text ∷ [] ≡ read_sessions (n + 1) at text

@@ -12,7 +12,7 @@ use Rattle.df_trailer.specs.Rooms.{session_of}
 use Rattle.df_trailer.specs.Spelling.{listed, spell_checks, spell_sessions}
 use Rattle.df_trailer.specs.Writing.{IsShown, captured_bits, captured_blocks, piece_of, sessions_of}
 use Rattle.df_trailer.proofs.BitBytes.{bit_for, number_bit, past_end}
-use Rattle.df_trailer.proofs.Sessions.{length_sessions}
+use Rattle.df_trailer.proofs.Sessions.{so_sessions}
 use Rattle.df_trailer.proofs.Words.{at_listed, length_listed}
 
 pub shown_more : (text item room new : List ℕ) (from at : ℕ) → length text ≡ at → length new ≡ length room
@@ -57,10 +57,10 @@ sessions_more text ss i d within =
 pub size_before : (text : List ℕ) (ss : List table.Session) (i start : ℕ) → length text ≡ start → i ≤ length ss → length (text ++ spell_sessions (sessions_of (take i ss))) ≡ start + 32 * i
 size_before text ss i start size within =
     let a = length-append text (spell_sessions (sessions_of (take i ss))) in
-    let b = length_sessions (sessions_of (take i ss)) in
+    let b = so_sessions (sessions_of (take i ss)) in
     let c = length_of (take i ss) in
     let d = length-take-le i ss within in
-    omega arith
+    omega (arith, b.size)
 
 pub one_session : (text : List ℕ) (s : Session) → ((text ++ spelled 16 s.client) ++ spelled 8 s.request) ++ spelled 8 s.op ≡ text ++ spell_sessions (s ∷ [])
 one_session text s = simp (append_assoc, append-nil) refl

@@ -1,31 +1,25 @@
 -- How long a trailer is, and how many pieces that makes.
-use Rattle.std.proofs.Common.{◌≡◌, ℕ, zero, suc, ◌+◌, ◌-◌, ◌*◌, ◌/◌, ◌%◌, ◌<◌, ◌≤◌, Option, List, ◌++◌, length, ap, ◌∙◌, arith, length-append}
+use Rattle.std.proofs.Common.{◌≡◌, ℕ, zero, suc, ◌+◌, ◌-◌, ◌*◌, ◌/◌, ◌%◌, ◌<◌, ◌≤◌, Option, List, ◌++◌, length, drop, ap, ◌∙◌, arith, length-append}
 use Rattle.std.specs.Prelude.{map, min}
 use Rattle.std.specs.Int.{div_ceil}
 use Rattle.std.proofs.Math.Nat.{mul_comm, suc-mul}
 use Rattle.std.proofs.lemmas.Grind.{div_ceil_times}
 use Rattle.df_base.specs.Fields.{spelled}
-use Rattle.df_base.proofs.Laws.{length-spelled}
+use Rattle.df_base.specs.Text.{Piece, AreSo, text}
+use Rattle.df_base.proofs.Laws.{length-spelled, so_text}
 use Rattle.df_theory.specs.Trailer.{IsCount}
 use Rattle.df_theory.specs.Units.{Layout, Parts}
-use Rattle.df_trailer.specs.Spelling.{bits_size, blocks_of, is_referenced, number_of, spell, spell_blocks, spell_checks, spell_sessions, text_size}
+use Rattle.df_trailer.specs.Spelling.{blocks_of, is_referenced, spell, spell_checks, text_size, trailer_pieces}
 use Rattle.df_trailer.specs.Text.{ones}
-use Rattle.df_trailer.proofs.Blocks.{length_checks}
-use Rattle.df_trailer.proofs.Sessions.{length_sessions}
+use Rattle.df_trailer.proofs.Blocks.{so_checks}
+use Rattle.df_trailer.proofs.Sessions.{so_sessions}
 
 pub text_sized : (l : Layout) (parts : Parts) → length (spell l parts) ≡ text_size l (length parts.root) (length parts.sessions) (ones (map is_referenced (blocks_of l parts)))
 text_sized l parts =
-    let bs : List (Option ℕ) = blocks_of l parts in
-    let x : ℕ = number_of (map is_referenced bs) in
-    let t4 : List ℕ = spell_sessions parts.sessions ++ spell_blocks l bs in
-    let t3 : List ℕ = spelled 4 (length parts.sessions) ++ t4 in
-    let t2 : List ℕ = parts.root ++ t3 in
-    let a = length-append (spelled 4 (length parts.root)) t2 in
-    let b = length-append parts.root t3 in
-    let c = length-append (spelled 4 (length parts.sessions)) t4 in
-    let d = length-append (spell_sessions parts.sessions) (spell_blocks l bs) in
-    let e = length-append (spelled (bits_size l) x) (spell_checks bs) in
-    omega (arith, a, b, c, d, e, length-spelled 4 (length parts.root), length-spelled 4 (length parts.sessions), length-spelled (bits_size l) x, length_sessions parts.sessions, length_checks bs)
+    let pieces : List (Piece Parts) = drop 2 (trailer_pieces l 0 (length parts.sessions)) in
+    let rest : List ℕ = text pieces parts (spell_checks (blocks_of l parts)) in
+    let all = so_text pieces parts (assumption (so_sessions parts.sessions)) (so_checks (blocks_of l parts)) in
+    omega (arith, all.size, length-append (spelled 4 (length parts.root)) (parts.root ++ rest), length-append parts.root rest, length-spelled 4 (length parts.root))
 
 pub count_is : (size room n : ℕ) → 0 < room → n ≡ div_ceil size room → IsCount room size n
 count_is size room n some is =

@@ -10,7 +10,7 @@ use Rattle.df_trailer.specs.Spelling.{is_referenced, spell_checks}
 use Rattle.df_trailer.specs.Text.{ones}
 use Rattle.df_trailer.specs.Writing.{IsShown, captured_blocks, referenced_among}
 use Rattle.df_trailer.proofs.BitBytes.{spelled_more, spelled_none}
-use Rattle.df_trailer.proofs.Blocks.{length_checks, length_listed}
+use Rattle.df_trailer.proofs.Blocks.{length_listed, so_checks}
 use Rattle.df_trailer.proofs.Shown.{checks_more, shown_all}
 
 -- a text that ends before the window
@@ -77,7 +77,7 @@ pub referenced_few : (f : ℕ → Option ℕ) (n : ℕ) → referenced_among f n
 referenced_few f n = omega (arith, ones_few (captured_blocks f n), length_listed (λ place. f (suc place)) n)
 
 pub checks_size : (f : ℕ → Option ℕ) (n : ℕ) → length (spell_checks (captured_blocks f n)) ≡ 16 * referenced_among f n
-checks_size f n = length_checks (captured_blocks f n)
+checks_size f n = (so_checks (captured_blocks f n)).size
 
 -- ---- bits
 

@@ -1,5 +1,5 @@
 -- What fails in a text, whatever comes behind it, fails in each longer text.
-use Rattle.std.proofs.Common.{◌≡◌, ℕ, zero, suc, ◌+◌, ◌-◌, ◌*◌, ◌/◌, ◌^◌, ◌<◌, ◌≤◌, ◌==◌, Bool, true, false, nat_lt, inl, inr, Option, Some, None, List, [], ◌∷◌, ◌++◌, length, refl, ap, subst, arith, length-append}
+use Rattle.std.proofs.Common.{◌≡◌, ℕ, zero, suc, ◌+◌, ◌-◌, ◌*◌, ◌/◌, ◌^◌, ◌<◌, ◌≤◌, ◌==◌, Bool, true, false, nat_lt, inl, inr, Option, Some, None, List, [], ◌∷◌, ◌++◌, length, refl, ap, ◌∙◌, subst, arith, length-append}
 use Rattle.std.specs.Prelude.{min, nat_le, if◌then◌else◌}
 use Rattle.std.proofs.lemmas.Bool.{cases_Bool, cases_lt, lt-ltb, le-ltb, le-leb, lt-leb}
 use Rattle.df_base.specs.Fields.{field_at}
@@ -9,19 +9,18 @@ use Rattle.df_model.specs.Refusals.{first_refusal}
 use Rattle.df_trailer.specs.declared.fault.Failing.{Failing}
 use Rattle.df_trailer.specs.declared.fault.Fault.{Fault}
 use Rattle.df_trailer.specs.Text.{fault, fault_in, refusal_in, says, tests, bits, bits_at, checks_at, count, count_at, end_at, first_wrong, is_wrong, read_sessions, refusal, root_size, session, sessions_at, whole, wrong_place}
-use Rattle.df_trailer.proofs.Longer.{root_front, sessions_front}
+use Rattle.df_trailer.proofs.Longer.{root_front}
+use Rattle.df_trailer.proofs.Sessions.{session_front, sessions_front}
 
 wrong_front : (op : ℕ) (before : List Session) (n m at : ℕ) (t ys : List ℕ) → n ≤ m → at + 32 * n ≤ length t → wrong_place op before (read_sessions n at t) < n
     → wrong_place op before (read_sessions m at (t ++ ys)) ≡ wrong_place op before (read_sessions n at t)
 wrong_front op before zero m at t ys more fits wrong = absurd (omega arith)
 wrong_front op before (suc n) zero at t ys more fits wrong = absurd (omega arith)
 wrong_front op before (suc n) (suc m) at t ys more fits wrong =
-    let a = field_front 16 at t ys (omega arith) in
-    let b = field_front 8 (at + 16) t ys (omega arith) in
-    let c = field_front 8 (at + 24) t ys (omega arith) in
-    elim (cases_Bool (is_wrong op before (session at t))) [
-      | inl is ↦ rw (a, b, c, is) refl
-      | inr fine ↦ rw (a, b, c, fine) (ap suc (wrong_front op (session at t ∷ before) n m (at + 32) t ys (omega arith) (omega arith) (less (rw fine at wrong))))
+    ap (λ (s : Session). wrong_place op before (s ∷ read_sessions m (at + 32) (t ++ ys))) (session_front at t ys (omega arith))
+    ∙ elim (cases_Bool (is_wrong op before (session at t))) [
+      | inl is ↦ rw is refl
+      | inr fine ↦ rw fine (ap suc (wrong_front op (session at t ∷ before) n m (at + 32) t ys (omega arith) (omega arith) (less (rw fine at wrong))))
     ]
   where
     less : suc (wrong_place op (session at t ∷ before) (read_sessions n (at + 32) t)) < suc n → wrong_place op (session at t ∷ before) (read_sessions n (at + 32) t) < n

@@ -1,6 +1,8 @@
 -- How the parts of a trailer are spelled: numbers with their lowest byte first, with nothing between them.
 use Rattle.std.specs.Prelude.{ℕ, zero, suc, ◌+◌, ◌*◌, ◌/◌, Bool, true, false, if◌then◌else◌, List, [], ◌∷◌, ◌++◌, length, map, Option, Some, None}
 use Rattle.df_base.specs.Fields.{spelled}
+use Rattle.df_base.specs.Text.{Piece, text}
+use Rattle.df_base.specs.Text.Piece.{Number, Bytes}
 use Rattle.df_theory.specs.Units.{Layout, Parts, Session}
 
 abbrev pub is_referenced : Option ℕ → Bool
@@ -24,9 +26,13 @@ number_of (b ∷ bs) = (if b then 1 else 0) + 2 * number_of bs
 abbrev pub bits_size : Layout → ℕ
 bits_size l = (l.blocks + 7) / 8
 
+-- the 32 bytes of a session: its client, its request and its op
+abbrev pub session_pieces : List (Piece Session)
+session_pieces = Number 16 (λ s. s.client) ∷ Number 8 (λ s. s.request) ∷ Number 8 (λ s. s.op) ∷ []
+
 abbrev pub spell_sessions : List Session → List ℕ
 spell_sessions [] = []
-spell_sessions (s ∷ ss) = spelled 16 s.client ++ (spelled 8 s.request ++ (spelled 8 s.op ++ spell_sessions ss))
+spell_sessions (s ∷ ss) = text session_pieces s (spell_sessions ss)
 
 -- the checksum of each referenced block
 abbrev pub spell_checks : List (Option ℕ) → List ℕ
@@ -34,16 +40,20 @@ spell_checks [] = []
 spell_checks (None ∷ bs) = spell_checks bs
 spell_checks (Some checksum ∷ bs) = spelled 16 checksum ++ spell_checks bs
 
--- bits for all blocks, as one number, and the checksums of the referenced ones
-abbrev pub spell_blocks : Layout → List (Option ℕ) → List ℕ
-spell_blocks l bs = spelled (bits_size l) (number_of (map is_referenced bs)) ++ spell_checks bs
+-- what stands before the checksums, with a root of so many bytes and so many sessions: both, each behind its count, and the bits of all
+-- blocks, as one number
+abbrev pub trailer_pieces : Layout → (root sessions : ℕ) → List (Piece Parts)
+trailer_pieces l root sessions =
+    Number 4 (λ p. length p.root)
+    ∷ Bytes root (λ p. p.root)
+    ∷ Number 4 (λ p. length p.sessions)
+    ∷ Bytes (32 * sessions) (λ p. spell_sessions p.sessions)
+    ∷ Number (bits_size l) (λ p. number_of (map is_referenced (blocks_of l p)))
+    ∷ []
 
 -- the text of a trailer
 abbrev pub spell : Layout → Parts → List ℕ
-spell l parts =
-    spelled 4 (length parts.root) ++ (parts.root
-    ++ (spelled 4 (length parts.sessions) ++ (spell_sessions parts.sessions
-    ++ spell_blocks l (blocks_of l parts))))
+spell l parts = text (trailer_pieces l (length parts.root) (length parts.sessions)) parts (spell_checks (blocks_of l parts))
 
 -- how long the text is, of a root of so many bytes, so many sessions and so many referenced blocks
 abbrev pub text_size : Layout → (root sessions references : ℕ) → ℕ
