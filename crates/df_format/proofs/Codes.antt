@@ -10,10 +10,7 @@ use Rattle.df_format.specs.Reading.{kind_of}
 pub kind_of-code : (kind : Kind) → kind_of (code_of kind) ≡ Some kind
 unfolding kind_of
 kind_of-code Reserved = refl
-kind_of-code Prepare = refl
-kind_of-code Reply = refl
-kind_of-code Block = refl
-kind_of-code Trailer = refl
+kind_of-code _ = refl
 
 -- one test of a code: it has passed, or a later one
 code_by : (code : ℕ) (b : Bool) (first kind : Kind) (o : Option Kind) → (code == code_of first) ≡ b → cond b (Some first) o ≡ Some kind → (o ≡ Some kind → code ≡ code_of kind) → code ≡ code_of kind

@@ -4,7 +4,7 @@ use Rattle.std.specs.Str.{bytes_eq}
 use Rattle.std.proofs.lemmas.List.{take-append-drop, take-append-le, drop-append-le, length-take-le, length-drop}
 use Rattle.df_base.specs.Fields.{check_of}
 use Rattle.df_layout.specs.declared.places.Zone.{Zone}
-use Rattle.df_layout.specs.declared.places.Zone.TheVariants.{Superblock, WalHeaders, WalPrepares, ClientReplies, Grid}
+use Rattle.df_layout.specs.declared.places.Zone.TheVariants.{WalHeaders}
 use Rattle.df_format.specs.declared.header.Header.{Header}
 use Rattle.df_format.specs.Message.{sectors_of, unit_of}
 use Rattle.df_format.specs.Reading.{header_in}
@@ -24,18 +24,12 @@ fronts k m n xs rest inside long =
     front_part k m n xs rest inside long ∙ sym (front_part k m n xs (drop n xs) inside long) ∙ ap (λ (l : List ℕ). take m (drop k l)) (take-append-drop n xs)
 
 body_same : (zone : Zone) (size : ℕ) (xs ys : List ℕ) → zone ≢ WalHeaders → take (size - 256) (drop 256 xs) ≡ take (size - 256) (drop 256 ys) → body_in zone size xs ≡ body_in zone size ys
-body_same Superblock size xs ys other same = same
 body_same WalHeaders size xs ys other same = refl
-body_same WalPrepares size xs ys other same = same
-body_same ClientReplies size xs ys other same = same
-body_same Grid size xs ys other same = same
+body_same _ size xs ys other same = same
 
 test_same : (zone : Zone) (h : Header) (xs ys : List ℕ) → take (h.size - 256) (drop 256 xs) ≡ take (h.size - 256) (drop 256 ys) → has_body zone h xs ≡ has_body zone h ys
-test_same Superblock h xs ys same = ap (λ (l : List ℕ). bytes_eq h.checksum_body (check_of l)) same
 test_same WalHeaders h xs ys same = refl
-test_same WalPrepares h xs ys same = ap (λ (l : List ℕ). bytes_eq h.checksum_body (check_of l)) same
-test_same ClientReplies h xs ys same = ap (λ (l : List ℕ). bytes_eq h.checksum_body (check_of l)) same
-test_same Grid h xs ys same = ap (λ (l : List ℕ). bytes_eq h.checksum_body (check_of l)) same
+test_same _ h xs ys same = ap (λ (l : List ℕ). bytes_eq h.checksum_body (check_of l)) same
 
 pub front_brings : FrontBrings
 front_brings layout cluster place bytes n u other is shown size long for = record {
@@ -45,14 +39,9 @@ front_brings layout cluster place bytes n u other is shown size long for = recor
       let f = unit_found layout cluster place bytes u shown in
       let head : take 256 (take n bytes ++ rest) ≡ take 256 bytes = fronts 0 256 n bytes rest (omega arith) long in
       let body : take (u.header.size - 256) (drop 256 (take n bytes ++ rest)) ≡ take (u.header.size - 256) (drop 256 bytes) = fronts 256 (u.header.size - 256) n bytes rest (omega arith) long in
-      found_unit layout cluster place (take n bytes ++ rest) u (record {
-        header = ap header_in head ∙ f.header;
-        owner = f.owner;
-        fits = f.fits;
-        tested = test_same place.zone u.header (take n bytes ++ rest) bytes body ∙ f.tested;
-        body = body_same place.zone u.header.size (take n bytes ++ rest) bytes other body ∙ f.body;
-        belongs = f.belongs;
-      });
+      let tested = test_same place.zone u.header (take n bytes ++ rest) bytes body ∙ f.tested in
+      let same = body_same place.zone u.header.size (take n bytes ++ rest) bytes other body ∙ f.body in
+      found_unit layout cluster place (take n bytes ++ rest) u (assumption (ap header_in head ∙ f.header));
 }
 
 pub made_brings : MadeBrings

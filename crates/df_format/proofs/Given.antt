@@ -1,5 +1,5 @@
 -- What a maker gives of a header obeys the rules of its kind, and a unit is what its maker would make again.
-use Rattle.std.proofs.Common.{inl, inr, ◌≡◌, ◌↔◌, ℕ, ◌+◌, ◌^◌, ◌<◌, ◌≤◌, List, [], length, refl, sym, ◌∙◌, ap, subst, arith}
+use Rattle.std.proofs.Common.{inl, inr, ◌≡◌, ◌↔◌, ℕ, ◌+◌, ◌^◌, ◌<◌, ◌≤◌, List, [], length, sym, ◌∙◌, ap, subst, arith}
 use Rattle.df_base.specs.Fields.{check_of}
 use Rattle.df_format.specs.declared.header.Header.{Header}
 use Rattle.df_format.specs.declared.kind.Kind.{Kind}
@@ -74,10 +74,7 @@ record FitsVersion (h : Header) : Type 0 where
 
 boot_fits : (kind : Kind) (boot : ℕ) → HasBoot kind boot → boot < 2 ^ 64
 boot_fits Reserved boot is = omega (arith, is)
-boot_fits AsPrepare boot is = omega (arith, is.1)
-boot_fits Reply boot is = omega (arith, is.1)
-boot_fits Block boot is = omega (arith, is.1)
-boot_fits Trailer boot is = omega (arith, is.1)
+boot_fits _ boot is = omega (arith, is.1)
 
 -- the numbers of a group, or of none
 abbrev BothFit : ℕ → ℕ → Type 0
@@ -112,21 +109,15 @@ module _ (cluster : ℕ) (named : (0 < cluster) × (cluster < 2 ^ 128)) (h : Hea
 
   version_made : (kind : Kind) → ObeysVersion kind h → ObeysVersion kind (made kind)
   version_made Reserved is = elim is [ inl first ↦ inl assumption | inr second ↦ inr assumption ]
-  version_made AsPrepare is = elim is [ inl first ↦ inl assumption | inr second ↦ inr assumption ]
-  version_made Reply is = elim is [ inl first ↦ inl assumption | inr second ↦ inr assumption ]
-  version_made Block is = elim is [ inl first ↦ inl assumption | inr second ↦ inr assumption ]
-  version_made Trailer is = elim is [ inl first ↦ inl assumption | inr second ↦ inr assumption ]
+  version_made _ is = elim is [ inl first ↦ inl assumption | inr second ↦ inr assumption ]
 
   -- and so with its body
   version_obeys : (kind : Kind) (g : Header) → ObeysVersion kind g → ObeysVersion kind (for_body g body)
   version_obeys kind g is = elim is [ inl first ↦ inl assumption | inr second ↦ inr assumption ]
 
   obeys_kind : (kind : Kind) → Gives kind h body → ObeysKind kind (for_body (made kind) body)
-  obeys_kind Reserved is = record { body = ap check_of is.1; parent = refl; client = refl; op = refl; request = refl; mark = refl; checkpoint = refl; size = omega (arith, ap length is.1); block_kind = refl }
-  obeys_kind AsPrepare is = record { first = is.0.first; client = is.0.client.0; op = is.0.op; request = is.0.request; mark = is.0.mark; checkpoint = is.0.checkpoint; block_kind = refl }
-  obeys_kind Reply is = record { client = is.0.client.0; op = is.0.op; request = is.0.request; mark = is.0.mark; checkpoint = is.0.checkpoint; block_kind = refl }
-  obeys_kind Block is = record { parent = refl; client = refl; op = is.0.op.0; request = refl; mark = refl; checkpoint = refl; slot = refl; block_kind = is.0.block_kind.0 }
-  obeys_kind Trailer is = record { first = is.0.first; client = refl; op = is.0.op.0; request = is.0.request.0; checkpoint = is.0.checkpoint; slot = refl; block_kind = refl }
+  obeys_kind Reserved is = let size : 256 + length body ≡ 256 = omega (arith, ap length is.1) in assumption (ap check_of is.1)
+  obeys_kind _ is = assumption
 
   fits : (kind : Kind) → ObeysVersion kind h → Gives kind h body → FitsFields (for_body (made kind) body)
   fits Reserved version is = fits_body (made Reserved) body named.1 none (omega arith) (omega arith) (omega arith) (omega arith) (omega arith) (omega (arith, ap length is.1)) is.0 (omega arith)
@@ -147,10 +138,7 @@ module _ (cluster : ℕ) (named : (0 < cluster) × (cluster < 2 ^ 128)) (h : Hea
 
   pub given_obeys : (kind : Kind) → ObeysVersion kind h → Gives kind h body → ObeysRules (for_body (of_kind kind cluster h) body)
   given_obeys Reserved version is = whole (made Reserved) (fits Reserved version is) named.0 (obeys_kind Reserved is) (version_made Reserved version)
-  given_obeys AsPrepare version is = whole (made AsPrepare) (fits AsPrepare version is) named.0 (obeys_kind AsPrepare is) (version_made AsPrepare version)
-  given_obeys Reply version is = whole (made Reply) (fits Reply version is) named.0 (obeys_kind Reply is) (version_made Reply version)
-  given_obeys Block version is = whole (made Block) (fits Block version is) named.0 (obeys_kind Block is) (version_made Block version)
-  given_obeys Trailer version is = whole (made Trailer) (fits Trailer version is) named.0 (obeys_kind Trailer is) (version_made Trailer version)
+  given_obeys kind version is = whole (made kind) (fits kind version is) named.0 (obeys_kind kind is) (version_made kind version)
 
 -- ---- a unit has what its kind names, and nothing else
 

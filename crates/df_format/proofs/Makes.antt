@@ -6,22 +6,19 @@ use Rattle.df_base.specs.Fields.{AreBytes}
 use Rattle.df_format.specs.declared.header.Header.{Header}
 use Rattle.df_format.specs.Spelling.{spelling, spelling_rest, sealed, tail_of}
 use Rattle.df_format.specs.declared.kind.Kind.{Kind}
-use Rattle.df_format.specs.declared.kind.Kind.TheVariants.{Reserved, Prepare as AsPrepare, Reply, Block, Trailer}
+use Rattle.df_format.specs.declared.kind.Kind.TheVariants.{Reserved}
 use Rattle.df_format.specs.Rules.{ObeysKind, ObeysFirst, ObeysSecond, ObeysVersion, ObeysRules, IsSealed}
 use Rattle.df_format.specs.Message.{Message, sectors_of, sectors_end}
 use Rattle.df_format.specs.Making.{for_body}
 use Rattle.df_format.specs.UnitLaws.{MadeIsUnit}
 use Rattle.df_format.specs.Valid.{IsBodyOf, HasBody}
 use Rattle.df_layout.specs.declared.places.Zone.{Zone}
-use Rattle.df_layout.specs.declared.places.Zone.TheVariants.{Superblock, WalHeaders, WalPrepares, ClientReplies, Grid}
+use Rattle.df_layout.specs.declared.places.Zone.TheVariants.{WalHeaders}
 
 -- the rules don't speak of the header's own checksum
 kind_sealed : (kind : Kind) (h : Header) → ObeysKind kind h → ObeysKind kind (sealed h)
 kind_sealed Reserved h is = assumption
-kind_sealed AsPrepare h is = assumption
-kind_sealed Reply h is = assumption
-kind_sealed Block h is = assumption
-kind_sealed Trailer h is = assumption
+kind_sealed _ h is = assumption
 
 version_sealed : (kind : Kind) (h : Header) → ObeysVersion kind h → ObeysVersion kind (sealed h)
 version_sealed kind h is = elim is [ inl first ↦ (let one : ObeysFirst (sealed h) = assumption in inl one) | inr second ↦ (let two : ObeysSecond kind (sealed h) = assumption in inr two) ]
@@ -58,11 +55,8 @@ sectors_made p s1 s2 s3 end head body zeros is =
     zeros ∙ (λ i. (body ∙ ap (λ (l : List ℕ). l ++ p.body) head) i ++ replicate (is i - (256 + length p.body)) 0)
 
 body_made : (zone : Zone) (h : Header) (body : List ℕ) → IsBodyOf h body → (zone ≡ WalHeaders → body ≡ []) → HasBody zone h body
-body_made Superblock h body is none = is
 body_made WalHeaders h body is none = none refl
-body_made WalPrepares h body is none = is
-body_made ClientReplies h body is none = is
-body_made Grid h body is none = is
+body_made _ h body is none = is
 
 pub made_is_unit : (h result : Header) (body : List ℕ) → result ≡ sealed (for_body h body) → IsSealed result → AreBytes body → MadeIsUnit (record { header = result; body = body })
 made_is_unit h result body is good are layout place own fits none =

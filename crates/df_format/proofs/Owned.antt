@@ -1,5 +1,6 @@
 -- The own place of a unit: the layout has it, and the unit's header says what belongs there.
 use Rattle.std.proofs.Common.{◌≡◌, ◌⊎◌, inl, inr, ℕ, true, Option, Some, None, refl, sym, ◌∙◌, ap, subst}
+use Rattle.std.specs.Prelude.{option_map}
 use Rattle.std.proofs.lemmas.Bool.{cond-true, and_parts, and_from, ltb-true, lt-ltb, leb-true, le-leb, eqb-true, eq-eqb}
 use Rattle.std.proofs.lemmas.Option.{cond_some, same_Some}
 use Rattle.df_base.proofs.Laws.{cond_there}
@@ -25,10 +26,7 @@ same_zone-true _ _ is = absurd (cc)
 
 same_zone-self : (a : Zone) → same_zone a a ≡ true
 same_zone-self Superblock = refl
-same_zone-self WalHeaders = refl
-same_zone-self WalPrepares = refl
-same_zone-self ClientReplies = refl
-same_zone-self Grid = refl
+same_zone-self _ = refl
 
 pub same_place-true : (a b : Place) → same_place a b ≡ true → a ≡ b
 same_place-true a b is =
@@ -41,18 +39,12 @@ pub same_place-self : (a : Place) → same_place a a ≡ true
 same_place-self a = and_from _ _ (same_zone-self a.zone) (eq-eqb a.index a.index refl)
 
 pub has-true : (layout : Layout) (zone : Zone) (index : ℕ) → has_index layout zone index ≡ true → HasIndex layout zone index
-has-true layout Superblock index is = ltb-true _ _ is
-has-true layout WalHeaders index is = ltb-true _ _ is
-has-true layout WalPrepares index is = ltb-true _ _ is
-has-true layout ClientReplies index is = ltb-true _ _ is
 has-true layout Grid index is = let parts = and_parts _ _ is in (leb-true _ _ parts.0, leb-true _ _ parts.1)
+has-true layout _ index is = ltb-true _ _ is
 
 pub has-from : (layout : Layout) (zone : Zone) (index : ℕ) → HasIndex layout zone index → has_index layout zone index ≡ true
-has-from layout Superblock index has = lt-ltb _ _ has
-has-from layout WalHeaders index has = lt-ltb _ _ has
-has-from layout WalPrepares index has = lt-ltb _ _ has
-has-from layout ClientReplies index has = lt-ltb _ _ has
 has-from layout Grid index has = and_from _ _ (le-leb _ _ has.0) (le-leb _ _ has.1)
+has-from layout _ index has = lt-ltb _ _ has
 
 -- what the tests of an own place say
 pub record IsOwn (layout : Layout) (zone : Zone) (h : Header) (place : Place) : Type 0 where
@@ -84,8 +76,8 @@ is_own layout zone h place is =
 same_index : (z w : Zone) (i j : ℕ) → Some (place_in z i) ≡ Some (place_in w j) → i ≡ j
 same_index z w i j is = ap (λ (p : Place). p.index) (same_Some _ _ is)
 
-same_zones : (z w : Zone) (i j : ℕ) → Some (place_in z i) ≡ Some (place_in w j) → z ≡ w
-same_zones z w i j is = ap (λ (p : Place). p.zone) (same_Some _ _ is)
+abbrev zone_of : Option Place → Option Zone
+zone_of o = option_map (λ (p : Place). p.zone) o
 
 ring_belongs : (layout : Layout) (kind : Kind) (h : Header) (index : ℕ) → h.kind ≡ kind → has_op_of_slot layout kind h ≡ true → named_in_ring kind h ≡ Some (place_in WalHeaders index)
     → IsForSlot index h ⊎ IsInSlot layout index h
@@ -93,32 +85,22 @@ ring_belongs layout Reserved h index k op is = inl (record { kind = k; slot = sa
 ring_belongs layout Prepare h index k op is =
     let slot = same_index _ _ h.slot index is in
     inr (record { kind = k; slot = slot; op = sym (eqb-true _ _ op) ∙ slot })
-ring_belongs layout Reply h index k op is = absurd (cc)
-ring_belongs layout Block h index k op is = absurd (cc)
-ring_belongs layout Trailer h index k op is = absurd (cc)
+ring_belongs layout _ h index k op is = absurd (cc)
 
 prepares_belong : (layout : Layout) (kind : Kind) (h : Header) (index : ℕ) → h.kind ≡ kind → has_op_of_slot layout kind h ≡ true → named_elsewhere kind h ≡ Some (place_in WalPrepares index) → IsInSlot layout index h
-prepares_belong layout Reserved h index k op is = absurd (cc)
 prepares_belong layout Prepare h index k op is =
     let slot = same_index _ _ h.slot index is in
     record { kind = k; slot = slot; op = sym (eqb-true _ _ op) ∙ slot }
-prepares_belong layout Reply h index k op is = let z = same_zones _ _ _ _ is in absurd (cc)
-prepares_belong layout Block h index k op is = let z = same_zones _ _ _ _ is in absurd (cc)
-prepares_belong layout Trailer h index k op is = let z = same_zones _ _ _ _ is in absurd (cc)
+prepares_belong layout _ h index k op is = let z = ap zone_of is in absurd (cc)
 
 replies_belong : (kind : Kind) (h : Header) (index : ℕ) → h.kind ≡ kind → named_elsewhere kind h ≡ Some (place_in ClientReplies index) → IsOfSession index h
-replies_belong Reserved h index k is = absurd (cc)
-replies_belong Prepare h index k is = let z = same_zones _ _ _ _ is in absurd (cc)
 replies_belong Reply h index k is = record { kind = k; slot = same_index _ _ _ _ is }
-replies_belong Block h index k is = let z = same_zones _ _ _ _ is in absurd (cc)
-replies_belong Trailer h index k is = let z = same_zones _ _ _ _ is in absurd (cc)
+replies_belong _ h index k is = let z = ap zone_of is in absurd (cc)
 
 blocks_belong : (kind : Kind) (h : Header) (index : ℕ) → h.kind ≡ kind → named_elsewhere kind h ≡ Some (place_in Grid index) → IsAtAddress index h
-blocks_belong Reserved h index k is = absurd (cc)
-blocks_belong Prepare h index k is = let z = same_zones _ _ _ _ is in absurd (cc)
-blocks_belong Reply h index k is = let z = same_zones _ _ _ _ is in absurd (cc)
 blocks_belong Block h index k is = record { kind = inl k; op = same_index _ _ _ _ is }
 blocks_belong Trailer h index k is = record { kind = inr k; op = same_index _ _ _ _ is }
+blocks_belong _ h index k is = let z = ap zone_of is in absurd (cc)
 
 pub belongs : (layout : Layout) (zone : Zone) (index : ℕ) (h : Header) → IsOwn layout zone h (place_in zone index) → Belongs layout zone index h
 belongs layout Superblock index h is = absurd (cc (is.named))

@@ -130,17 +130,11 @@ first h = told _ (also (also (Decides-eqb h.version 1) (Decides-eqb h.boot 0)) (
 
 boot : (kind : Kind) (h : Header) → Decides (has_boot kind h) (HasBoot kind h.boot)
 boot Reserved h = Decides-eqb h.boot 0
-boot Prepare h = counter h.boot
-boot Reply h = counter h.boot
-boot Block h = counter h.boot
-boot Trailer h = counter h.boot
+boot _ h = counter h.boot
 
 group : (kind : Kind) (h : Header) → Decides (has_group kind h) (HasGroup kind h.op h.group h.group_last)
-group Reserved h = ungrouped h
 group Prepare h = grouped h
-group Reply h = ungrouped h
-group Block h = ungrouped h
-group Trailer h = ungrouped h
+group _ h = ungrouped h
 
 second : (kind : Kind) (h : Header) → Decides (is_second kind h) (ObeysSecond kind h)
 unfolding is_second

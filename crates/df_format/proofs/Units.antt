@@ -11,7 +11,7 @@ use Rattle.df_layout.specs.declared.damage.Class.TheVariants.{Blank}
 use Rattle.df_layout.specs.declared.layout.Layout.{Layout}
 use Rattle.df_layout.specs.declared.places.Place.{Place}
 use Rattle.df_layout.specs.declared.places.Zone.{Zone}
-use Rattle.df_layout.specs.declared.places.Zone.TheVariants.{Superblock, WalHeaders, WalPrepares, ClientReplies, Grid}
+use Rattle.df_layout.specs.declared.places.Zone.TheVariants.{WalHeaders}
 use Rattle.df_layout.specs.Spans.{HasPlace, place_sectors, sectors_before, span_of}
 use Rattle.df_layout.proofs.Laws.{are_apart, some_sectors}
 use Rattle.df_format.specs.declared.header.Header.{Header}
@@ -47,25 +47,16 @@ valid_belongs layout cluster place u is = at_place layout place u is.own
 -- a header's part of a sector
 length-part : (zone : Zone) (index : ℕ) (bytes : List ℕ) (layout : Layout) → length bytes ≡ 4096 * place_sectors layout zone → length (part_in zone index bytes) ≡ place_size layout zone
 unfolding place_sectors
-length-part Superblock index bytes layout size = size
 length-part WalHeaders index bytes layout size = length-take-le 256 (drop (256 * (index % 16)) bytes) (omega (arith, length-drop (256 * (index % 16)) bytes, size))
-length-part WalPrepares index bytes layout size = size
-length-part ClientReplies index bytes layout size = size
-length-part Grid index bytes layout size = size
+length-part _ index bytes layout size = size
 
 AreBytes-part : (zone : Zone) (index : ℕ) (bytes : List ℕ) → AreBytes bytes → AreBytes (part_in zone index bytes)
-AreBytes-part Superblock index bytes are = are
 AreBytes-part WalHeaders index bytes are = AreBytes-take 256 (drop (256 * (index % 16)) bytes) (AreBytes-drop (256 * (index % 16)) bytes are)
-AreBytes-part WalPrepares index bytes are = are
-AreBytes-part ClientReplies index bytes are = are
-AreBytes-part Grid index bytes are = are
+AreBytes-part _ index bytes are = are
 
 part_whole : (zone : Zone) (index : ℕ) (bytes : List ℕ) → zone ≢ WalHeaders → part_in zone index bytes ≡ bytes
-part_whole Superblock index bytes other = refl
 part_whole WalHeaders index bytes other = absurd (other refl)
-part_whole WalPrepares index bytes other = refl
-part_whole ClientReplies index bytes other = refl
-part_whole Grid index bytes other = refl
+part_whole _ index bytes other = refl
 
 pub count_is : (layout : Layout) (place : Place) → (span_of layout place).count ≡ place_sectors layout place.zone
 unfolding span_of
@@ -104,11 +95,8 @@ read_shown layout cluster image place other =
 
 -- a unit that isn't a header alone has its body
 body_of : (zone : Zone) (h : Header) (body : List ℕ) → zone ≢ WalHeaders → HasBody zone h body → IsBodyOf h body
-body_of Superblock h body other is = is
 body_of WalHeaders h body other is = absurd (other refl)
-body_of WalPrepares h body other is = is
-body_of ClientReplies h body other is = is
-body_of Grid h body other is = is
+body_of _ h body other is = is
 
 sectors_fit : (layout : Layout) (cluster : ℕ) (place : Place) (u : Message) → place.zone ≢ WalHeaders → IsUnit layout cluster place u → length (sectors_of u) ≤ 4096 * (span_of layout place).count
 sectors_fit layout cluster place u other is =
@@ -242,11 +230,8 @@ blank_front at (suc n) some k fits =
     ∙ take-replicate 256 (4096 - k) 0 (omega arith)
 
 blank_part : (zone : Zone) (index at n : ℕ) → 0 < n → take 256 (part_in zone index (bytes_at blank at n)) ≡ replicate 256 0
-blank_part Superblock index at n some = blank_front at n some 0 (omega arith)
 blank_part WalHeaders index at n some = ap (λ (l : List ℕ). take 256 l) (blank_front at n some (256 * (index % 16)) (omega arith)) ∙ take_all 256 (replicate 256 0) (omega (arith, length-replicate {A = ℕ} 256 0))
-blank_part WalPrepares index at n some = blank_front at n some 0 (omega arith)
-blank_part ClientReplies index at n some = blank_front at n some 0 (omega arith)
-blank_part Grid index at n some = blank_front at n some 0 (omega arith)
+blank_part _ index at n some = blank_front at n some 0 (omega arith)
 
 pub blank_none : BlankShowsNone
 unfolding unit_at class_at class_of bytes_of

@@ -14,7 +14,7 @@ use Rattle.df_layout.specs.declared.damage.Class.TheVariants.{Blank, Elsewhere, 
 use Rattle.df_layout.specs.declared.layout.Layout.{Layout}
 use Rattle.df_layout.specs.declared.places.Place.{Place}
 use Rattle.df_layout.specs.declared.places.Zone.{Zone}
-use Rattle.df_layout.specs.declared.places.Zone.TheVariants.{Superblock, WalHeaders, WalPrepares, ClientReplies, Grid}
+use Rattle.df_layout.specs.declared.places.Zone.TheVariants.{Superblock, WalHeaders}
 use Rattle.df_layout.specs.Spans.{HasPlace, place_sectors}
 use Rattle.df_format.specs.declared.header.Header.{Header}
 use Rattle.df_format.specs.declared.kind.Kind.{Kind}
@@ -97,11 +97,8 @@ found_unit layout cluster place bytes u is =
     ∙ cond-true (same_place place place) (Some u) None (same_place-self place)
 
 body_behind : (zone : Zone) (size : ℕ) (bytes : List ℕ) → zone ≢ WalHeaders → body_in zone size bytes ≡ take (size - 256) (drop 256 bytes)
-body_behind Superblock size bytes other = refl
 body_behind WalHeaders size bytes other = absurd (other refl)
-body_behind WalPrepares size bytes other = refl
-body_behind ClientReplies size bytes other = refl
-body_behind Grid size bytes other = refl
+body_behind _ size bytes other = refl
 
 pub body_follows : BodyFollows
 body_follows layout cluster place bytes u other valid = sym (unit_found layout cluster place bytes u valid).body ∙ body_behind place.zone u.header.size bytes other
@@ -111,11 +108,8 @@ ring_has_no_body layout cluster place bytes u ring valid = sym (unit_found layou
 
 -- what stands behind the header is the body, and a rest
 body_rest : (zone : Zone) (size : ℕ) (bytes : List ℕ) → (rest : List ℕ) × (drop 256 bytes ≡ body_in zone size bytes ++ rest)
-body_rest Superblock size bytes = (drop (size - 256) (drop 256 bytes), sym (take-append-drop (size - 256) (drop 256 bytes)))
 body_rest WalHeaders size bytes = (drop 256 bytes, refl)
-body_rest WalPrepares size bytes = (drop (size - 256) (drop 256 bytes), sym (take-append-drop (size - 256) (drop 256 bytes)))
-body_rest ClientReplies size bytes = (drop (size - 256) (drop 256 bytes), sym (take-append-drop (size - 256) (drop 256 bytes)))
-body_rest Grid size bytes = (drop (size - 256) (drop 256 bytes), sym (take-append-drop (size - 256) (drop 256 bytes)))
+body_rest _ size bytes = (drop (size - 256) (drop 256 bytes), sym (take-append-drop (size - 256) (drop 256 bytes)))
 
 -- the body's checksum was tested
 abbrev IsTested : Header → List ℕ → Type 0
@@ -133,36 +127,24 @@ body_is h bytes are least fits tested =
 -- no unit is longer than its slot
 pub fits_slot : (layout : Layout) (zone : Zone) → zone ≢ WalHeaders → greatest_size layout zone ≤ 4096 * place_sectors layout zone
 unfolding place_sectors
-fits_slot layout Superblock other = omega arith
 fits_slot layout WalHeaders other = absurd (other refl)
-fits_slot layout WalPrepares other = omega (arith, layout.message_size_within.2)
-fits_slot layout ClientReplies other = omega (arith, layout.message_size_within.2)
-fits_slot layout Grid other = omega (arith, layout.block_size_within.2)
+fits_slot layout _ other = omega (arith, layout.message_size_within.2, layout.block_size_within.2)
 
 has_its_body : (layout : Layout) (zone : Zone) (h : Header) (bytes : List ℕ) → length bytes ≡ place_size layout zone → AreBytes bytes → 256 ≤ h.size → h.size ≤ greatest_size layout zone
     → has_body zone h bytes ≡ true → HasBody zone h (body_in zone h.size bytes)
-has_its_body layout Superblock h bytes size are least fits tested = body_is h bytes are least (omega (arith, fits_slot layout Superblock (λ same. cc))) tested
 has_its_body layout WalHeaders h bytes size are least fits tested = refl
-has_its_body layout WalPrepares h bytes size are least fits tested = body_is h bytes are least (omega (arith, fits_slot layout WalPrepares (λ same. cc))) tested
-has_its_body layout ClientReplies h bytes size are least fits tested = body_is h bytes are least (omega (arith, fits_slot layout ClientReplies (λ same. cc))) tested
-has_its_body layout Grid h bytes size are least fits tested = body_is h bytes are least (omega (arith, fits_slot layout Grid (λ same. cc))) tested
+has_its_body layout zone h bytes size are least fits tested = body_is h bytes are least (omega (arith, fits_slot layout zone (λ same. cc))) tested
 
 -- elsewhere than in the header ring a place is a whole slot
 pub place_is_slot : (layout : Layout) (zone : Zone) → zone ≢ WalHeaders → place_size layout zone ≡ 4096 * place_sectors layout zone
-place_is_slot layout Superblock other = refl
 place_is_slot layout WalHeaders other = absurd (other refl)
-place_is_slot layout WalPrepares other = refl
-place_is_slot layout ClientReplies other = refl
-place_is_slot layout Grid other = refl
+place_is_slot layout _ other = refl
 
 -- the place has a header at least
 pub least_size : (layout : Layout) (zone : Zone) → 256 ≤ place_size layout zone
 unfolding place_sectors
 least_size layout Superblock = omega arith
-least_size layout WalHeaders = omega arith
-least_size layout WalPrepares = omega (arith, layout.message_size_within.0)
-least_size layout ClientReplies = omega (arith, layout.message_size_within.0)
-least_size layout Grid = omega (arith, layout.block_size_within.0)
+least_size layout _ = omega (arith, layout.message_size_within.0, layout.block_size_within.0)
 
 module _ (layout : Layout) (cluster : ℕ) (place : Place) (bytes : List ℕ) (u : Message) (size : length bytes ≡ place_size layout place.zone) (are : AreBytes bytes) (is : IsFound layout cluster place.zone bytes u place) where
   was : IsSealed u.header × (take 256 bytes ≡ spelling u.header)
@@ -173,14 +155,10 @@ module _ (layout : Layout) (cluster : ℕ) (place : Place) (bytes : List ℕ) (u
   begins : Begins layout cluster place bytes u
   begins =
       let rest = body_rest place.zone u.header.size bytes in
+      let sealed : IsSealed u.header = was.0 in
+      let body : HasBody place.zone u.header u.body = subst (HasBody place.zone u.header) is.body (has_its_body layout place.zone u.header bytes size are was.0.rules.size is.fits is.tested) in
       record {
-        is = record {
-          sealed = was.0;
-          owner = is.owner;
-          fits = is.fits;
-          body = subst (λ (l : List ℕ). HasBody place.zone u.header l) is.body (has_its_body layout place.zone u.header bytes size are was.0.rules.size is.fits is.tested);
-          own = is.belongs;
-        };
+        is = assumption;
         rest = rest.0;
         spelled =
             sym (take-append-drop 256 bytes)
@@ -196,11 +174,8 @@ body_back h body rest bytes behind is =
     ((bytes_eq-Decides _ _).1 (is.checksum ∙ ap check_of (sym same)), same)
 
 body_found : (zone : Zone) (h : Header) (body rest bytes : List ℕ) → drop 256 bytes ≡ body ++ rest → HasBody zone h body → (has_body zone h bytes ≡ true) × (body_in zone h.size bytes ≡ body)
-body_found Superblock h body rest bytes behind is = body_back h body rest bytes behind is
 body_found WalHeaders h body rest bytes behind is = (refl, sym is)
-body_found WalPrepares h body rest bytes behind is = body_back h body rest bytes behind is
-body_found ClientReplies h body rest bytes behind is = body_back h body rest bytes behind is
-body_found Grid h body rest bytes behind is = body_back h body rest bytes behind is
+body_found _ h body rest bytes behind is = body_back h body rest bytes behind is
 
 -- bytes that begin with a unit show it
 pub begun_is_shown : (layout : Layout) (cluster : ℕ) (place : Place) (bytes : List ℕ) (u : Message) → Begins layout cluster place bytes u → unit_in layout cluster place bytes ≡ Some u
@@ -211,14 +186,7 @@ begun_is_shown layout cluster place bytes u begun =
     let head : take 256 bytes ≡ spelling u.header = ap (λ (l : List ℕ). take 256 l) all ∙ take_at (spelling u.header) _ 256 long in
     let behind : drop 256 bytes ≡ u.body ++ begun.rest = ap (λ (l : List ℕ). drop 256 l) all ∙ drop_at (spelling u.header) _ 256 long in
     let body = body_found place.zone u.header u.body begun.rest bytes behind is.body in
-    found_unit layout cluster place bytes u (record {
-      header = ap header_in head ∙ reads u.header is.sealed;
-      owner = is.owner;
-      fits = is.fits;
-      tested = body.0;
-      body = body.1;
-      belongs = is.own;
-    })
+    found_unit layout cluster place bytes u (assumption (ap header_in head ∙ reads u.header is.sealed))
 
 -- a place shows a unit exactly where its bytes begin with it
 pub one_unit : UnitsHaveOneSpelling
@@ -230,10 +198,7 @@ one_unit layout cluster place bytes u size are = (
 -- no kind has the code 0
 zero_is_no_code : (kind : Kind) → 0 ≡ code_of kind → ⊥
 zero_is_no_code Reserved is = omega (arith, is)
-zero_is_no_code Prepare is = omega (arith, is)
-zero_is_no_code Reply is = omega (arith, is)
-zero_is_no_code Block is = omega (arith, is)
-zero_is_no_code Trailer is = omega (arith, is)
+zero_is_no_code _ is = omega (arith, is)
 
 -- zeros are no header
 pub zeros_are_none : (bytes : List ℕ) (h : Header) → take 256 bytes ≡ replicate 256 0 → header_in (take 256 bytes) ≡ Some h → ⊥
