@@ -1,5 +1,5 @@
 -- The rules of each kind and of each version: what the tests decide.
-use Rattle.std.proofs.Common.{inl, inr, ◌≡◌, ◌↔◌, ◌<◌, ◌≤◌, ◌+◌, ◌^◌, ◌==◌, ◌&&◌, ℕ, Bool, true, false, List, [], refl, cond, arith}
+use Rattle.std.proofs.Common.{inl, inr, ◌≡◌, ◌≢◌, ◌↔◌, ◌<◌, ◌≤◌, ◌+◌, ◌^◌, ◌==◌, ◌&&◌, ℕ, Bool, true, false, List, [], refl, cond, arith}
 use Rattle.std.specs.Prelude.{nat_lt}
 use Rattle.std.specs.Bool.{Decides}
 use Rattle.std.specs.Str.{bytes_eq}
@@ -74,36 +74,23 @@ record IsLinked (mark request : ℕ) (parent : List ℕ) : Type 0 where
   first : mark ≡ 0 → parent ≡ no_checksum
   before : (request ≡ 0) ↔ (mark ≡ 0)
 
-linked_by : (mark request : ℕ) (parent : List ℕ) (b : Bool) → (mark == 0) ≡ b → cond b ((request == 0) && bytes_eq parent no_checksum) (nat_lt 0 request) ≡ true → IsLinked mark request parent
-linked_by mark request parent true zero is =
-    let parts = and_parts _ _ is in
-    record { first = λ _. (bytes_eq-Decides parent no_checksum).0 parts.1; before = (λ _. eqb-true _ _ zero, λ _. eqb-true _ _ parts.0) }
-linked_by mark request parent false some is =
-    let before = ltb-true _ _ is in
-    record {
-      first = λ none. absurd (both_ways _ some (eq-eqb mark 0 none));
-      before = (λ none. absurd (omega arith), λ none. absurd (both_ways _ some (eq-eqb mark 0 none)));
-    }
+linked_by : (mark request : ℕ) (parent : List ℕ) (b : Bool) → (mark == 0) ≡ b → Decides (cond b ((request == 0) && bytes_eq parent no_checksum) (nat_lt 0 request)) (IsLinked mark request parent)
+linked_by mark request parent true zero =
+    let none = eqb-true mark 0 zero in
+    told _ (also (Decides-eqb request 0) (bytes_eq-Decides parent no_checksum)) (λ t. record { first = λ _. t.1; before = (λ _. none, λ _. t.0) }) (λ is. (is.before.1 none, is.first none))
+linked_by mark request parent false some =
+    let other : mark ≢ 0 = λ none. both_ways _ some (eq-eqb mark 0 none) in
+    told _ (Decides-ltb 0 request)
+    (λ before. record { first = λ none. absurd (other none); before = (λ none. absurd (omega arith), λ none. absurd (other none)) })
+    (λ is. let before : request ≢ 0 = λ none. other (is.before.0 none) in omega arith)
 
-linked : (h : Header) → is_linked h ≡ true → IsLinked h.mark h.request h.parent
-linked h is = linked_by h.mark h.request h.parent (h.mark == 0) refl is
-
-passes_linked_by : (mark request : ℕ) (parent : List ℕ) (b : Bool) → (mark == 0) ≡ b → IsLinked mark request parent → cond b ((request == 0) && bytes_eq parent no_checksum) (nat_lt 0 request) ≡ true
-passes_linked_by mark request parent true zero is =
-    let none = eqb-true _ _ zero in
-    and_from _ _ (eq-eqb request 0 (is.before.1 none)) (same_bytes parent no_checksum (is.first none))
-passes_linked_by mark request parent false some is = elim (cases_eq request 0) [
-  | inl none ↦ absurd (both_ways _ some (eq-eqb mark 0 (is.before.0 none)))
-  | inr before ↦ lt-ltb 0 request (omega arith)
-]
-
-passes_linked : (h : Header) → IsLinked h.mark h.request h.parent → is_linked h ≡ true
-passes_linked h is = passes_linked_by h.mark h.request h.parent (h.mark == 0) refl is
+linked : (h : Header) → Decides (is_linked h) (IsLinked h.mark h.request h.parent)
+linked h = linked_by h.mark h.request h.parent (h.mark == 0) refl
 
 trailer : (h : Header) → Decides (is_trailer h) (ObeysTrailer h)
 unfolding is_trailer
 trailer h =
-    told _ (also (also (also (also (also (also (linked h, passes_linked h) (Decides-eqb h.client 0)) (Decides-ltb 0 h.op)) (at_most 2 h.checkpoint)) (at_most h.checkpoint (2 ^ 62))) (Decides-eqb h.slot 0)) (Decides-eqb h.block_kind 0))
+    told _ (also (also (also (also (also (also (linked h) (Decides-eqb h.client 0)) (Decides-ltb 0 h.op)) (at_most 2 h.checkpoint)) (at_most h.checkpoint (2 ^ 62))) (Decides-eqb h.slot 0)) (Decides-eqb h.block_kind 0))
     (λ t. let before = t.0.0.0.0.0.0.before in assumption) (λ is. assumption)
 
 of_kind : (kind : Kind) (h : Header) → Decides (is_of_kind kind h) (ObeysKind kind h)
