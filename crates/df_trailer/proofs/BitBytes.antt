@@ -37,38 +37,27 @@ bit_behind x q k =
 pub byte_more : (x q k byte next bit : ℕ) → byte ≡ x / 256 ^ q % 2 ^ k → bit ≡ bit_at x (8 * q + k) → next ≡ byte + bit * 2 ^ k → next ≡ x / 256 ^ q % 2 ^ (k + 1)
 byte_more x q k byte next bit before is now =
     let split : x / 256 ^ q % 2 ^ (1 + k) ≡ (x / 256 ^ q / 2 ^ k % 2 ^ 1) * 2 ^ k + x / 256 ^ q % 2 ^ k = mod-pow-add (x / 256 ^ q) 1 k in
-    now ∙ plus byte (bit * 2 ^ k) ∙ ap (λ (b : ℕ). b * 2 ^ k + byte) (is ∙ sym (bit_behind x q k)) ∙ ap (λ (r : ℕ). (x / 256 ^ q / 2 ^ k % 2) * 2 ^ k + r) before
-    ∙ sym split ∙ ap (λ (e : ℕ). x / 256 ^ q % 2 ^ e) (swap k)
-  where
-    plus : (a b : ℕ) → a + b ≡ b + a
-    plus a b = omega arith
-
-    swap : (k : ℕ) → 1 + k ≡ k + 1
-    swap k = omega arith
+    let turned : byte + bit * 2 ^ k ≡ bit * 2 ^ k + byte = omega arith in
+    let up : 1 + k ≡ k + 1 = omega arith in
+    now ∙ turned ∙ ap (λ (b : ℕ). b * 2 ^ k + byte) (is ∙ sym (bit_behind x q k)) ∙ ap (λ (r : ℕ). (x / 256 ^ q / 2 ^ k % 2) * 2 ^ k + r) before
+    ∙ sym split ∙ ap (λ (e : ℕ). x / 256 ^ q % 2 ^ e) up
 
 pub byte_done : (x q : ℕ) → x / 256 ^ q % 2 ^ 8 ≡ byte_at q x
 byte_done x zero = ap (λ (y : ℕ). y % 256) (div-one x)
 byte_done x (suc q) = refl
 
 bytes_more : (i n x : ℕ) → bytes_low_first i (suc n) x ≡ bytes_low_first i n x ++ byte_at (i + n) x ∷ []
-bytes_more i zero x = ap (λ (k : ℕ). byte_at k x ∷ []) (none i)
-  where
-    none : (i : ℕ) → i ≡ i + 0
-    none i = omega arith
-bytes_more i (suc n) x = ap (λ (xs : List ℕ). byte_at i x ∷ xs) (bytes_more (suc i) n x ∙ ap (λ (k : ℕ). bytes_low_first (suc i) n x ++ byte_at k x ∷ []) (along i n))
-  where
-    along : (i n : ℕ) → suc i + n ≡ i + suc n
-    along i n = omega arith
+bytes_more i zero x = ap (λ (k : ℕ). byte_at k x ∷ []) (let none : i ≡ i + 0 = omega arith in none)
+bytes_more i (suc n) x =
+    let along : suc i + n ≡ i + suc n = omega arith in
+    ap (λ (xs : List ℕ). byte_at i x ∷ xs) (bytes_more (suc i) n x ∙ ap (λ (k : ℕ). bytes_low_first (suc i) n x ++ byte_at k x ∷ []) along)
 
 pub spelled_more : (n x : ℕ) → spelled (n + 1) x ≡ spelled n x ++ byte_at n x ∷ []
 unfolding spelled
-spelled_more n x = ap (λ (k : ℕ). bytes_low_first 0 k x) (up n) ∙ bytes_more 0 n x ∙ ap (λ (k : ℕ). bytes_low_first 0 n x ++ byte_at k x ∷ []) (none n)
-  where
-    up : (n : ℕ) → n + 1 ≡ suc n
-    up n = omega arith
-
-    none : (n : ℕ) → 0 + n ≡ n
-    none n = omega arith
+spelled_more n x =
+    let up : n + 1 ≡ suc n = omega arith in
+    let none : 0 + n ≡ n = omega arith in
+    ap (λ (k : ℕ). bytes_low_first 0 k x) up ∙ bytes_more 0 n x ∙ ap (λ (k : ℕ). bytes_low_first 0 n x ++ byte_at k x ∷ []) none
 
 pub spelled_none : (x : ℕ) → spelled 0 x ≡ []
 unfolding spelled

@@ -1,9 +1,8 @@
 -- The spelling serves the machine of the replica's commands.
-use Rattle.std.proofs.Common.{◌≡◌, ℕ, suc, ◌+◌, ◌*◌, ◌/◌, ◌^◌, ◌<◌, ◌≤◌, Bool, true, false, Option, Some, None, List, [], ◌∷◌, ◌++◌, length, arith, length-append}
+use Rattle.std.proofs.Common.{◌≡◌, ℕ, suc, ◌+◌, ◌*◌, ◌/◌, ◌^◌, ◌<◌, ◌≤◌, Bool, true, false, Some, List, [], ◌∷◌, length, arith}
 use Rattle.std.specs.Prelude.{map, min}
 use Rattle.std.specs.List.{slice_get}
 use Rattle.df_base.specs.Fields.{AreBytes}
-use Rattle.df_base.specs.Text.{AreSo}
 use Rattle.df_base.proofs.Laws.{so_text}
 use Rattle.df_theory.specs.Units.{Layout, Parts, Session}
 use Rattle.df_theory.specs.Shape.{Shape}

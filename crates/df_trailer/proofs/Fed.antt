@@ -10,7 +10,8 @@ use Rattle.df_trailer.specs.Rooms.{byte_in_checks, byte_in_words}
 use Rattle.df_trailer.specs.Spelling.{bits_size}
 use Rattle.df_trailer.specs.Text.{head_end, is_whole, tests}
 use Rattle.df_trailer.proofs.Kept.{IsAdded, added_is_kept, checks_added, fails_as_kept}
-use Rattle.df_trailer.proofs.Words.{at_listed, length_listed}
+use Rattle.df_trailer.proofs.Blocks.{length_listed}
+use Rattle.df_trailer.proofs.Words.{at_listed}
 
 -- a reader took a piece, of which so many bytes went to the head
 pub record IsFed (old new : Reader) (piece : List ℕ) (n : ℕ) : Type 0 where

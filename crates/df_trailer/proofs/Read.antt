@@ -1,11 +1,11 @@
 -- What a text in which no part fails says: lawful parts, of which it is the spelling.
-use Rattle.std.proofs.Common.{◌≡◌, ℕ, zero, suc, ◌+◌, ◌-◌, ◌*◌, ◌/◌, ◌^◌, ◌<◌, ◌≤◌, ◌==◌, Bool, true, false, Option, Some, None, List, [], ◌∷◌, ◌++◌, length, take, drop, refl, sym, ap, ◌∙◌, subst, arith, length-drop}
+use Rattle.std.proofs.Common.{◌≡◌, ℕ, zero, suc, ◌+◌, ◌-◌, ◌*◌, ◌/◌, ◌^◌, ◌<◌, ◌≤◌, ◌==◌, Bool, true, false, Option, Some, None, List, [], ◌∷◌, length, take, drop, refl, sym, ap, ◌∙◌, subst, arith, length-drop}
 use Rattle.std.specs.Prelude.{map, min}
 use Rattle.std.specs.List.{slice_get}
 use Rattle.std.proofs.lemmas.List.{length-take-le, take_at}
 use Rattle.std.proofs.lemmas.Bool.{ltb-false, leb-false, eqb-true, not-false}
 use Rattle.df_base.specs.Fields.{AreBytes, field_at}
-use Rattle.df_base.specs.Text.{AreSo, total}
+use Rattle.df_base.specs.Text.{total}
 use Rattle.df_base.proofs.Laws.{field_at-lt, AreBytes-take, AreBytes-drop, spelled_back}
 use Rattle.df_theory.specs.Units.{Layout, Parts, Session}
 use Rattle.df_model.specs.Codec.{InGrid, IsChecksum, IsLawful}
@@ -13,8 +13,8 @@ use Rattle.df_model.specs.Refusals.{first_refusal}
 use Rattle.df_model.proofs.Laws.{all_pass}
 use Rattle.df_trailer.specs.declared.fault.Failing.{Failing}
 use Rattle.df_trailer.specs.declared.fault.Fault.{Fault}
-use Rattle.df_trailer.specs.Spelling.{bits_size, blocks_of, is_referenced, listed, number_of, spell, spell_checks, spell_sessions, trailer_pieces}
-use Rattle.df_trailer.specs.Text.{at_address, at_place, bits, bits_at, bits_of, checks_at, count, count_at, end_at, fault, fault_in, first_wrong, parse, parts_of, read_blocks, read_sessions, root_size, session, sessions_at, tests, unless, whole}
+use Rattle.df_trailer.specs.Spelling.{blocks_of, is_referenced, listed, number_of, spell, spell_checks, spell_sessions, trailer_pieces}
+use Rattle.df_trailer.specs.Text.{at_address, at_place, bits, bits_at, bits_of, checks_at, count, end_at, fault, fault_in, first_wrong, parse, parts_of, read_blocks, read_sessions, root_size, session, sessions_at, tests, unless, whole}
 use Rattle.df_trailer.proofs.Bits.{length_bits, number_bits}
 use Rattle.df_trailer.proofs.Blocks as blocks
 use Rattle.df_trailer.proofs.Sessions as sessions
@@ -44,7 +44,7 @@ fine l op text none =
     let all : whole text ≡ count text = fits_whole (count text) (length text) (sessions_at text) reach in
     let right : whole text ≤ first_wrong op text = ltb-false (first_wrong op text) (whole text) t5.0 in
     let sizes : length (read_sessions (whole text) (sessions_at text) text) ≡ whole text = sessions.length_read (whole text) (sessions_at text) text in
-    let kept : KeepRules op [] (read_sessions (whole text) (sessions_at text) text) = rules_kept op [] (read_sessions (whole text) (sessions_at text) text) (below sizes right) in
+    let kept : KeepRules op [] (read_sessions (whole text) (sessions_at text) text) = rules_kept op [] (read_sessions (whole text) (sessions_at text) text) (omega (arith, sizes, right)) in
     record {
       start = ltb-false (length text) 4 t.0;
       root = ltb-false 1024 (root_size text) t1.0;
@@ -53,9 +53,6 @@ fine l op text none =
       bits_are = leb-false (2 ^ l.blocks) (bits l text) t8.0;
       ends = eqb-true (length text) (end_at l text) (not-false (length text == end_at l text) t9.0);
     }
-  where
-    below : {a b c : ℕ} → a ≡ b → b ≤ c → a ≤ c
-    below e h = omega arith
 
 -- ---- the text is the spelling of its parts
 
@@ -104,11 +101,11 @@ pub parts_lawful : (l : Layout) (op : ℕ) (text : List ℕ) → op ≤ 2 ^ 62 �
 parts_lawful l op text most are f = record {
   root = (root_short, AreBytes-take (root_size text) (drop 4 text) (AreBytes-drop 4 text are));
   sessions = record {
-    few = below (sessions.length_read (count text) (sessions_at text) text) f.few;
+    few = omega (arith, sessions.length_read (count text) (sessions_at text) text, f.few);
     each = λ k s at. let r = f.rules.each k s at in record {
       client = (r.0, clients_small (count text) (sessions_at text) text are k s at);
       request = (r.1, r.2);
-      op = (r.3, trans r.4 most);
+      op = (r.3, omega (arith, r.4, most));
     };
     apart = f.rules.clients;
   };
@@ -117,12 +114,6 @@ parts_lawful l op text most are f = record {
   references = inside;
 }
   where
-    below : {a b c : ℕ} → a ≡ b → b ≤ c → a ≤ c
-    below e h = omega arith
-
-    trans : {a b c : ℕ} → a ≤ b → b ≤ c → a ≤ c
-    trans g h = omega arith
-
     root_short : length (take (root_size text) (drop 4 text)) ≤ 1024
     root_short = let n = length-take-le (root_size text) (drop 4 text) (omega (arith, f.ends, length-drop 4 text)) in omega (arith, f.root)
 
@@ -134,10 +125,7 @@ parts_lawful l op text most are f = record {
         ((omega arith, omega (arith, b.within)), b.small)
 
 fine_if : (o : Option Fault) (p parts : Parts) → unless o p ≡ Some parts → (o ≡ None) × (p ≡ parts)
-fine_if None p parts is = (refl, some_is p parts is)
-  where
-    some_is : (p parts : Parts) → Some p ≡ Some parts → p ≡ parts
-    some_is p parts is = cc
+fine_if None p parts is = (refl, cc)
 fine_if (Some f) p parts is = absurd (cc)
 
 pub record IsSpelling (l : Layout) (op : ℕ) (text : List ℕ) (parts : Parts) : Type 0 where

@@ -23,10 +23,7 @@ right_one op earlier s f fresh =
     rw (a, b, c, d, g) fresh
 
 not_zero : (x : ℕ) → (x == 0) ≡ false → 0 < x
-not_zero x is = positive x (eqb-false x 0 is)
-  where
-    positive : (x : ℕ) → x ≢ 0 → 0 < x
-    positive x h = omega arith
+not_zero x is = let some : x ≢ 0 = eqb-false x 0 is in omega arith
 
 -- what a test that finds nothing says
 pub one_right : (op : ℕ) (earlier : List Session) (s : Session) → is_wrong op earlier s ≡ false
@@ -46,17 +43,11 @@ none_wrong op earlier (s ∷ ss) keep =
     rw here (ap suc (none_wrong op (s ∷ earlier) ss (record {
       each = λ k t at. keep.each (suc k) t at;
       fresh = λ k t at. fresh_behind t (keep.fresh (suc k) t at)
-          (λ e. apart k (keep.clients 0 (suc k) s t refl at e)) (λ e. apart k (keep.ops 0 (suc k) s t refl at e));
-      clients = λ j k t u tj uk e. down j k (keep.clients (suc j) (suc k) t u tj uk e);
-      ops = λ j k t u tj uk e. down j k (keep.ops (suc j) (suc k) t u tj uk e);
+          (λ e. omega (arith, keep.clients 0 (suc k) s t refl at e)) (λ e. omega (arith, keep.ops 0 (suc k) s t refl at e));
+      clients = λ j k t u tj uk e. omega (arith, keep.clients (suc j) (suc k) t u tj uk e);
+      ops = λ j k t u tj uk e. omega (arith, keep.ops (suc j) (suc k) t u tj uk e);
     })))
   where
-    apart : (k : ℕ) → 0 ≡ suc k → ⊥
-    apart k e = omega arith
-
-    down : (j k : ℕ) → suc j ≡ suc k → j ≡ k
-    down j k e = omega arith
-
     fresh_behind : (t : Session) → is_repeated t.client t.op earlier ≡ false → (s.client ≡ t.client → ⊥) → (s.op ≡ t.op → ⊥) → is_repeated t.client t.op (s ∷ earlier) ≡ false
     fresh_behind t fresh client other =
         let a : (s.client == t.client) ≡ false = ne_eqb s.client t.client client in
@@ -65,12 +56,7 @@ none_wrong op earlier (s ∷ ss) keep =
 
 -- where the first is right and the others are right behind it, all are
 pub rules_behind : (op : ℕ) (earlier ss : List Session) (s : Session) → is_wrong op earlier s ≡ false → KeepRules op (s ∷ earlier) ss → KeepRules op earlier (s ∷ ss)
-rules_behind op earlier ss s here keep = record {
-  each = each;
-  fresh = fresh;
-  clients = clients;
-  ops = ops;
-}
+rules_behind op earlier ss s here keep = record { each = each; fresh = fresh; clients = clients; ops = ops }
   where
     mine : ((0 < s.client) × (0 < s.request) × (s.request ≤ 2 ^ 62) × (0 < s.op) × (s.op ≤ op)) × (is_repeated s.client s.op earlier ≡ false)
     mine = one_right op earlier s here

@@ -21,7 +21,8 @@ use Rattle.df_trailer.proofs.Longer.{count_front, root_front}
 use Rattle.df_trailer.proofs.Sessions.{sessions_front}
 use Rattle.df_trailer.proofs.OneBit.{count_next, count_same}
 use Rattle.df_trailer.proofs.References.{few_ones, reference_at}
-use Rattle.df_trailer.proofs.Words.{at_listed, length_listed}
+use Rattle.df_trailer.proofs.Blocks.{length_listed}
+use Rattle.df_trailer.proofs.Words.{at_listed}
 
 root_said : (h rest : List ℕ) → IsEnd h → take (root_size h) (drop 4 h) ≡ take (root_size (h ++ rest)) (drop 4 (h ++ rest))
 root_said h rest e =

@@ -1,7 +1,7 @@
 -- The sessions of a trailer, spelled and read back.
-use Rattle.std.proofs.Common.{◌≡◌, ℕ, zero, suc, ◌+◌, ◌*◌, ◌^◌, ◌<◌, ◌≤◌, List, [], ◌∷◌, ◌++◌, length, drop, refl, sym, ap, ◌∙◌, arith}
+use Rattle.std.proofs.Common.{◌≡◌, ℕ, zero, suc, ◌+◌, ◌*◌, ◌≤◌, List, [], ◌∷◌, ◌++◌, length, drop, refl, sym, ap, ◌∙◌, arith}
 use Rattle.df_base.specs.Fields.{AreBytes, field_at}
-use Rattle.df_base.specs.Text.{AreSo, Fit, AreRead}
+use Rattle.df_base.specs.Text.{AreSo, Fit}
 use Rattle.df_base.proofs.Laws.{field_front, so_none, so_text, text-append, behind, read_back, spelled_back}
 use Rattle.df_theory.specs.Units.{Session}
 use Rattle.df_trailer.specs.Spelling.{session_pieces, spell_sessions}
@@ -61,17 +61,10 @@ sessions_front (suc n) at xs ys fits =
 
 -- one session more
 pub read_more : (n at : ℕ) (text : List ℕ) → read_sessions n at text ++ session (at + 32 * n) text ∷ [] ≡ read_sessions (n + 1) at text
-read_more n at text = next n at ∙ ap (λ (m : ℕ). read_sessions m at text) (up n)
+read_more n at text = next n at ∙ ap (λ (m : ℕ). read_sessions m at text) (let up : suc n ≡ n + 1 = omega arith in up)
   where
-    up : (n : ℕ) → suc n ≡ n + 1
-    up n = omega arith
-
-    none : (at : ℕ) → at + 32 * 0 ≡ at
-    none at = omega arith
-
-    along : (n at : ℕ) → at + 32 * suc n ≡ (at + 32) + 32 * n
-    along n at = omega arith
-
     next : (n at : ℕ) → read_sessions n at text ++ session (at + 32 * n) text ∷ [] ≡ read_sessions (suc n) at text
-    next zero at = ap (λ (p : ℕ). session p text ∷ []) (none at)
-    next (suc n) at = ap (λ (s : Session). session at text ∷ (read_sessions n (at + 32) text ++ s ∷ [])) (ap (λ (p : ℕ). session p text) (along n at)) ∙ ap (λ (ss : List Session). session at text ∷ ss) (next n (at + 32))
+    next zero at = ap (λ (p : ℕ). session p text ∷ []) (let here : at + 32 * 0 ≡ at = omega arith in here)
+    next (suc n) at =
+        let along : at + 32 * suc n ≡ (at + 32) + 32 * n = omega arith in
+        ap (λ (p : ℕ). session at text ∷ (read_sessions n (at + 32) text ++ session p text ∷ [])) along ∙ ap (λ (ss : List Session). session at text ∷ ss) (next n (at + 32))

