@@ -296,3 +296,17 @@ module _ (layout : Layout) (s : State) (rs bs : List Message) (image : Units) (v
       are = record { rise = paired_rise 1 (references (memory s)) bs (entries_rise (λ a. sum_at a s.blocks.live) 1 s.file.layout.blocks); each = referenced_each; all = referenced_all };
       renamed = record { each = renamed_each; only = renamed_only };
     }
+
+-- and so it is beside an image that shows the same blocks
+pub alike_on : (layout : units.Layout) (from : Units) (v : View) (target other : Units) (u : View) → ((a : ℕ) → other (BlockPlace a) ≡ target (BlockPlace a)) → IsCopyOf layout from v target u → IsCopyOf layout from v other u
+alike_on layout from v target other u same is = record {
+  content = is.content;
+  root = is.root;
+  sessions = is.sessions;
+  rest = is.rest;
+  replies = is.replies;
+  stored = is.stored;
+  blocks = is.blocks;
+  are = is.are;
+  renamed = record { each = λ i a b at. let there = is.renamed.each i a b at in (there.0, there.1, same (i + 1) ∙ there.2); only = is.renamed.only };
+}

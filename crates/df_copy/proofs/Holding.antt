@@ -1,4 +1,4 @@
--- A target on which nothing was written holds the copy whole behind all that is written: an open finds it, nothing is to be mended, and each block that it references is shown.
+-- A target on which nothing was written holds the copy whole behind all that is written: an open finds it, nothing is to be mended, and each block that it references is shown. So does an image that shows all of that but for some copies of the superblock, to be mended.
 use Rattle.std.proofs.Common.{◌≡◌, inl, inr, ℕ, zero, suc, ◌+◌, ◌<◌, ◌≤◌, List, [], ◌∷◌, ◌++◌, length, map, Option, Some, None, refl, sym, ◌∙◌, ap, subst, arith}
 use Rattle.std.specs.Prelude.{slice_get, slice_index}
 use Rattle.std.proofs.lemmas.Bool.{cases_lt}
@@ -12,16 +12,18 @@ use Rattle.df_format.specs.declared.kind.Kind.TheVariants.{Block as IsBlock}
 use Rattle.df_format.specs.declared.superblock.SuperFields.{SuperFields}
 use Rattle.df_format.specs.Message.{Message}
 use Rattle.df_format.specs.Rules.{ObeysBlock, ObeysKind}
+use Rattle.df_theory.specs.Copies.{Agree}
 use Rattle.df_theory.specs.Found.{IsFound}
 use Rattle.df_theory.specs.Holds.{IsWhole, Stands}
 use Rattle.df_theory.specs.MakingLaws.{AllReserved, all_puts}
 use Rattle.df_theory.specs.CopyPuts.{update_steps}
+use Rattle.df_theory.specs.Rests.{IsCopy}
 use Rattle.df_theory.specs.Runs.{Step, Syncs}
 use Rattle.df_theory.specs.Sessions.{Answers}
 use Rattle.df_theory.specs.Shape.{Shape}
 use Rattle.df_theory.specs.Trailer.{InChain}
 use Rattle.df_theory.specs.Units as units
-use Rattle.df_theory.specs.Units.{AnyUnit, Block, BlockPlace, BlockUnit, Content, Place, ReplyPlace, ReplyUnit, Session, Units}
+use Rattle.df_theory.specs.Units.{AnyUnit, Block, BlockPlace, BlockUnit, Content, CopyPlace, CopyUnit, Header, HeaderPlace, HeaderUnit, Place, ReplyPlace, ReplyUnit, Session, Units}
 use Rattle.df_theory.specs.View.{Checkpoint, View}
 use Rattle.df_units.specs.Bytes.{unit_at}
 use Rattle.df_units.specs.Making.{header_puts}
@@ -42,7 +44,7 @@ use Rattle.df_copy.proofs.Afters.{placed}
 use Rattle.df_copy.proofs.Frees.{numbered_known}
 use Rattle.df_copy.proofs.Images.{image_behind, row_steps, shows_block, shows_copy, shows_no_prepare, shows_no_reply, shows_reply, shows_reserved, shows_slot, shows_trailer}
 use Rattle.df_copy.proofs.Listed.{check_at, many_checks, moved_length}
-use Rattle.df_copy.proofs.Rested.{IsEarlier, NamesAll, ShowsRest, rest_found, rest_whole, view_at_rest}
+use Rattle.df_copy.proofs.Rested.{IsEarlier, NamesAll, ShowsRest, moved_rest, rest_found, rest_whole, view_at_rest}
 use Rattle.df_copy.proofs.Rings.{ring_all_reserved, ring_reaches}
 use Rattle.df_copy.proofs.Rows.{as_block, as_reply, block_rows, reply_rows, row_at, row_placed}
 use Rattle.df_copy.proofs.Sources.{IsSource}
@@ -150,12 +152,16 @@ module _ (layout : Layout) (s : State) (rs bs : List Message) (image : Units) (v
       row_placed (block_rows layout cluster) (length us + 1) ts (trailer_in_row layout s rs bs is.writable) ∙ ap (λ (k : ℕ). placed BlockPlace (k + 1) trailer) (sym (length-map us as_block)) in
       λ i. ((all_puts puts ++ (one i ++ two i)) ++ three i) ++ (Syncs ∷ update_steps (put_copies f))
 
+  -- behind all steps, where nothing was shown
+  pub shown_after : (place : Place) → unit_after (copy_steps layout s rs bs) place None ≡ shown place
+  shown_after place = ap (λ (ss : List Step). unit_after ss place None) steps_are
+
   -- behind all that is written, where nothing was
   pub place_shows : (start : Image) → ((sector : ℕ) → start sector ≡ blank sector) → (place : Place) → unit_at layout cluster (image_after (copy_events layout s rs bs) start) place ≡ shown place
   place_shows start empty place =
       let both = nothing_shown layout cluster start empty in
       shown_by layout cluster (copy_events layout s rs bs) (copy_steps layout s rs bs) start (copy_are_steps layout s rs bs is) (subst IsImage (sym both.0) blank_is_image) place
-      ∙ ap (unit_after (copy_steps layout s rs bs) place) (both.1 place) ∙ ap (λ (ss : List Step). unit_after ss place None) steps_are
+      ∙ ap (unit_after (copy_steps layout s rs bs) place) (both.1 place) ∙ shown_after place
 
   -- ---- its superblock
 
@@ -232,11 +238,17 @@ module _ (layout : Layout) (s : State) (rs bs : List Message) (image : Units) (v
 
   -- ---- an open of it
 
+  pub copies_shown : (n : ℕ) → n < 4 → shown (CopyPlace n) ≡ Some (CopyUnit c)
+  copies_shown = shows_copy puts reserved replies blocks trailer f
+
+  slots_shown : (slot : ℕ) → slot < layout.slots → (h : Header) × (shown (HeaderPlace slot) ≡ Some (HeaderUnit h))
+  slots_shown slot inside = shows_slot puts reserved replies blocks trailer f slot (ring_reaches layout cluster s.file.named is.state.cluster slot inside)
+
   shows_rest : ShowsRest sh shown copy_checkpoint (stored_of rs)
   shows_rest = record {
-    copies = shows_copy puts reserved replies blocks trailer f;
+    agreed = record { first = 0; second = 1; apart = omega arith; inside = omega arith; at_first = copies_shown 0 (omega arith); at_second = copies_shown 1 (omega arith) };
+    only = λ n d inside there. let both : Some (CopyUnit d) ≡ Some (CopyUnit c) = sym there ∙ copies_shown n inside in cc;
     headers = shows_reserved puts reserved replies blocks trailer f;
-    slots_show = λ slot inside. shows_slot puts reserved replies blocks trailer f slot (ring_reaches layout cluster s.file.named is.state.cluster slot inside);
     prepares = shows_no_prepare puts reserved replies blocks trailer f;
     chain = chain_shown;
     replies = λ k r there. reply_earlier k (slice_get rs k) refl r there;
@@ -244,32 +256,39 @@ module _ (layout : Layout) (s : State) (rs bs : List Message) (image : Units) (v
     no_more = λ k r at. session_there k (slice_get rs k) r refl at;
   }
 
-  pub copy_found : IsFound sh shown copy_view
-  copy_found = rest_found sh shown copy_checkpoint (stored_of rs) (copy_sound layout s rs bs image v is source) all_named shows_rest
-
-  -- the superblock is newer than all that it shows
-  pub copy_older : IsOlder shown copy_view
-  copy_older = record {
-    prepares = shows_rest.prepares;
-    replies = λ k r there. (shows_rest.replies k r there).boot;
-    counted = (omega (arith, all_named.head), sym all_named.replies);
-  }
-
+  -- it is whole with all copies and all headers
   pub copy_whole : IsWhole sh shown copy_view
-  copy_whole = rest_whole sh shown copy_checkpoint (stored_of rs) (copy_sound layout s rs bs image v is source) all_named shows_rest
+  copy_whole = rest_whole sh shown copy_checkpoint (stored_of rs) (copy_sound layout s rs bs image v is source) all_named shows_rest copies_shown slots_shown
 
-  module _ (kinds : (i : ℕ) (b : Message) → slice_get bs i ≡ Some b → b.header.kind ≡ IsBlock) where
-    -- a block of a kind that is above 0
-    own_kind : (i : ℕ) (u : Message) → slice_get us i ≡ Some u → 0 < u.header.block_kind
-    own_kind i u at =
-        let one : 1 + i ≡ 1 + i = refl in
-        let unit = (row_at (block_rows layout cluster) 1 i (1 + i) us u is.blocks at one).1 in
-        let from = moved_back 1 bs i u at in
-        let kind : u.header.kind ≡ IsBlock = ap (λ (m : Message). m.header.kind) from.2 ∙ kinds i from.0 from.1 in
-        let rules : ObeysBlock u.header = subst (λ (k : Kind). ObeysKind k u.header) kind unit.sealed.rules.kind in
-        rules.block_kind
+  -- ---- an image that shows that, but for some of the copies
 
-    pub copy_stands : Stands shown copy_view
-    copy_stands a sum known =
-        let one = numbered_known 1 a sum us known in
-        (block_of one.unit, block_shown one.place a one.unit one.at (omega (arith, one.address)), sym one.sum, own_kind one.place one.unit one.at)
+  module _ (there : Units) (same : (place : Place) → (IsCopy place → ⊥) → there place ≡ shown place) (agreed : Agree there c) (only : (n : ℕ) (d : Content) → n < 4 → there (CopyPlace n) ≡ Some (CopyUnit d) → d ≡ c) where
+    rest_there : ShowsRest sh there copy_checkpoint (stored_of rs)
+    rest_there = moved_rest sh shown there copy_checkpoint (stored_of rs) shows_rest same agreed only
+
+    pub copy_found : IsFound sh there copy_view
+    copy_found = rest_found sh there copy_checkpoint (stored_of rs) (copy_sound layout s rs bs image v is source) all_named rest_there
+
+    -- the superblock is newer than all that it shows
+    pub copy_older : IsOlder there copy_view
+    copy_older = record {
+      prepares = rest_there.prepares;
+      replies = λ k r at. (rest_there.replies k r at).boot;
+      counted = (omega (arith, all_named.head), sym all_named.replies);
+    }
+
+    module _ (kinds : (i : ℕ) (b : Message) → slice_get bs i ≡ Some b → b.header.kind ≡ IsBlock) where
+      -- a block of a kind that is above 0
+      own_kind : (i : ℕ) (u : Message) → slice_get us i ≡ Some u → 0 < u.header.block_kind
+      own_kind i u at =
+          let one : 1 + i ≡ 1 + i = refl in
+          let unit = (row_at (block_rows layout cluster) 1 i (1 + i) us u is.blocks at one).1 in
+          let from = moved_back 1 bs i u at in
+          let kind : u.header.kind ≡ IsBlock = ap (λ (m : Message). m.header.kind) from.2 ∙ kinds i from.0 from.1 in
+          let rules : ObeysBlock u.header = subst (λ (k : Kind). ObeysKind k u.header) kind unit.sealed.rules.kind in
+          rules.block_kind
+
+      pub copy_stands : Stands there copy_view
+      copy_stands a sum known =
+          let one = numbered_known 1 a sum us known in
+          (block_of one.unit, same (BlockPlace a) (λ no. no) ∙ block_shown one.place a one.unit one.at (omega (arith, one.address)), sym one.sum, own_kind one.place one.unit one.at)

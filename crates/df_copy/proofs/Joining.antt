@@ -221,23 +221,23 @@ module _ (T : Type 0) (layout : Layout) (s : State) (from old : Option Told) whe
       (λ image. over_all s.file from (λ shown. first_refusal (tests layout shown (memory s) image) ≡ Some e) (λ shown. first_refuses (rest_tests layout (memory s)) (blank_tests image ++ unit_tests layout shown (memory s)) e is))
 
   pub into_refused : (new : Option Told) → new ≡ old → (e : Ending) → first_refusal (rest_tests layout (memory s)) ≡ Some e → CopiesInto {T = T} layout s from old new (Err e)
-  into_refused new same TargetFails is = record { writes = (nothing, inl (part_none (unit_events layout cluster [] []) same)); judged = silent }
+  into_refused new same TargetFails is = record { tested = inl same; writes = (nothing, inl (part_none (unit_events layout cluster [] []) same)); judged = silent }
     where
       part_none : (es : List Event) → new ≡ old → AddsPart es old new
       part_none [] it = it
       part_none (e ∷ es) it = inl it
-  into_refused new same Source is = record { writes = inl same; judged = silent }
-  into_refused new same (NotAtRest a b c) is = record { writes = inl same; judged = no_test new same (NotAtRest a b c) is }
-  into_refused new same (TooFewClients a b) is = record { writes = inl same; judged = no_test new same (TooFewClients a b) is }
-  into_refused new same (TooFewBlocks a b) is = record { writes = inl same; judged = no_test new same (TooFewBlocks a b) is }
-  into_refused new same (NotBlank a) is = record { writes = inl same; judged = no_test new same (NotBlank a) is }
-  into_refused new same (ReplyTooLong a b) is = record { writes = inl same; judged = no_test new same (ReplyTooLong a b) is }
-  into_refused new same (BlockTooLong a b) is = record { writes = inl same; judged = no_test new same (BlockTooLong a b) is }
-  into_refused new same (Damaged a b) is = record { writes = inl same; judged = no_test new same (Damaged a b) is }
+  into_refused new same Source is = record { tested = inl same; writes = inl same; judged = silent }
+  into_refused new same (NotAtRest a b c) is = record { tested = inl same; writes = inl same; judged = no_test new same (NotAtRest a b c) is }
+  into_refused new same (TooFewClients a b) is = record { tested = inl same; writes = inl same; judged = no_test new same (TooFewClients a b) is }
+  into_refused new same (TooFewBlocks a b) is = record { tested = inl same; writes = inl same; judged = no_test new same (TooFewBlocks a b) is }
+  into_refused new same (NotBlank a) is = record { tested = inl same; writes = inl same; judged = no_test new same (NotBlank a) is }
+  into_refused new same (ReplyTooLong a b) is = record { tested = inl same; writes = inl same; judged = no_test new same (ReplyTooLong a b) is }
+  into_refused new same (BlockTooLong a b) is = record { tested = inl same; writes = inl same; judged = no_test new same (BlockTooLong a b) is }
+  into_refused new same (Damaged a b) is = record { tested = inl same; writes = inl same; judged = no_test new same (Damaged a b) is }
 
   -- they pass, and the others decide
   pub into_planned : (new : Option Told) (r : Result T Ending) → first_refusal (rest_tests layout (memory s)) ≡ None → CopiesPlanned layout s from old new r → CopiesInto layout s from old new r
-  into_planned new r none planned = record { writes = planned.writes; judged = judged r planned.judged }
+  into_planned new r none planned = record { tested = inr none; writes = planned.writes; judged = judged r planned.judged }
     where
       joined : (image : Image) (shown : Shown) → first_refusal (tests layout shown (memory s) image) ≡ first_refusal (blank_tests image ++ unit_tests layout shown (memory s))
       joined image shown = behind_decides (rest_tests layout (memory s)) (blank_tests image ++ unit_tests layout shown (memory s)) none

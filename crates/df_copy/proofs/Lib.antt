@@ -26,9 +26,12 @@ pub mod Rows
 pub mod Seen
 pub mod Sources
 pub mod Spares
+pub mod Stopped
 pub mod Trailed
 pub mod Trailing
 pub mod Turns
+pub mod UnderWay
 pub mod Units
+pub mod Untouched
 pub mod Usables
 pub mod Written

@@ -1,4 +1,4 @@
--- A history begins at an image that holds a copy.
+-- A history begins at an image that shows a copy.
 use Rattle.std.proofs.Common.{◌≡◌, inl, inr, ℕ, ◌<◌, [], Some, None, sym, ◌∙◌, subst, arith}
 use Rattle.std.proofs.lemmas.Bool.{cases_lt}
 use Rattle.df_base.specs.Image.{Image}
@@ -17,9 +17,9 @@ use Rattle.df_units.proofs.Laws.{of_places}
 use Rattle.df_opening.specs.Below.{AreDistinct, DataFile, shape}
 use Rattle.df_opening.proofs.Laws.{clean_beyond}
 use Rattle.df_copy.specs.Lives.{CopiedBegins, MayGoOn}
-use Rattle.df_copy.specs.Views.{HoldsCopy, file_in}
+use Rattle.df_copy.specs.Views.{ShowsCopy, file_in}
 
-module _ (layout : Layout) (file : DataFile) (source : Image) (v : View) (target : Image) (copy : HoldsCopy layout file source v target) where
+module _ (layout : Layout) (file : DataFile) (source : Image) (v : View) (target : Image) (copy : ShowsCopy layout file source v target) where
   abbrev sh : Shape
   sh = shape (file_in layout file)
 
@@ -29,15 +29,8 @@ module _ (layout : Layout) (file : DataFile) (source : Image) (v : View) (target
   abbrev u : View
   u = copy.view
 
-  -- the four copies are equal, and there is no other one
-  pub clean : IsClean image u
-  clean n c is away = elim (cases_lt n 4) [
-    | inl inside ↦ inl (let both : Some (CopyUnit c) ≡ Some (CopyUnit u.checkpoint.content) = sym is ∙ copy.whole.copies n inside in cc)
-    | inr past ↦ clean_beyond (file_in layout file) target u n c past is away
-  ]
-
   pub holds : Holds sh image u
-  holds = (clean_start_law sh image u (of_places layout file.cluster file.named (parse_of (layout_of layout)) target copy.image) copy.found clean).holds
+  holds = (clean_start_law sh image u (of_places layout file.cluster file.named (parse_of (layout_of layout)) target copy.image) copy.found copy.clean).holds
 
   pub starts : Starts image [] u
   starts = record {
@@ -46,14 +39,14 @@ module _ (layout : Layout) (file : DataFile) (source : Image) (v : View) (target
       | inr none ↦ absurd none
     ];
     replies = λ k r at. elim at [ inl is ↦ copy.older.replies k r is | inr none ↦ absurd none ];
-    copies = λ n c away at. elim at [ inl is ↦ clean n c is away | inr none ↦ absurd none ];
+    copies = λ n c away at. elim at [ inl is ↦ copy.clean n c is away | inr none ↦ absurd none ];
     counted = copy.older.counted;
   }
 
   pub goes_on : AreDistinct image → MayGoOn (file_in layout file) u target
   goes_on distinct = record {
     version = copy.version;
-    begins = record { whole = copy.image; found = copy.found; clean = clean; distinct = distinct };
+    begins = record { whole = copy.image; found = copy.found; clean = copy.clean; distinct = distinct };
     stands = copy.stands;
     history = inr (u, holds, starts);
   }

@@ -1,13 +1,14 @@
 -- Behind the open of its source a copy spares the sectors of the target's superblock until the first copy of it, and the target holds it whole where it is made.
 use Rattle.std.proofs.Common.{◌≡◌, ◌⊎◌, inl, inr, ℕ, ◌≤◌, ◌++◌, true, List, [], ◌∷◌, length, Option, Some, None, Result, Ok, Err, refl, sym, ◌∙◌, ap, subst, arith}
 use Rattle.std.specs.Prelude.{slice_get}
+use Rattle.std.proofs.lemmas.Bool.{cases_lt}
 use Rattle.std.proofs.lemmas.Option.{same_Some}
 use Rattle.df_base.specs.Fields.{AreBytes}
 use Rattle.df_base.specs.Image.{Image, IsImage}
 use Rattle.df_base.specs.Log.{Event, Log, Sync, add, now}
 use Rattle.df_base.specs.Moments.{adds}
 use Rattle.df_disk.specs.Told.{Told, did}
-use Rattle.df_disk.specs.Adds.{after_all}
+use Rattle.df_disk.specs.Adds.{AddsPart, after_all}
 use Rattle.df_disk.proofs.Laws.{all_is_part}
 use Rattle.df_layout.specs.declared.layout.Layout.{Layout}
 use Rattle.df_format.specs.Message.{Message}
@@ -15,9 +16,11 @@ use Rattle.df_format.specs.SuperRules.{IsUsable}
 use Rattle.df_sessions.specs.Requests.{session_of, sessions_of}
 use Rattle.df_sessions.specs.Table.{AreApart}
 use Rattle.df_sessions.specs.declared.session.Session as told
-use Rattle.df_theory.specs.Found.{IsFound}
-use Rattle.df_theory.specs.Holds.{IsWhole, Stands}
-use Rattle.df_theory.specs.Units.{ReplyPlace, ReplyUnit, Units}
+use Rattle.df_theory.specs.Copies.{Agree}
+use Rattle.df_theory.specs.Found.{IsClean, IsFound}
+use Rattle.df_theory.specs.Holds.{IsWhole}
+use Rattle.df_theory.specs.Rests.{IsCopy}
+use Rattle.df_theory.specs.Units.{BlockPlace, Content, CopyPlace, CopyUnit, Place, ReplyPlace, ReplyUnit, Units}
 use Rattle.df_theory.specs.View.{View}
 use Rattle.df_units.specs.Bytes.{unit_at}
 use Rattle.df_units.specs.Meaning.{block_of, layout_of, message_of}
@@ -30,7 +33,7 @@ use Rattle.df_model.specs.Work.{kept}
 use Rattle.df_opening.specs.Below.{IsOpened, IsState, State, memory, shape, told_after}
 use Rattle.df_opening.specs.Opened.{Mends, MendsAll, begun_state, raised_state}
 use Rattle.df_opening.specs.Sparing.{image_after}
-use Rattle.df_opening.proofs.Laws.{added_is_told, shown_after}
+use Rattle.df_opening.proofs.Laws.{added_is_told, clean_beyond, shown_after}
 use Rattle.df_replica.specs.Reading.{shown_of}
 use Rattle.df_copy.specs.declared.ending.Ending.{Ending}
 use Rattle.df_copy.specs.declared.ending.Ending.TheVariants.{BlockTooLong, Damaged, NotAtRest, NotBlank, ReplyTooLong, Source, Target, TooFewBlocks, TooFewClients}
@@ -38,15 +41,18 @@ use Rattle.df_telling.specs.Two.{around}
 use Rattle.df_copy.specs.declared.status.Status.{Status}
 use Rattle.df_copy.specs.Copying.{Copied, CopiesInto, IsAll, WritesCopy}
 use Rattle.df_copy.specs.Run.{CopiesFile, Prints, SparesCopies}
+use Rattle.df_copy.specs.Stops.{StopsCopy}
 use Rattle.df_copy.specs.Targets.{copy_events, unit_events}
 use Rattle.df_copy.specs.Tests.{blank_tests, tests, unit_tests}
-use Rattle.df_copy.specs.Views.{HoldsCopy, IsCopyOf, IsEmpty, IsOlder, file_in}
-use Rattle.df_copy.proofs.Alike.{WereRead, copy_alike}
-use Rattle.df_copy.proofs.Holding.{copy_found, copy_image, copy_older, own_version, copy_stands, copy_view, copy_whole, mapped, place_shows, shown}
+use Rattle.df_copy.specs.Views.{HoldsCopy, IsEmpty, ShowsCopy, file_in}
+use Rattle.df_copy.proofs.Alike.{WereRead, alike_on, copy_alike}
+use Rattle.df_copy.proofs.Holding.{copies_shown, copy_found, copy_image, copy_older, copy_stands, copy_view, copy_whole, mapped, own_version, place_shows, shown}
 use Rattle.df_copy.proofs.Planning.{Passes, passes_tests}
 use Rattle.df_copy.proofs.Seen.{block_seen, reply_seen}
 use Rattle.df_copy.proofs.Sources.{IsSource, opened_lawful, rest_source}
 use Rattle.df_copy.proofs.Spares.{spare_units, spares_all, spares_copy, spares_part}
+use Rattle.df_copy.proofs.Stopped.{part_stops}
+use Rattle.df_copy.proofs.Untouched.{stops_spare}
 use Rattle.df_copy.proofs.Usables.{IsNamed}
 use Rattle.df_copy.proofs.Written.{blocks_in_row, replies_in_row}
 
@@ -83,8 +89,8 @@ now_adds : (es : List Event) (log : Log) → now (adds es log) ≡ image_after e
 now_adds [] log = refl
 now_adds (e ∷ es) log = now_adds es (add e log)
 
-module _ (layout : Layout) (t m o n : Told) (whole : IsImage t.shown) (empty : IsEmpty (now o.log)) where
-  -- what is asked of a source that was copied
+module _ (layout : Layout) (t m : Told) (whole : IsImage t.shown) where
+  -- what is asked of a source all of which is copied
   pub record MayHold (s : State) : Type 0 where
     pub state : IsState s
     pub usable : IsUsable s.fields
@@ -93,10 +99,6 @@ module _ (layout : Layout) (t m o n : Told) (whole : IsImage t.shown) (empty : I
     pub passes : Passes layout s
     pub copied : Copied layout s (Some m)
     pub all : IsAll copied
-    pub written : Some n ≡ after_all (copy_events layout s copied.replies copied.blocks) (Some o)
-
-  abbrev Holds : State → View → Type 0
-  Holds s view = HoldsCopy layout s.file m.shown (kept (begun_state s.file t view s.fields)) (now n.log)
 
   module _ (found : State) (opened_as : IsOpened found.file.layout t.shown found) (view : View) (is : IsFound (shape found.file) (unit_at found.file.layout found.file.cluster t.shown) view) (may : MayHold (raised_state found)) where
     abbrev s : State
@@ -161,34 +163,75 @@ module _ (layout : Layout) (t m o n : Told) (whole : IsImage t.shown) (empty : I
           (there.0, there.1, block_seen (shown_of s.file m.shown) (memory s) there.0.0 (block_of b) there.2.shown, there.2.known.sum);
     }
 
-    log_is : n.log ≡ adds (copy_events layout s rs bs) o.log
-    log_is = all_added (copy_events layout s rs bs) o n may.written
+    abbrev u : View
+    u = copy_view layout s rs bs image v named source read
 
-    target_is : shown layout s rs bs image v named source read ≡ unit_at layout s.file.cluster (now n.log)
-    target_is = λ i place.
-        (sym (ap (λ (l : Log). unit_at layout s.file.cluster (now l) place) log_is ∙ ap (λ (w : Image). unit_at layout s.file.cluster w place) (now_adds (copy_events layout s rs bs) o.log)
-        ∙ place_shows layout s rs bs image v named source read (now o.log) empty place)) i
+    abbrev then : Units
+    then = shown layout s rs bs image v named source read
 
-    raised_holds : Holds s view
-    raised_holds = record {
-      view = copy_view layout s rs bs image v named source read;
-      copy = subst (λ (w : Units). IsCopyOf (layout_of layout) seen v w (copy_view layout s rs bs image v named source read)) target_is
-          (copy_alike layout s rs bs image v named source read (λ k u at. (may.copied.are_replies.are.each k u at).known.sum) seen were_read);
-      found = subst (λ (w : Units). IsFound (shape (file_in layout s.file)) w (copy_view layout s rs bs image v named source read)) target_is (copy_found layout s rs bs image v named source read);
-      whole = subst (λ (w : Units). IsWhole (shape (file_in layout s.file)) w (copy_view layout s rs bs image v named source read)) target_is (copy_whole layout s rs bs image v named source read);
-      stands = subst (λ (w : Units). Stands w (copy_view layout s rs bs image v named source read)) target_is
-          (copy_stands layout s rs bs image v named source read (λ i b at. let there = may.copied.are_blocks.are.each i b at in there.2.known.of_kind));
-      older = subst (λ (w : Units). IsOlder w (copy_view layout s rs bs image v named source read)) target_is (copy_older layout s rs bs image v named source read);
-      image = subst IsImage (sym (ap (λ (l : Log). now l) log_is ∙ now_adds (copy_events layout s rs bs) o.log)) (copy_image layout s rs bs image v named source read (now o.log) empty);
-      version = own_version layout s rs bs image v named source read;
-    }
+    -- an image that shows all that was written, but for some of the copies
+    module _ (target : Image) (has_sectors : IsImage target) (same : (place : Place) → (IsCopy place → ⊥) → unit_at layout s.file.cluster target place ≡ then place) (agreed : Agree (unit_at layout s.file.cluster target) u.checkpoint.content)
+        (only : (n : ℕ) (d : Content) → n < 4 → unit_at layout s.file.cluster target (CopyPlace n) ≡ Some (CopyUnit d) → d ≡ u.checkpoint.content) where
+      abbrev there : Units
+      there = unit_at layout s.file.cluster target
 
-  abbrev EachHolds : State → Type 0
-  EachHolds s = (view : View) → IsFound (shape s.file) (unit_at s.file.layout s.file.cluster t.shown) view → MayHold s → Holds s view
+      clean : IsClean there u
+      clean n d at away = elim (cases_lt n 4) [
+        | inl inside ↦ inl (only n d inside at)
+        | inr past ↦ clean_beyond (file_in layout s.file) target u n d past at away
+      ]
 
-  -- the state that calls begin with is held whole
-  pub copy_holds : (s : State) → MendsAll t s (Some m) → EachHolds s
-  copy_holds s mends = subst EachHolds (sym mends.raised) (λ view is may. raised_holds mends.found (mends.opened whole) view is may)
+      pub shows_there : ShowsCopy layout s.file m.shown v target
+      shows_there = record {
+        view = u;
+        copy = alike_on (layout_of layout) seen v then there u (λ a. same (BlockPlace a) (λ no. no)) (copy_alike layout s rs bs image v named source read (λ k r at. (may.copied.are_replies.are.each k r at).known.sum) seen were_read);
+        found = copy_found layout s rs bs image v named source read there same agreed only;
+        clean = clean;
+        stands = copy_stands layout s rs bs image v named source read there same agreed only (λ i b at. let here = may.copied.are_blocks.are.each i b at in here.2.known.of_kind);
+        older = copy_older layout s rs bs image v named source read there same agreed only;
+        image = has_sectors;
+        version = own_version layout s rs bs image v named source read;
+      }
+
+    -- ---- at the end
+
+    module _ (o n : Told) (empty : IsEmpty (now o.log)) (written : Some n ≡ after_all (copy_events layout s rs bs) (Some o)) where
+      log_is : n.log ≡ adds (copy_events layout s rs bs) o.log
+      log_is = all_added (copy_events layout s rs bs) o n written
+
+      now_is : now n.log ≡ image_after (copy_events layout s rs bs) (now o.log)
+      now_is = ap (λ (l : Log). now l) log_is ∙ now_adds (copy_events layout s rs bs) o.log
+
+      target_is : (place : Place) → unit_at layout s.file.cluster (now n.log) place ≡ then place
+      target_is place = ap (λ (w : Image). unit_at layout s.file.cluster w place) now_is ∙ place_shows layout s rs bs image v named source read (now o.log) empty place
+
+      copies : (k : ℕ) → k < 4 → unit_at layout s.file.cluster (now n.log) (CopyPlace k) ≡ Some (CopyUnit u.checkpoint.content)
+      copies k inside = target_is (CopyPlace k) ∙ copies_shown layout s rs bs image v named source read k inside
+
+      pub raised_holds : HoldsCopy layout s.file m.shown v (now n.log)
+      raised_holds = record {
+        shows = shows_there (now n.log) (subst IsImage (sym now_is) (copy_image layout s rs bs image v named source read (now o.log) empty)) (λ place other. target_is place)
+            (record { first = 0; second = 1; apart = omega arith; inside = omega arith; at_first = copies 0 (omega arith); at_second = copies 1 (omega arith) })
+            (λ k d inside at. let both : Some (CopyUnit d) ≡ Some (CopyUnit u.checkpoint.content) = sym at ∙ copies k inside in cc);
+        whole = subst (λ (w : Units). IsWhole (shape (file_in layout s.file)) w u) (λ i place. sym (target_is place) i) (copy_whole layout s rs bs image v named source read);
+      }
+
+    -- ---- and where it was stopped
+
+    pub raised_stops : (o : Told) (new : Option Told) → IsEmpty o.shown → AddsPart (copy_events layout s rs bs) (Some o) new → StopsCopy layout s.file m.shown v o new
+    raised_stops o new empty part =
+        part_stops layout s rs bs image v named source read m.shown v shows_there o empty new part
+
+  -- the state that calls begin with is held whole, and shown where the copy was stopped
+  pub copy_holds : (s : State) → MendsAll t s (Some m) → (view : View) → IsFound (shape s.file) (unit_at s.file.layout s.file.cluster t.shown) view → (may : MayHold s)
+      → ((o n : Told) → IsEmpty (now o.log) → Some n ≡ after_all (copy_events layout s may.copied.replies may.copied.blocks) (Some o) → HoldsCopy layout s.file m.shown (kept (begun_state s.file t view s.fields)) (now n.log))
+      × ((o : Told) (new : Option Told) → IsEmpty o.shown → AddsPart (copy_events layout s may.copied.replies may.copied.blocks) (Some o) new → StopsCopy layout s.file m.shown (kept (begun_state s.file t view s.fields)) o new)
+  copy_holds s mends = subst EachHolds (sym mends.raised) (λ view is may. (raised_holds mends.found (mends.opened whole) view is may, raised_stops mends.found (mends.opened whole) view is may))
+    where
+      EachHolds : State → Type 0
+      EachHolds s = (view : View) → IsFound (shape s.file) (unit_at s.file.layout s.file.cluster t.shown) view → (may : MayHold s)
+          → ((o n : Told) → IsEmpty (now o.log) → Some n ≡ after_all (copy_events layout s may.copied.replies may.copied.blocks) (Some o) → HoldsCopy layout s.file m.shown (kept (begun_state s.file t view s.fields)) (now n.log))
+          × ((o : Told) (new : Option Told) → IsEmpty o.shown → AddsPart (copy_events layout s may.copied.replies may.copied.blocks) (Some o) new → StopsCopy layout s.file m.shown (kept (begun_state s.file t view s.fields)) o new)
 
 -- ---- the source's sessions
 
@@ -199,6 +242,58 @@ pub opened_apart : (t : Told) (s : State) (later : Option Told) → IsImage t.sh
 opened_apart t s later whole mends =
     let opened_as = mends.opened whole in
     subst (λ (q : State). AreApart q.table.sessions) (sym mends.raised) (apart_of mends.found.file.layout.clients mends.found.table.sessions (opened_lawful mends.found t opened_as.view whole opened_as opened_as.found))
+
+-- ---- the target, wherever it is stopped
+
+module _ (layout : Layout) (t m : Told) (whole : IsImage t.shown) (s : State) (state : IsState s) (usable : IsUsable s.fields) (live : s.live ≡ true) (mends : MendsAll t s (Some m)) (view : View)
+    (found : IsFound (shape s.file) (unit_at s.file.layout s.file.cluster t.shown) view) where
+  holding : (copied : Copied layout s (Some m)) → IsAll copied → Passes layout s → MayHold layout t m whole s
+  holding copied all passes = record { state = state; usable = usable; live = live; mending = mends.mending; passes = passes; copied = copied; all = all }
+
+  pub all_holds : (o n : Told) → IsEmpty (now o.log) → CopiesInto layout s (Some m) (Some o) (Some n) (Ok tt) → HoldsCopy layout s.file m.shown (kept (begun_state s.file t view s.fields)) (now n.log)
+  all_holds o n empty copies =
+      let w = copies.writes in
+      (copy_holds layout t m whole s mends view found (holding w.0 w.1 (passes_all layout s (shown_of s.file m.shown) o.shown copies.judged))).0 o n empty w.2
+
+  module _ (o : Told) (new : Option Told) (empty : IsEmpty o.shown) where
+    abbrev Stops : Type 0
+    Stops = StopsCopy layout s.file m.shown (kept (begun_state s.file t view s.fields)) o new
+
+    units_stop : (c : Copied layout s (Some m)) → AddsPart (unit_events layout s.file.cluster c.replies c.blocks) (Some o) new → Stops
+    units_stop c part =
+        stops_spare layout s.file m.shown (kept (begun_state s.file t view s.fields)) o new (unit_events layout s.file.cluster c.replies c.blocks) empty (spare_units layout s.file.cluster c.replies c.blocks) part
+
+    nothing_stops : new ≡ Some o → Stops
+    nothing_stops same = stops_spare layout s.file m.shown (kept (begun_state s.file t view s.fields)) o new [] empty tt same
+
+    unbegun_stops : (new ≡ Some o) ⊎ ((c : Copied layout s (Some m)) × (new ≡ after_all (unit_events layout s.file.cluster c.replies c.blocks) (Some o))) → Stops
+    unbegun_stops (inl same) = nothing_stops same
+    unbegun_stops (inr some) = units_stop some.0 (all_is_part (unit_events layout s.file.cluster some.0.replies some.0.blocks) (Some o) new some.1)
+
+    module _ (passes : Passes layout s) where
+      all_stop : (c : Copied layout s (Some m)) → IsAll c → AddsPart (copy_events layout s c.replies c.blocks) (Some o) new → Stops
+      all_stop c all part = (copy_holds layout t m whole s mends view found (holding c all passes)).1 o new empty part
+
+      passed_stops : {T : Type 0} (r : Result T Ending) → WritesCopy layout s (Some m) (Some o) new r → Stops
+      passed_stops (Ok x) writes = all_stop writes.0 writes.1 (all_is_part (copy_events layout s writes.0.replies writes.0.blocks) (Some o) new writes.2)
+      passed_stops (Err Target) writes = elim writes.1 [
+        | inl units ↦ units_stop writes.0 units
+        | inr all ↦ all_stop writes.0 all.0 all.1
+      ]
+      passed_stops (Err Source) writes = unbegun_stops writes
+      passed_stops (Err (NotAtRest a b c)) writes = unbegun_stops writes
+      passed_stops (Err (TooFewClients a b)) writes = unbegun_stops writes
+      passed_stops (Err (TooFewBlocks a b)) writes = unbegun_stops writes
+      passed_stops (Err (NotBlank a)) writes = unbegun_stops writes
+      passed_stops (Err (ReplyTooLong a b)) writes = unbegun_stops writes
+      passed_stops (Err (BlockTooLong a b)) writes = unbegun_stops writes
+      passed_stops (Err (Damaged a b)) writes = unbegun_stops writes
+
+    pub each_stops : (r : Result (Unit {0}) Ending) → CopiesInto layout s (Some m) (Some o) new r → Stops
+    each_stops r copies = elim copies.tested [
+      | inl same ↦ nothing_stops same
+      | inr none ↦ passed_stops (passes_tests layout s [] none) r copies.writes
+    ]
 
 -- ---- what is said of it
 
@@ -215,15 +310,8 @@ file_copied layout t s r first second later written wrote status whole state usa
       let copied : CopiesInto layout s (Some m) (Some o) (Some n) (Ok tt) =
       subst (CopiesInto layout s (Some m) (Some o) (Some n)) done
       (subst (λ (x : Option Told). CopiesInto layout s (Some m) (Some o) x r) three (subst (λ (x : Option Told). CopiesInto layout s (Some m) x later r) two (subst (λ (x : Option Told). CopiesInto layout s x second later r) one copies))) in
-      let opened : MendsAll t s (Some m) = subst (MendsAll t s) one mends in
-      copy_holds layout t m o n whole empty s opened view found (record {
-        state = state;
-        usable = usable;
-        live = live;
-        mending = opened.mending;
-        passes = passes_all layout s (shown_of s.file m.shown) o.shown copied.judged;
-        copied = copied.writes.0;
-        all = copied.writes.1;
-        written = copied.writes.2;
-      });
+      all_holds layout t m whole s state usable live (subst (MendsAll t s) one mends) view found o n empty copied;
+  stops = λ m o one two empty view found.
+      each_stops layout t m whole s state usable live (subst (MendsAll t s) one mends) view found o later empty r
+      (subst (λ (x : Option Told). CopiesInto layout s (Some m) x later r) two (subst (λ (x : Option Told). CopiesInto layout s x second later r) one copies));
 }

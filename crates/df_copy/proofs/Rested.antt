@@ -1,12 +1,13 @@
 -- What an open finds of a file at rest: its copies are equal, no slot of its rings has a prepare, and each session's reply is named.
 use Rattle.std.proofs.Common.{◌≡◌, inl, ℕ, ◌+◌, ◌-◌, ◌<◌, ◌≤◌, List, [], ◌∷◌, length, take, Option, Some, None, refl, sym, ◌∙◌, ap, arith}
 use Rattle.std.specs.Prelude.{slice_get, slice_index}
-use Rattle.df_theory.specs.Units.{Block, BlockPlace, BlockUnit, Content, CopyPlace, CopyUnit, Header, HeaderPlace, HeaderUnit, IsReserved, Message, PreparePlace, PrepareUnit, ReplyPlace, ReplyUnit, Session, Units}
+use Rattle.df_theory.specs.Units.{Block, BlockPlace, BlockUnit, Content, CopyPlace, CopyUnit, Header, HeaderPlace, HeaderUnit, IsReserved, Message, Place, PreparePlace, PrepareUnit, ReplyPlace, ReplyUnit, Session, Units}
 use Rattle.df_theory.specs.Cases.{Takes}
-use Rattle.df_theory.specs.Copies.{IsChosen}
+use Rattle.df_theory.specs.Copies.{Agree, IsChosen}
 use Rattle.df_theory.specs.Found.{IsFound, IsStored}
 use Rattle.df_theory.specs.Groups.{AreMore}
 use Rattle.df_theory.specs.Holds.{IsNamed, IsWhole}
+use Rattle.df_theory.specs.Rests.{IsCopy}
 use Rattle.df_theory.specs.Sessions.{Answers}
 use Rattle.df_theory.specs.Shape.{Shape, slots}
 use Rattle.df_theory.specs.Tails.{last_checksum}
@@ -30,11 +31,11 @@ pub record IsEarlier (c : Content) (r : Message) : Type 0 where
   pub checkpoint : r.header.checkpoint ≤ c.sequence
   pub boot : r.header.boot < c.boot
 
--- what a file at rest shows: four equal copies, a reserved header in each slot, no prepare, and for each session the reply that its checksum names
+-- what a file at rest shows: two copies that agree, and none of another content; reserved headers alone, no prepare, and for each session the reply that its checksum names
 pub record ShowsRest (sh : Shape) (image : Units) (b : Checkpoint) (stored : ℕ → Option Message) : Type 0 where
-  pub copies : (n : ℕ) → n < 4 → image (CopyPlace n) ≡ Some (CopyUnit b.content)
+  pub agreed : Agree image b.content
+  pub only : (n : ℕ) (d : Content) → n < 4 → image (CopyPlace n) ≡ Some (CopyUnit d) → d ≡ b.content
   pub headers : (s : ℕ) (h : Header) → image (HeaderPlace s) ≡ Some (HeaderUnit h) → IsReserved h
-  pub slots_show : (s : ℕ) → s < slots sh → (h : Header) × (image (HeaderPlace s) ≡ Some (HeaderUnit h))
   pub prepares : (s : ℕ) → image (PreparePlace s) ≡ None
   pub chain : (a : ℕ) (x : Block) → InChain a x b.chain → image (BlockPlace a) ≡ Some (BlockUnit x)
   pub replies : (k : ℕ) (r : Message) → image (ReplyPlace k) ≡ Some (ReplyUnit r) → IsEarlier b.content r
@@ -48,16 +49,13 @@ module _ (sh : Shape) (image : Units) (b : Checkpoint) (stored : ℕ → Option 
   abbrev v : View
   v = view_at_rest b stored
 
-  same_unit : (n : ℕ) (d : Content) → n < 4 → image (CopyPlace n) ≡ Some (CopyUnit d) → d ≡ c
-  same_unit n d inside is = let both : Some (CopyUnit d) ≡ Some (CopyUnit c) = sym is ∙ shows.copies n inside in cc
-
   chosen : IsChosen image c
   chosen = record {
-    agreed = record { first = 0; second = 1; apart = omega arith; inside = omega arith; at_first = shows.copies 0 (omega arith); at_second = shows.copies 1 (omega arith) };
+    agreed = shows.agreed;
     greatest = λ d agree.
-        let same : d ≡ c = same_unit agree.second d agree.inside agree.at_second in
+        let same : d ≡ c = shows.only agree.second d agree.inside agree.at_second in
         omega (arith, ap (λ (e : Content). e.sequence) same, ap (λ (e : Content). e.boot) same);
-    lowest = λ d agree level n inside is. (n, omega arith, shows.copies n inside);
+    lowest = λ d agree level n inside is. (n, omega arith, is ∙ ap (λ (e : Content). Some (CopyUnit e)) (shows.only n d inside is));
   }
 
   no_prepare : (s : ℕ) (p : Message) → image (PreparePlace s) ≡ Some (PrepareUnit p) → ⊥
@@ -124,8 +122,24 @@ module _ (sh : Shape) (image : Units) (b : Checkpoint) (stored : ℕ → Option 
     stored = is_stored;
   }
 
-  pub rest_whole : IsWhole sh image v
-  rest_whole = record {
-    copies = shows.copies;
-    headers = λ s inside. let there = shows.slots_show s inside in (there.0, there.1, λ p at. absurd at);
+  -- all four copies, and a header in each slot
+  pub rest_whole : ((n : ℕ) → n < 4 → image (CopyPlace n) ≡ Some (CopyUnit c)) → ((s : ℕ) → s < slots sh → (h : Header) × (image (HeaderPlace s) ≡ Some (HeaderUnit h))) → IsWhole sh image v
+  rest_whole copies slots_show = record {
+    copies = copies;
+    headers = λ s inside. let there = slots_show s inside in (there.0, there.1, λ p at. absurd at);
+  }
+
+-- it is shown where all but the copies is as it was
+module _ (sh : Shape) (shown image : Units) (b : Checkpoint) (stored : ℕ → Option Message) (shows : ShowsRest sh shown b stored) (same : (place : Place) → (IsCopy place → ⊥) → image place ≡ shown place) (agreed : Agree image b.content)
+    (only : (n : ℕ) (d : Content) → n < 4 → image (CopyPlace n) ≡ Some (CopyUnit d) → d ≡ b.content) where
+  pub moved_rest : ShowsRest sh image b stored
+  moved_rest = record {
+    agreed = agreed;
+    only = only;
+    headers = λ s h is. shows.headers s h (sym (same (HeaderPlace s) (λ no. no)) ∙ is);
+    prepares = λ s. same (PreparePlace s) (λ no. no) ∙ shows.prepares s;
+    chain = λ a x at. same (BlockPlace a) (λ no. no) ∙ shows.chain a x at;
+    replies = λ k r is. shows.replies k r (sym (same (ReplyPlace k) (λ no. no)) ∙ is);
+    shown = λ k s at. let there = shows.shown k s at in (there.0, there.1, same (ReplyPlace k) (λ no. no) ∙ there.2, there.3, there.4);
+    no_more = shows.no_more;
   }

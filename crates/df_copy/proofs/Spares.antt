@@ -86,10 +86,10 @@ spare_units layout cluster rs bs =
     (spare_join (all_events (reply_events layout) rs) (all_events (made_events layout) (moved_from 1 bs)) (spare_each (reply_events layout) (spare_reply layout) rs) (spare_each (made_events layout) (spare_block layout) (moved_from 1 bs)))
 
 -- all that stands before the first copy, its sync included
-abbrev before_copies : Layout → State → (rs bs : List Message) → List Event
+abbrev pub before_copies : Layout → State → (rs bs : List Message) → List Event
 before_copies layout s rs bs = front_events layout s rs bs ++ Sync ∷ []
 
-spare_before : (layout : Layout) (s : State) (rs bs : List Message) → SpareSuper (before_copies layout s rs bs)
+pub spare_before : (layout : Layout) (s : State) (rs bs : List Message) → SpareSuper (before_copies layout s rs bs)
 spare_before layout s rs bs =
     let trailer = all_events (made_events layout) (trailer_of layout s (moved_from 1 bs)) in
     spare_join (front_events layout s rs bs) (Sync ∷ [])
@@ -97,7 +97,7 @@ spare_before layout s rs bs =
 
 -- ---- moments
 
-uncovered : (at : ℕ) (bytes : List ℕ) (n : ℕ) → 4 ≤ at → n < 4 → covers at bytes n ≡ false
+pub uncovered : (at : ℕ) (bytes : List ℕ) (n : ℕ) → 4 ≤ at → n < 4 → covers at bytes n ≡ false
 unfolding covers
 uncovered at bytes n from inside = and_left _ _ (lt-leb at n (omega (arith, from, inside)))
 
@@ -130,20 +130,20 @@ pub spares_all : (o : Told) (new : Option Told) (front : List Event) → SpareSu
 spares_all o new front spare is = spares_by o new front [] spare (inl refl) (is ∙ ap (λ (l : List Event). after_all l (Some o)) (sym (append-nil front)))
 
 -- a part of events, and what it is
-record IsFront (es : List Event) (old new : Option Told) : Type 0 where
-  part : List Event
-  rest : List Event
-  both : es ≡ part ++ rest
-  is : new ≡ after_all part old
+pub record IsFront (es : List Event) (old new : Option Told) : Type 0 where
+  pub part : List Event
+  pub rest : List Event
+  pub both : es ≡ part ++ rest
+  pub is : new ≡ after_all part old
 
-front_of_part : (es : List Event) (old new : Option Told) → AddsPart es old new → IsFront es old new
+pub front_of_part : (es : List Event) (old new : Option Told) → AddsPart es old new → IsFront es old new
 front_of_part [] old new is = record { part = []; rest = []; both = refl; is = is }
 front_of_part (e ∷ es) old new (inl is) = record { part = []; rest = e ∷ es; both = refl; is = is }
 front_of_part (e ∷ es) old new (inr more) =
     let there = front_of_part es (after e old) new more in
     record { part = e ∷ there.part; rest = there.rest; both = ap (λ (l : List Event). e ∷ l) there.both; is = there.is }
 
-spare_front : (part rest : List Event) → SpareSuper (part ++ rest) → SpareSuper part
+pub spare_front : (part rest : List Event) → SpareSuper (part ++ rest) → SpareSuper part
 spare_front [] rest spare = tt
 spare_front ((Write at bytes) ∷ part) rest spare = (spare.0, spare_front part rest spare.1)
 spare_front (Sync ∷ part) rest spare = spare_front part rest spare

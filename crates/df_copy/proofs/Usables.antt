@@ -232,7 +232,7 @@ module _ (layout : Layout) (s : State) (rs bs : List Message) (is : IsNamed layo
 
   -- ---- its writes
 
-  superblock_are_steps : AreSteps (format_of layout s.file.cluster) (superblock_events layout s rs bs) (superblock_steps layout s rs bs)
+  pub superblock_are_steps : AreSteps (format_of layout s.file.cluster) (superblock_events layout s rs bs) (superblock_steps layout s rs bs)
   superblock_are_steps =
       let cluster = s.file.cluster in
       (copy_put layout cluster 0 super (omega arith) copy_usable, (copy_put layout cluster 1 super (omega arith) copy_usable, (copy_put layout cluster 2 super (omega arith) copy_usable, (copy_put layout cluster 3 super (omega arith) copy_usable, tt))))

@@ -16,7 +16,7 @@ use Rattle.df_copy.specs.declared.target.Target.{Target as Copy}
 use Rattle.df_copy.specs.Acts.{FitBlocks, FitReplies, StopsBehind}
 use Rattle.df_copy.specs.Statuses.{ByEnding}
 use Rattle.df_copy.specs.Targets.{IsTarget, copy_events, ring_events, superblock_events, trailer_of, unit_events}
-use Rattle.df_copy.specs.Tests.{blank_tests, references, tests, unit_tests}
+use Rattle.df_copy.specs.Tests.{blank_tests, references, rest_tests, tests, unit_tests}
 use Rattle.df_copy.specs.Units.{OverShown, all_events, moved_from, reply_events}
 
 -- what is copied of a source: its replies and its blocks, whole or the first of them, and no block before all replies
@@ -54,8 +54,9 @@ OverTold (Some o) P = P o.shown
 abbrev pub IsJudged : {T : Type 0} → Layout → State → (from to : Option Told) → Result T Ending → Type 0
 IsJudged layout s from to result = OverTold to (λ image. OverShown s.file from (λ shown. Judges layout s shown image result))
 
--- a copy of a source that was opened, into a target of this layout of which nothing is written
+-- a copy of a source that was opened, into a target of this layout of which nothing is written: nothing is written either unless the source passes the tests that read nothing
 pub record CopiesInto {T : Type 0} (layout : Layout) (s : State) (from old new : Option Told) (result : Result T Ending) : Type 0 where
+  pub tested : (new ≡ old) ⊎ (first_refusal (rest_tests layout (memory s)) ≡ None)
   pub writes : WritesCopy layout s from old new result
   pub judged : IsJudged layout s from old result
 

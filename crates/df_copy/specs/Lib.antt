@@ -8,5 +8,6 @@ pub mod Acts
 pub mod Trailers
 pub mod Copying
 pub mod Views
+pub mod Stops
 pub mod Run
 pub mod Lives

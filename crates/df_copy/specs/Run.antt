@@ -24,6 +24,7 @@ use Rattle.df_copy.specs.declared.ending.Ending.TheVariants.{Source, Target}
 use Rattle.df_copy.specs.declared.status.Status.{Status}
 use Rattle.df_copy.specs.declared.status.Status.TheVariants as ends
 use Rattle.df_copy.specs.Copying.{CopiesInto}
+use Rattle.df_copy.specs.Stops.{StopsCopy}
 use Rattle.df_copy.specs.Texts.{copied_text, ending_text}
 use Rattle.df_copy.specs.Views.{HoldsCopy, IsEmpty}
 
@@ -94,7 +95,7 @@ pub record SparesCopies (o : Told) (new : Option Told) : Type 0 where
   pub spared : EachMoment o.log (adds front o.log) (KeepsCopies o.log)
 
 -- The source was found, mended, and its boot raised, and calls may be made on it: what of that is kept of it at each moment is what an open keeps, since nothing is written to it from then on. Then the copy was made or refused: what was
--- written of the target, and for what it was refused, is exact. A target on which nothing had been written, and of which nothing is loose, holds the copy whole where it is made.
+-- written of the target, and for what it was refused, is exact. A target on which nothing had been written holds the copy whole where it is made; and wherever it is stopped, whatever it comes to, the target is refused or shows the copy.
 pub record CopiesFile (layout : Layout) (t : Told) (old new : Outside) (status : Status) : Type 0 where
   pub state : State
   pub opened : MendsAll t state new.first
@@ -105,6 +106,8 @@ pub record CopiesFile (layout : Layout) (t : Told) (old new : Outside) (status :
   pub holds : (m o n : Told) → result ≡ Ok tt → new.first ≡ Some m → old.second ≡ Some o → new.second ≡ Some n → IsEmpty (now o.log)
       → (view : View) → IsFound (shape state.file) (unit_at state.file.layout state.file.cluster t.shown) view
       → HoldsCopy layout state.file m.shown (kept (begun_state state.file t view state.fields)) (now n.log)
+  pub stops : (m o : Told) → new.first ≡ Some m → old.second ≡ Some o → IsEmpty o.shown → (view : View) → IsFound (shape state.file) (unit_at state.file.layout state.file.cluster t.shown) view
+      → StopsCopy layout state.file m.shown (kept (begun_state state.file t view state.fields)) o new.second
 
 -- ---- the program
 

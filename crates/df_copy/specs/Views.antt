@@ -2,7 +2,7 @@
 use Rattle.std.specs.Prelude.{◌≡◌, ◌↔◌, ◌<◌, ◌≤◌, ◌+◌, ℕ, List, [], length, map, slice_get, Some, None}
 use Rattle.df_base.specs.Image.{Image, IsImage, blank}
 use Rattle.df_layout.specs.declared.layout.Layout.{Layout}
-use Rattle.df_theory.specs.Found.{IsFound}
+use Rattle.df_theory.specs.Found.{IsClean, IsFound}
 use Rattle.df_theory.specs.Holds.{IsWhole, Stands}
 use Rattle.df_theory.specs.Trailer.{InChain}
 use Rattle.df_theory.specs.Units as units
@@ -71,16 +71,21 @@ pub record IsOlder (image : Units) (u : View) : Type 0 where
 abbrev pub file_in : Layout → DataFile → DataFile
 file_in layout file = record { layout = layout; cluster = file.cluster; version = file.version; named = file.named }
 
--- an image of a target holds the copy of a view whole: an open finds it, nothing is to be mended, each block that it references is shown, and it is older than its superblock; and the file is of version 2, as the source is
-pub record HoldsCopy (layout : Layout) (file : DataFile) (source : Image) (v : View) (target : Image) : Type 0 where
+-- An image of a target shows the copy of a view: an open finds it, with no copy of the superblock above the choice; each block that it references is shown, and it is older than its superblock. The file is of version 2, as the source is.
+pub record ShowsCopy (layout : Layout) (file : DataFile) (source : Image) (v : View) (target : Image) : Type 0 where
   pub view : View
   pub copy : IsCopyOf (layout_of layout) (unit_at file.layout file.cluster source) v (unit_at layout file.cluster target) view
   pub found : IsFound (shape (file_in layout file)) (unit_at layout file.cluster target) view
-  pub whole : IsWhole (shape (file_in layout file)) (unit_at layout file.cluster target) view
+  pub clean : IsClean (unit_at layout file.cluster target) view
   pub stands : Stands (unit_at layout file.cluster target) view
   pub older : IsOlder (unit_at layout file.cluster target) view
   pub image : IsImage target
   pub version : file.version ≡ 2
+
+-- and it holds it whole: nothing is to be mended
+pub record HoldsCopy (layout : Layout) (file : DataFile) (source : Image) (v : View) (target : Image) : Type 0 where
+  pub shows : ShowsCopy layout file source v target
+  pub whole : IsWhole (shape (file_in layout file)) (unit_at layout file.cluster target) shows.view
 
 -- nothing was ever written there
 abbrev pub IsEmpty : Image → Type 0

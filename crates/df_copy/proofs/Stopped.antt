@@ -1,0 +1,175 @@
+-- At each moment of a copy that wrote all units, or a part of what follows them: what a stop leaves of the target.
+use Rattle.std.proofs.Common.{◌≡◌, inl, inr, ℕ, ◌<◌, false, List, [], ◌∷◌, Option, Some, None, refl, sym, ◌∙◌, ap, subst, arith}
+use Rattle.std.specs.Prelude.{slice_get}
+use Rattle.df_base.specs.Image.{Image, IsImage, blank}
+use Rattle.df_base.specs.Log.{Event, IsLog, Log, Sync, add, now, settled}
+use Rattle.df_base.specs.Moments.{EachMoment, Passed, adds}
+use Rattle.df_base.proofs.Laws.{adds_extends, adds_on, blank_is_image}
+use Rattle.df_disk.specs.Told.{Told}
+use Rattle.df_disk.specs.Adds.{AddsPart}
+use Rattle.df_layout.specs.declared.layout.Layout.{Layout}
+use Rattle.df_format.specs.Message.{Message}
+use Rattle.df_format.specs.declared.superblock.SuperFields.{SuperFields}
+use Rattle.df_format.specs.Copies.{content_with}
+use Rattle.df_theory.specs.Chance.{InImages}
+use Rattle.df_theory.specs.Copies.{Agree}
+use Rattle.df_theory.specs.CopyPuts.{update_steps}
+use Rattle.df_theory.specs.Device.{AreSteps, Format, units_log}
+use Rattle.df_theory.specs.Rests.{IsCopy}
+use Rattle.df_theory.specs.UnitLog
+use Rattle.df_theory.specs.UnitLog.{UnitLog, same_place}
+use Rattle.df_theory.specs.Units.{BlockPlace, Content, CopyPlace, CopyUnit, HeaderPlace, Place, PreparePlace, ReplyPlace, ReplyUnit, Units}
+use Rattle.df_theory.specs.View.{View}
+use Rattle.df_theory.proofs.Laws.{firm_units, moments, now_units, settled_law}
+use Rattle.df_units.specs.Bytes.{unit_at}
+use Rattle.df_units.specs.Meaning.{content_of, message_of}
+use Rattle.df_units.specs.Puts.{put_copies}
+use Rattle.df_units.proofs.Laws.{is_format}
+use Rattle.df_superblock.specs.Events.{update_events}
+use Rattle.df_opening.specs.Below.{State, begun, format_of}
+use Rattle.df_opening.specs.Sparing.{image_after}
+use Rattle.df_opening.proofs.Laws.{shown_by, unit_after}
+use Rattle.df_copy.specs.Stops.{AreSplit, LeavesCopy, StopsCopy}
+use Rattle.df_copy.specs.Targets.{copy_events, front_events, front_steps, superblock_of, superblock_steps}
+use Rattle.df_copy.specs.Views.{IsEmpty, ShowsCopy}
+use Rattle.df_copy.proofs.Afters.{after_join, update_other}
+use Rattle.df_copy.proofs.Holding.{nothing_shown, shown, shown_after}
+use Rattle.df_copy.proofs.Sources.{IsSource}
+use Rattle.df_copy.proofs.Spares.{before_copies, spare_before}
+use Rattle.df_copy.proofs.UnderWay.{IsUnderWay, Leaves, update_leaves}
+use Rattle.df_copy.proofs.Untouched.{IsUntouched, all_split, log_on, no_copy, none_in, stops_part, untouched_begun, untouched_leaves, untouched_on, untouched_then}
+use Rattle.df_copy.proofs.Usables.{IsNamed, superblock_are_steps}
+use Rattle.df_copy.proofs.Written.{front_are_steps}
+
+-- what an image shows behind events
+now_behind : (es : List Event) (log : Log) → now (adds es log) ≡ image_after es (now log)
+now_behind [] log = refl
+now_behind (e ∷ es) log = now_behind es (add e log)
+
+apart : (place : Place) → (IsCopy place → ⊥) → (n : ℕ) → same_place (CopyPlace n) place ≡ false
+apart (CopyPlace m) other n = absurd (other tt)
+apart (HeaderPlace k) other n = refl
+apart (PreparePlace k) other n = refl
+apart (ReplyPlace k) other n = refl
+apart (BlockPlace k) other n = refl
+
+module _ (layout : Layout) (s : State) (rs bs : List Message) (image : Units) (v : View) (is : IsNamed layout s rs bs) (source : IsSource s image v)
+    (read : (k : ℕ) (u : Message) → slice_get rs k ≡ Some u → image (ReplyPlace k) ≡ Some (ReplyUnit (message_of u))) (from : Image) (w : View) where
+  abbrev cluster : ℕ
+  cluster = s.file.cluster
+
+  abbrev fmt : Format
+  fmt = format_of layout cluster
+
+  abbrev f : SuperFields
+  f = superblock_of layout s rs bs
+
+  abbrev c : Content
+  c = content_of (content_with f)
+
+  abbrev then : Units
+  then = shown layout s rs bs image v is source read
+
+  -- what shows the copy: all that was written, and two of the copies
+  abbrev Suffices : Type 0
+  Suffices =
+      (target : Image) → IsImage target → ((place : Place) → (IsCopy place → ⊥) → unit_at layout cluster target place ≡ then place) → Agree (unit_at layout cluster target) c
+      → ((n : ℕ) (d : Content) → n < 4 → unit_at layout cluster target (CopyPlace n) ≡ Some (CopyUnit d) → d ≡ c) → ShowsCopy layout s.file from w target
+
+  module _ (suffices : Suffices) (o : Told) (empty : IsEmpty o.shown) where
+    abbrev Left : Log → Type 0
+    Left = LeavesCopy layout s.file from w
+
+    abbrev start : Log
+    start = (begun o).log
+
+    start_is : o.shown ≡ blank
+    start_is = (nothing_shown layout cluster o.shown empty).0
+
+    -- all but the superblock is written
+    abbrev written : Log
+    written = adds (front_events layout s rs bs) start
+
+    abbrev durable : Log
+    durable = add Sync written
+
+    is_log : IsLog start
+    is_log = record { start = subst IsImage (sym start_is) blank_is_image; events = tt }
+
+    front_are : AreSteps fmt (front_events layout s rs bs) (front_steps layout s rs bs)
+    front_are = front_are_steps layout s rs bs is.writable
+
+    written_log : IsLog written
+    written_log = log_on fmt (front_events layout s rs bs) (front_steps layout s rs bs) start is_log front_are
+
+    durable_log : IsLog durable
+    durable_log = record { start = written_log.start; events = written_log.events }
+
+    before_is : adds (before_copies layout s rs bs) start ≡ durable
+    before_is = adds_on (front_events layout s rs bs) (Sync ∷ []) start
+
+    untouched : IsUntouched durable
+    untouched = subst IsUntouched before_is (untouched_on (before_copies layout s rs bs) start (spare_before layout s rs bs) (untouched_begun o empty))
+
+    -- ---- its units
+
+    shown_now : (place : Place) → unit_at layout cluster (now written) place ≡ unit_after (front_steps layout s rs bs) place None
+    shown_now place =
+        ap (λ (i : Image). unit_at layout cluster i place) (now_behind (front_events layout s rs bs) start)
+        ∙ shown_by layout cluster (front_events layout s rs bs) (front_steps layout s rs bs) o.shown front_are is_log.start place
+        ∙ ap (unit_after (front_steps layout s rs bs) place) ((nothing_shown layout cluster o.shown empty).1 place)
+
+    same_now : (place : Place) → (IsCopy place → ⊥) → unit_at layout cluster (now written) place ≡ then place
+    same_now place other =
+        shown_now place ∙ sym (update_other f place (unit_after (front_steps layout s rs bs) place None) (apart place other)) ∙ sym (after_join (front_steps layout s rs bs) (superblock_steps layout s rs bs) place None)
+        ∙ shown_after layout s rs bs image v is source read place
+
+    abbrev units : UnitLog
+    units = units_log fmt durable
+
+    units_now : (place : Place) → UnitLog.now units place ≡ unit_at layout cluster (now written) place
+    units_now place = λ i. now_units fmt written.start written.events i place
+
+    under_way : IsUnderWay c then 0 units
+    under_way = record {
+      dry = λ place. refl;
+      first = λ n below inside. absurd (omega (arith, below));
+      later = λ n above inside. units_now (CopyPlace n) ∙ no_copy layout cluster (now written) untouched.shown n inside;
+      same = λ place other. units_now place ∙ same_now place other;
+      pool = λ n x inside at. elim at [
+        | inl old ↦ absurd (none_in layout cluster (settled durable) untouched.durable n x inside (subst (λ (l : List Units). InImages l (CopyPlace n) x) (settled_law fmt durable) old))
+        | inr none ↦ absurd none
+      ];
+      early = λ few. subst AreSplit (sym (settled_law fmt durable)) (all_split layout cluster (settled durable) untouched.durable);
+    }
+
+    -- ---- the moments
+
+    gives : (log : Log) → IsLog log → Leaves c then (units_log fmt log) → Left log
+    gives log whole leaves target left chance = elim (leaves (unit_at layout cluster target) (firm_units fmt (is_format layout cluster) log target left.kept) chance) [
+      | inl split ↦ inl split
+      | inr both ↦ inr (suffices target left.whole both.0.same both.1 both.0.only)
+    ]
+
+    abbrev exit : Log
+    exit = adds (update_events f) durable
+
+    update_are : AreSteps fmt (update_events f) (update_steps (put_copies f))
+    update_are = superblock_are_steps layout s rs bs is
+
+    behind_sync : Passed durable exit Left
+    behind_sync = record {
+      grew = adds_extends (update_events f) durable;
+      moments = moments fmt (Leaves c then) Left gives (update_events f) (update_steps (put_copies f)) durable durable_log update_are (update_leaves c then (put_copies f) units under_way);
+    }
+
+    all_moments : Passed start exit Left
+    all_moments =
+        untouched_then Left (untouched_leaves layout s.file from w) (before_copies layout s rs bs) start exit (spare_before layout s rs bs) (untouched_begun o empty)
+        (subst (λ (l : Log). Passed l exit Left) (sym before_is) behind_sync)
+
+    exit_is : exit ≡ adds (copy_events layout s rs bs) start
+    exit_is = sym (adds_on (front_events layout s rs bs) (Sync ∷ update_events f) start)
+
+    pub part_stops : (new : Option Told) → AddsPart (copy_events layout s rs bs) (Some o) new → StopsCopy layout s.file from w o new
+    part_stops new part = stops_part layout s.file from w o new (copy_events layout s rs bs) part (subst (λ (l : Log). EachMoment start l Left) exit_is all_moments.moments)
