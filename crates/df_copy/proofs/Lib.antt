@@ -23,6 +23,7 @@ pub mod Replying
 pub mod Rested
 pub mod Rings
 pub mod Rows
+pub mod Sampled
 pub mod Seen
 pub mod Sources
 pub mod Spares

@@ -11,3 +11,4 @@ pub mod Views
 pub mod Stops
 pub mod Run
 pub mod Lives
+pub mod Sample

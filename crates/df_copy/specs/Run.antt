@@ -94,6 +94,10 @@ pub record SparesCopies (o : Told) (new : Option Told) : Type 0 where
   pub begins : (superblock ≡ []) ⊎ BeginsCopies superblock
   pub spared : EachMoment o.log (adds front o.log) (KeepsCopies o.log)
 
+-- the view of a source behind its open, which found this one
+abbrev pub source_view : State → Told → View → View
+source_view s t view = kept (begun_state s.file t view s.fields)
+
 -- The source was found, mended, and its boot raised, and calls may be made on it: what of that is kept of it at each moment is what an open keeps, since nothing is written to it from then on. Then the copy was made or refused: what was
 -- written of the target, and for what it was refused, is exact. A target on which nothing had been written holds the copy whole where it is made; and wherever it is stopped, whatever it comes to, the target is refused or shows the copy.
 pub record CopiesFile (layout : Layout) (t : Told) (old new : Outside) (status : Status) : Type 0 where
@@ -105,9 +109,9 @@ pub record CopiesFile (layout : Layout) (t : Told) (old new : Outside) (status :
   pub spares : (o : Told) → old.second ≡ Some o → SparesCopies o new.second
   pub holds : (m o n : Told) → result ≡ Ok tt → new.first ≡ Some m → old.second ≡ Some o → new.second ≡ Some n → IsEmpty (now o.log)
       → (view : View) → IsFound (shape state.file) (unit_at state.file.layout state.file.cluster t.shown) view
-      → HoldsCopy layout state.file m.shown (kept (begun_state state.file t view state.fields)) (now n.log)
+      → HoldsCopy layout state.file m.shown (source_view state t view) (now n.log)
   pub stops : (m o : Told) → new.first ≡ Some m → old.second ≡ Some o → IsEmpty o.shown → (view : View) → IsFound (shape state.file) (unit_at state.file.layout state.file.cluster t.shown) view
-      → StopsCopy layout state.file m.shown (kept (begun_state state.file t view state.fields)) o new.second
+      → StopsCopy layout state.file m.shown (source_view state t view) o new.second
 
 -- ---- the program
 

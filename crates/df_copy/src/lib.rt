@@ -19,4 +19,4 @@ mod trailer;
 pub use ending::Ending;
 pub use engine::{USAGE, copy};
 pub use status::Status;
-pub use taking::a_copied_file_begins;
+pub use taking::{a_copied_file_begins, a_damaged_copy_is_opened};

@@ -1,37 +1,49 @@
--- A life begins where a copy was made.
-use Rattle.std.proofs.Common.{◌≡◌, [], sym, subst}
+-- A life begins where a copy was made, or where it was stopped behind the second copy of its superblock.
+use Rattle.std.proofs.Common.{◌≡◌, inl, inr, [], refl, sym, ◌∙◌, subst}
 use Rattle.df_base.specs.Image.{Image}
 use Rattle.df_base.specs.Log.{now}
+use Rattle.df_base.specs.Moments.{IsMoment}
 use Rattle.df_disk.specs.Told.{IsHonest, Told}
 use Rattle.df_layout.specs.declared.layout.Layout.{Layout}
 use Rattle.df_theory.specs.View.{View}
 use Rattle.df_units.specs.Bytes.{unit_at}
-use Rattle.df_replica.specs.Below.{AreDistinct, DataFile, begun}
+use Rattle.df_replica.specs.Below.{AreDistinct, DataFile, begun, told_after}
+use Rattle.df_replica.proofs.Laws.{added_is_told}
 use Rattle.df_copy.specs.Lives.{MayGoOn}
-use Rattle.df_copy.specs.Views.{HoldsCopy, file_in}
+use Rattle.df_copy.specs.Views.{HoldsCopy, ShowsCopy, file_in}
 use Rattle.df_copy.proofs.Lives.{copied_begins}
 use Rattle.df_lifetime.specs.Again.Again.{Once}
-use Rattle.df_lifetime.specs.Again.{Again}
-use Rattle.df_lifetime.specs.Copied.{CopiedBegins}
-use Rattle.df_lifetime.specs.Life.{Life, MayTake}
+use Rattle.df_lifetime.specs.Copied.{CopiedBegins, IsCopied, MadeIsCopied, StoppedIsCopied, file_of, view_of}
+use Rattle.df_lifetime.specs.Life.{GoesAlong}
 use Rattle.df_lifetime.specs.Life.Life.{Taken}
+use Rattle.df_lifetime.proofs.Along.{after_along, moment_along}
+use Rattle.df_lifetime.proofs.Files.{one_told}
+use Rattle.df_lifetime.proofs.Upgrades.{distinct_left}
 
-module _ (layout : Layout) (file : DataFile) (source : Image) (v : View) (n : Told) (honest : IsHonest n) (held : HoldsCopy layout file source v (now n.log)) (distinct : AreDistinct (unit_at layout file.cluster n.shown)) where
-  shown_is : now n.log ≡ n.shown
-  shown_is i sector = sym (honest.shows sector) i
-
-  copy : HoldsCopy layout file source v n.shown
-  copy = subst (λ (image : Image). HoldsCopy layout file source v image) shown_is held
-
-  may : MayGoOn (file_in layout file) copy.view n.shown
-  may = copied_begins layout file source v n.shown copy distinct
-
-  take : MayTake (file_in layout file) copy.view n.shown
-  take = record { version = may.version; begins = may.begins; stands = may.stands }
-
-  held_life : (first : View) × Life (file_in layout file) first (begun n) [] × Again (file_in layout file) [] (begun n)
-  held_life = (copy.view, Taken (file_in layout file) copy.view n take, Once (file_in layout file) copy.view (begun n) [] (Taken (file_in layout file) copy.view n take) may.history)
+-- what shows the copy may be taken
+is_copied : (layout : Layout) (file : DataFile) (source : Image) (v : View) (image : Image) → ShowsCopy layout file source v image → AreDistinct (unit_at layout file.cluster image) → IsCopied layout file source v image
+is_copied layout file source v image shows distinct =
+    let may : MayGoOn (file_in layout file) shows.view image = copied_begins layout file source v image shows distinct in
+    record { first = shows.view; copy = shows.copy; may = record { version = may.version; begins = may.begins; stands = may.stands }; begins = may.history }
 
 pub copied_life : CopiedBegins
-copied_life layout t o n made honest distinct =
-    held_life layout made.copies.state.file made.read.shown _ n honest (made.copies.holds made.read o n made.done made.source made.target made.later made.empty made.view made.found) distinct
+copied_life layout file source v t new =
+    let life = Taken (file_in layout file) new.first t new.may in
+    (life, Once (file_in layout file) new.first (begun t) [] life new.begins)
+
+pub made_is_copied : MadeIsCopied
+made_is_copied layout t read o n run done empty honest distinct =
+    let shown_is : now n.log ≡ n.shown = λ i sector. sym (honest.shows sector) i in
+    let holds : HoldsCopy layout (file_of run) read.shown (view_of run) (now n.log) = run.copies.holds read o n done run.source run.target run.later empty run.view run.found in
+    is_copied layout (file_of run) read.shown (view_of run) n.shown (subst (λ (image : Image). ShowsCopy layout (file_of run) read.shown (view_of run) image) shown_is holds.shows) distinct
+
+pub stopped_is_copied : StoppedIsCopied
+stopped_is_copied layout t read o n p m run image empty until along left chance =
+    let stops = run.copies.stops read o run.source run.target empty run.view run.found in
+    let told : told_after stops.events o ≡ n = one_told run.new.second (told_after stops.events o) n (stops.told ∙ added_is_told stops.events o) run.later in
+    let all : GoesAlong o n (begun o) (told_after stops.events (begun o)) = subst (λ (x : Told). GoesAlong o x (begun o) (told_after stops.events (begun o))) told (after_along stops.events o (begun o) refl) in
+    let moment : IsMoment (begun o).log (told_after stops.events (begun o)).log m.log = moment_along o p n (begun o) m (told_after stops.events (begun o)) all along until in
+    elim (stops.moments m.log moment image left chance) [
+      | inl split ↦ inl split
+      | inr shows ↦ inr (is_copied layout (file_of run) read.shown (view_of run) image shows (distinct_left (file_in layout (file_of run)) m.log image chance))
+    ]

@@ -46,7 +46,7 @@ stands_on image start v same stands a c is =
     (there.0, same a ∙ there.1, there.2, there.3)
 
 -- no two units that came about by no chance have one checksum
-distinct_left : (file : DataFile) (log : Log) (image : Image) → NoChanceOf (format file) log image → AreDistinct (unit_at file.layout file.cluster image)
+pub distinct_left : (file : DataFile) (log : Log) (image : Image) → NoChanceOf (format file) log image → AreDistinct (unit_at file.layout file.cluster image)
 distinct_left file log image chance place other x y one two =
     let units : UnitLog = units_log (format file) log in
     chance.distinct place other x y (pool_pools units.start units.events place x (chance.pooled place x one)) (pool_pools units.start units.events other y (chance.pooled other y two))

@@ -1,40 +1,68 @@
--- A copied file goes on: where a copy was made on a target on which nothing had been written, a life begins, and one with damage.
-use Rattle.std.specs.Prelude.{◌≡◌, [], Some, Ok}
-use Rattle.df_base.specs.Log.{now}
+-- A copied file goes on: where a copy was made on a target on which nothing had been written, a life begins, and one with damage. Where it is stopped, one begins, or no two copies of the superblock agree, so that the target is refused.
+use Rattle.std.specs.Prelude.{◌≡◌, ◌⊎◌, [], Some, Ok}
+use Rattle.df_base.specs.Image.{Image}
+use Rattle.df_base.specs.Log.{IsLeft, now}
+use Rattle.df_base.specs.Moments.{Extends}
 use Rattle.df_disk.specs.Told.{IsHonest, Told}
 use Rattle.df_layout.specs.declared.layout.Layout.{Layout}
+use Rattle.df_theory.specs.Copies.{IsSplit}
+use Rattle.df_theory.specs.Device.{NoChanceOf, units_log}
 use Rattle.df_theory.specs.Found.{IsFound}
+use Rattle.df_theory.specs.UnitLog.{settled}
 use Rattle.df_theory.specs.View.{View}
+use Rattle.df_history.specs.OpenLaws.{BeginsHistory}
 use Rattle.df_units.specs.Bytes.{unit_at}
+use Rattle.df_units.specs.Meaning.{layout_of}
 use Rattle.df_replica.specs.Below.{AreDistinct, DataFile, begun, shape}
+use Rattle.df_replica.specs.Serving.{format}
 use Rattle.df_telling.specs.Two.{Outside}
-use Rattle.df_copy.specs.Run.{CopiesFile}
-use Rattle.df_copy.specs.Views.{IsEmpty, file_in}
+use Rattle.df_copy.specs.Run.{CopiesFile, source_view}
+use Rattle.df_copy.specs.Stops.{AreSplit}
+use Rattle.df_copy.specs.Views.{IsCopyOf, IsEmpty, file_in}
 use Rattle.df_copy.specs.declared.status.Status.{Status}
 use Rattle.df_lifetime.specs.Again.{Again}
-use Rattle.df_lifetime.specs.Life.{Life}
+use Rattle.df_lifetime.specs.Life.{GoesAlong, Life, MayTake}
 
--- a copy that was made of a source that told this at first, on a target that told this before and that after it, and was empty
-pub record CopyMade (layout : Layout) (t o n : Told) : Type 0 where
+-- a copy, whatever it came to: of a source that told this at first and that behind its open, in which a view was found, on a target that told this before it and that after it
+pub record CopyRun (layout : Layout) (t read o n : Told) : Type 0 where
   pub old : Outside
   pub new : Outside
   pub status : Status
   pub copies : CopiesFile layout t old new status
-  pub done : copies.result ≡ Ok tt
-  pub read : Told
   pub source : new.first ≡ Some read
   pub target : old.second ≡ Some o
   pub later : new.second ≡ Some n
-  pub empty : IsEmpty (now o.log)
   pub view : View
   pub found : IsFound (shape copies.state.file) (unit_at copies.state.file.layout copies.state.file.cluster t.shown) view
 
--- the file that it left
-abbrev pub copy_of : {layout : Layout} {t o n : Told} → CopyMade layout t o n → DataFile
-copy_of {layout = layout} made = file_in layout made.copies.state.file
+-- the file that was copied, and its view as it was copied
+abbrev pub file_of : {layout : Layout} {t read o n : Told} → CopyRun layout t read o n → DataFile
+file_of run = run.copies.state.file
 
--- A life begins there, and one with damage before any number of opens, where the target's disk is honest and no two units have one checksum.
+abbrev pub view_of : {layout : Layout} {t read o n : Told} → CopyRun layout t read o n → View
+view_of {t = t} run = source_view run.copies.state t run.view
+
+-- an image shows the copy of a view, and a file may be taken there: an open finds this view, the other one with other addresses. And a history begins there, since all units are of earlier boots than the superblock
+pub record IsCopied (layout : Layout) (file : DataFile) (source : Image) (v : View) (image : Image) : Type 0 where
+  pub first : View
+  pub copy : IsCopyOf (layout_of layout) (unit_at file.layout file.cluster source) v (unit_at layout file.cluster image) first
+  pub may : MayTake (file_in layout file) first image
+  pub begins : BeginsHistory (shape (file_in layout file)) (unit_at layout file.cluster image)
+
+-- where a life begins, and one with damage before any number of opens
 abbrev pub CopiedBegins : Type 0
 CopiedBegins =
-    (layout : Layout) (t o n : Told) (made : CopyMade layout t o n) → IsHonest n → AreDistinct (unit_at layout made.copies.state.file.cluster n.shown)
-    → (first : View) × Life (copy_of made) first (begun n) [] × Again (copy_of made) [] (begun n)
+    (layout : Layout) (file : DataFile) (source : Image) (v : View) (t : Told) (new : IsCopied layout file source v t.shown) → Life (file_in layout file) new.first (begun t) [] × Again (file_in layout file) [] (begun t)
+
+-- a copy that was made on a target on which nothing had been written leaves that, where the target's disk is honest and no two units have one checksum
+abbrev pub MadeIsCopied : Type 0
+MadeIsCopied =
+    (layout : Layout) (t read o n : Told) (run : CopyRun layout t read o n) → run.copies.result ≡ Ok tt → IsEmpty (now o.log) → IsHonest n → AreDistinct (unit_at layout (file_of run).cluster n.shown)
+    → IsCopied layout (file_of run) read.shown (view_of run) n.shown
+
+-- And whatever it came to, a stop at any moment leaves that, or an image in which no two copies of the superblock agree; the second no more once an image is durable in which two do, as it is behind the sync of the second copy.
+abbrev pub StoppedIsCopied : Type 0
+StoppedIsCopied =
+    (layout : Layout) (t read o n p m : Told) (run : CopyRun layout t read o n) (image : Image) → IsEmpty o.shown → Extends n.log p.log → GoesAlong o p (begun o) m → IsLeft m.log image
+    → NoChanceOf (format (file_in layout (file_of run))) m.log image
+    → (IsSplit (unit_at layout (file_of run).cluster image) × AreSplit (settled (units_log (format (file_in layout (file_of run))) m.log))) ⊎ IsCopied layout (file_of run) read.shown (view_of run) image

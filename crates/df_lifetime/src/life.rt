@@ -1,7 +1,7 @@
 // The laws by which sessions compose, and where a life begins.
 ghost use Rattle.df_lifetime.specs.Life.{EveryLifeGoesOn, EveryLifeIsInOrder, EveryWordGoesAlong};
 ghost use Rattle.df_lifetime.specs.Acknowledged.{AcknowledgedIsFound};
-ghost use Rattle.df_lifetime.specs.Copied.{CopiedBegins};
+ghost use Rattle.df_lifetime.specs.Copied.{CopiedBegins, MadeIsCopied, StoppedIsCopied};
 ghost use Rattle.df_lifetime.specs.Upgraded.{DoneIsUpgraded, StoppedIsUpgraded, UpgradedBegins};
 ghost use Rattle.df_lifetime.specs.NewDisks.{NewDisksAreMadeOn};
 
@@ -25,8 +25,10 @@ pub fn an_upgrade_begins_a_life()
     ensures stopped { StoppedIsUpgraded }
 {}
 
-/// And one begins where a file was copied to another layout, on a target on which nothing had been written; it may be damaged, too, before
-/// any number of opens.
+/// And one begins where a file was copied to another layout, on a target on which nothing had been written, or where that was stopped once two
+/// copies of its superblock agreed; it may be damaged, too, before any number of opens.
 pub fn a_copy_begins_a_life()
-    ensures { CopiedBegins }
+    ensures begins { CopiedBegins }
+    ensures made { MadeIsCopied }
+    ensures stopped { StoppedIsCopied }
 {}
