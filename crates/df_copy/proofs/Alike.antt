@@ -298,8 +298,8 @@ module _ (layout : Layout) (s : State) (rs bs : List Message) (image : Units) (v
     }
 
 -- and so it is beside an image that shows the same blocks
-pub alike_on : (layout : units.Layout) (from : Units) (v : View) (target other : Units) (u : View) → ((a : ℕ) → other (BlockPlace a) ≡ target (BlockPlace a)) → IsCopyOf layout from v target u → IsCopyOf layout from v other u
-alike_on layout from v target other u same is = record {
+pub alike_on : (layout : units.Layout) (from : Units) (v : View) (there other : Units) (u : View) → ((a : ℕ) → other (BlockPlace a) ≡ there (BlockPlace a)) → IsCopyOf layout from v there u → IsCopyOf layout from v other u
+alike_on layout from v there other u same is = record {
   content = is.content;
   root = is.root;
   sessions = is.sessions;

@@ -1,5 +1,5 @@
 -- Behind the open of its source a copy spares the sectors of the target's superblock until the first copy of it, and the target holds it whole where it is made.
-use Rattle.std.proofs.Common.{◌≡◌, ◌⊎◌, inl, inr, ℕ, ◌≤◌, ◌++◌, true, List, [], ◌∷◌, length, Option, Some, None, Result, Ok, Err, refl, sym, ◌∙◌, ap, subst, arith}
+use Rattle.std.proofs.Common.{◌≡◌, ◌⊎◌, inl, inr, ℕ, ◌<◌, ◌≤◌, ◌++◌, true, List, [], ◌∷◌, length, Option, Some, None, Result, Ok, Err, refl, sym, ◌∙◌, ap, subst, arith}
 use Rattle.std.specs.Prelude.{slice_get}
 use Rattle.std.proofs.lemmas.Bool.{cases_lt}
 use Rattle.std.proofs.lemmas.Option.{same_Some}
@@ -181,7 +181,7 @@ module _ (layout : Layout) (t m : Told) (whole : IsImage t.shown) where
         | inr past ↦ clean_beyond (file_in layout s.file) target u n d past at away
       ]
 
-      pub shows_there : ShowsCopy layout s.file m.shown v target
+      shows_there : ShowsCopy layout s.file m.shown v target
       shows_there = record {
         view = u;
         copy = alike_on (layout_of layout) seen v then there u (λ a. same (BlockPlace a) (λ no. no)) (copy_alike layout s rs bs image v named source read (λ k r at. (may.copied.are_replies.are.each k r at).known.sum) seen were_read);
@@ -208,7 +208,8 @@ module _ (layout : Layout) (t m : Told) (whole : IsImage t.shown) where
       copies : (k : ℕ) → k < 4 → unit_at layout s.file.cluster (now n.log) (CopyPlace k) ≡ Some (CopyUnit u.checkpoint.content)
       copies k inside = target_is (CopyPlace k) ∙ copies_shown layout s rs bs image v named source read k inside
 
-      pub raised_holds : HoldsCopy layout s.file m.shown v (now n.log)
+      raised_holds : HoldsCopy layout s.file m.shown v (now n.log)
+      unfolding shows_there
       raised_holds = record {
         shows = shows_there (now n.log) (subst IsImage (sym now_is) (copy_image layout s rs bs image v named source read (now o.log) empty)) (λ place other. target_is place)
             (record { first = 0; second = 1; apart = omega arith; inside = omega arith; at_first = copies 0 (omega arith); at_second = copies 1 (omega arith) })
@@ -218,7 +219,7 @@ module _ (layout : Layout) (t m : Told) (whole : IsImage t.shown) where
 
     -- ---- and where it was stopped
 
-    pub raised_stops : (o : Told) (new : Option Told) → IsEmpty o.shown → AddsPart (copy_events layout s rs bs) (Some o) new → StopsCopy layout s.file m.shown v o new
+    raised_stops : (o : Told) (new : Option Told) → IsEmpty o.shown → AddsPart (copy_events layout s rs bs) (Some o) new → StopsCopy layout s.file m.shown v o new
     raised_stops o new empty part =
         part_stops layout s rs bs image v named source read m.shown v shows_there o empty new part
 
@@ -250,7 +251,8 @@ module _ (layout : Layout) (t m : Told) (whole : IsImage t.shown) (s : State) (s
   holding : (copied : Copied layout s (Some m)) → IsAll copied → Passes layout s → MayHold layout t m whole s
   holding copied all passes = record { state = state; usable = usable; live = live; mending = mends.mending; passes = passes; copied = copied; all = all }
 
-  pub all_holds : (o n : Told) → IsEmpty (now o.log) → CopiesInto layout s (Some m) (Some o) (Some n) (Ok tt) → HoldsCopy layout s.file m.shown (kept (begun_state s.file t view s.fields)) (now n.log)
+  pub all_holds : (o n : Told) → IsEmpty (now o.log) → CopiesInto {T = Unit {0}} layout s (Some m) (Some o) (Some n) (Ok tt) → HoldsCopy layout s.file m.shown (kept (begun_state s.file t view s.fields)) (now n.log)
+  unfolding holding
   all_holds o n empty copies =
       let w = copies.writes in
       (copy_holds layout t m whole s mends view found (holding w.0 w.1 (passes_all layout s (shown_of s.file m.shown) o.shown copies.judged))).0 o n empty w.2
@@ -272,6 +274,7 @@ module _ (layout : Layout) (t m : Told) (whole : IsImage t.shown) (s : State) (s
 
     module _ (passes : Passes layout s) where
       all_stop : (c : Copied layout s (Some m)) → IsAll c → AddsPart (copy_events layout s c.replies c.blocks) (Some o) new → Stops
+      unfolding holding
       all_stop c all part = (copy_holds layout t m whole s mends view found (holding c all passes)).1 o new empty part
 
       passed_stops : {T : Type 0} (r : Result T Ending) → WritesCopy layout s (Some m) (Some o) new r → Stops

@@ -1,5 +1,5 @@
 -- Up to the write of the first copy a target on which nothing was written shows no copy of the superblock, whatever a stop leaves.
-use Rattle.std.proofs.Common.{◌≡◌, inl, ℕ, ◌<◌, ◌≤◌, ◌||◌, Bool, false, List, [], ◌∷◌, ◌++◌, Option, Some, None, refl, sym, ◌∙◌, ap, subst}
+use Rattle.std.proofs.Common.{◌≡◌, inl, inr, ℕ, ◌<◌, ◌≤◌, ◌||◌, Bool, false, List, [], ◌∷◌, ◌++◌, Option, Some, None, refl, sym, ◌∙◌, ap, subst, arith}
 use Rattle.df_base.specs.Image.{Image, blank}
 use Rattle.df_base.specs.Log.{Event, IsLog, Log, Stop, Sync, Write, add, loose, now, settled}
 use Rattle.df_base.specs.Moments.{EachMoment, Passed, adds}
