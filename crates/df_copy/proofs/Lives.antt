@@ -1,12 +1,10 @@
 -- A history begins at an image that shows a copy.
-use Rattle.std.proofs.Common.{◌≡◌, inl, inr, ℕ, ◌<◌, [], Some, None, sym, ◌∙◌, subst, arith}
-use Rattle.std.proofs.lemmas.Bool.{cases_lt}
+use Rattle.std.proofs.Common.{◌≡◌, inl, inr, [], Some, None, sym, ◌∙◌}
 use Rattle.df_base.specs.Image.{Image}
 use Rattle.df_layout.specs.declared.layout.Layout.{Layout}
-use Rattle.df_theory.specs.Found.{IsClean}
 use Rattle.df_theory.specs.Holds.{Holds}
 use Rattle.df_theory.specs.Shape.{Shape}
-use Rattle.df_theory.specs.Units.{Content, CopyPlace, CopyUnit, PreparePlace, PrepareUnit, Units}
+use Rattle.df_theory.specs.Units.{PrepareUnit, Units}
 use Rattle.df_theory.specs.View.{View}
 use Rattle.df_theory.proofs.Laws.{clean_start_law}
 use Rattle.df_history.specs.Lives.{Starts}
@@ -15,7 +13,6 @@ use Rattle.df_units.specs.Bytes.{unit_at}
 use Rattle.df_units.specs.Meaning.{layout_of}
 use Rattle.df_units.proofs.Laws.{of_places}
 use Rattle.df_opening.specs.Below.{AreDistinct, DataFile, shape}
-use Rattle.df_opening.proofs.Laws.{clean_beyond}
 use Rattle.df_copy.specs.Lives.{CopiedBegins, MayGoOn}
 use Rattle.df_copy.specs.Views.{ShowsCopy, file_in}
 

@@ -2,21 +2,19 @@
 use Rattle.std.proofs.Common.{◌≡◌, ◌⊎◌, inl, inr, ℕ, zero, suc, ◌+◌, ◌<◌, ◌≤◌, ◌==◌, Bool, true, false, if◌then◌else◌, List, [], ◌∷◌, Option, Some, None, refl, sym, ◌∙◌, ap, subst, arith, eqb-true}
 use Rattle.std.specs.Prelude.{slice_get, slice_index}
 use Rattle.std.proofs.lemmas.Option.{same_Some, slice_get_within}
-use Rattle.df_theory.specs.Chance.{Distinct, InImages}
 use Rattle.df_theory.specs.Copies.{Agree}
 use Rattle.df_theory.specs.Found.{AreOfPlaces, IsClean, IsFound, IsInRange, IsOfPlace}
 use Rattle.df_theory.specs.Holds.{Holds, IsWhole, Stands}
 use Rattle.df_theory.specs.MendLaws.{IsNumber}
 use Rattle.df_theory.specs.Next.{MayBoot, booted}
-use Rattle.df_theory.specs.Rests.{IsCopy, RestsOn}
+use Rattle.df_theory.specs.Rests.{RestsOn}
 use Rattle.df_theory.specs.Sessions.{Answers}
 use Rattle.df_theory.specs.Shape.{Shape}
-use Rattle.df_theory.specs.Trailer.{InChain}
 use Rattle.df_theory.specs.UnitLog.{UnitLog, put_one}
 use Rattle.df_theory.specs.Units.{AnyUnit, Block, BlockPlace, BlockUnit, Content, CopyPlace, CopyUnit, Header, HeaderPlace, HeaderUnit, Layout, Message, Parts, Place, PreparePlace, PrepareUnit, ReplyPlace, ReplyUnit, Session, Units}
 use Rattle.df_theory.specs.View.{Checkpoint, IsSoundCheckpoint, View}
 use Rattle.df_theory.proofs.Laws.{AreTold, all_reserved, anew_law, clean_start_law, copies_of, distinct_of, may_raise, put_one_law, puts_reserved, reserved, rests_law}
-use Rattle.df_history.specs.Histories.{InHistoryPools, IsLived, IsLivedMoment, MayStart}
+use Rattle.df_history.specs.Histories.{InHistoryPools, IsLived, MayStart}
 use Rattle.df_history.specs.Lives.{Starts}
 use Rattle.df_history.specs.OpenLaws.{BeginsHistory, IsOpening}
 use Rattle.df_history.specs.Sample.{IsReopened, opened}

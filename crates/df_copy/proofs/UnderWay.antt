@@ -1,5 +1,5 @@
 -- Where four copies are written one after the other on a target that showed none, a stop leaves two of them that agree, or none do; all else is as it was.
-use Rattle.std.proofs.Common.{◌≡◌, ◌⊎◌, inl, inr, ℕ, zero, suc, ◌+◌, ◌<◌, ◌≤◌, ◌||◌, false, Option, Some, None, refl, sym, ◌∙◌, ap, subst, arith}
+use Rattle.std.proofs.Common.{◌≡◌, ◌⊎◌, inl, inr, ℕ, ◌+◌, ◌<◌, ◌≤◌, ◌||◌, false, Option, Some, None, refl, sym, ◌∙◌, ap, subst, arith}
 use Rattle.std.proofs.lemmas.Bool.{cases_eq, cases_lt}
 use Rattle.df_theory.specs.Chance.{EachLeft, InPool, NoChance}
 use Rattle.df_theory.specs.Copies.{Agree, IsSplit}
@@ -7,7 +7,7 @@ use Rattle.df_theory.specs.CopyPuts.{PutsCopies, update_steps}
 use Rattle.df_theory.specs.Rests.{IsCopy}
 use Rattle.df_theory.specs.Runs.{AtEach}
 use Rattle.df_theory.specs.UnitLog.{IsLeftBy, PutsOne, Synced, UnitLog, add, loose, now, settled, wrote}
-use Rattle.df_theory.specs.Units.{AnyUnit, Content, CopyPlace, CopyUnit, Place, Units, is_some, or_else, overlay}
+use Rattle.df_theory.specs.Units.{AnyUnit, Content, CopyPlace, CopyUnit, Place, Units, is_some, or_else}
 use Rattle.df_copy.specs.Stops.{AreSplit}
 use Rattle.df_copy.proofs.Untouched.{split_beside}
 
@@ -174,8 +174,7 @@ module _ (c : Content) (then : Units) where
       let log3 : UnitLog = add Synced (wrote puts.put2 log2) in
       let u3 : IsUnderWay 3 log3 = next 2 log2 u2 (omega arith) puts.put2 puts.one2 in
       let log4 : UnitLog = add Synced (wrote puts.put3 log3) in
-      let u4 : IsUnderWay 4 log4 = next 3 log3 u3 (omega arith) puts.put3 puts.one3 in
-      (
+      let u4 : IsUnderWay 4 log4 = next 3 log3 u3 (omega arith) puts.put3 puts.one3 in (
         dry_leaves 0 log u0,
         (
           wet_leaves 0 log u0 (omega arith) puts.put0 puts.one0,

@@ -1,5 +1,5 @@
 -- Up to the write of the first copy a target on which nothing was written shows no copy of the superblock, whatever a stop leaves.
-use Rattle.std.proofs.Common.{◌≡◌, inl, inr, ℕ, ◌<◌, ◌≤◌, ◌||◌, Bool, false, List, [], ◌∷◌, ◌++◌, Option, Some, None, refl, sym, ◌∙◌, ap, subst, arith}
+use Rattle.std.proofs.Common.{◌≡◌, inl, inr, ℕ, ◌<◌, ◌≤◌, ◌||◌, Bool, false, List, [], ◌∷◌, Option, Some, None, refl, sym, ◌∙◌, ap, subst, arith}
 use Rattle.df_base.specs.Image.{Image, blank}
 use Rattle.df_base.specs.Log.{Event, IsLog, Log, Stop, Sync, Write, add, loose, now, settled}
 use Rattle.df_base.specs.Moments.{EachMoment, Passed, adds}
@@ -20,7 +20,7 @@ use Rattle.df_units.proofs.Laws.{blank_empty}
 use Rattle.df_opening.specs.Below.{DataFile, begun, format_of, told_after}
 use Rattle.df_copy.specs.Stops.{AreSplit, LeavesCopy, StopsCopy}
 use Rattle.df_copy.specs.Views.{IsEmpty}
-use Rattle.df_copy.proofs.Spares.{SpareSuper, front_of_part, spare_front, uncovered}
+use Rattle.df_copy.proofs.Spares.{SpareSuper, front_of_part, uncovered}
 
 -- ---- the sectors of the superblock
 

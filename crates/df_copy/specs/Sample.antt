@@ -1,6 +1,5 @@
 -- A history that begins with a copy and meets every premise: the copy of a file at rest, with a reply and a block, is damaged and opened.
-use Rattle.std.specs.Prelude.{◌≡◌, ◌<◌, ◌+◌, ℕ, [], length, None}
-use Rattle.df_theory.specs.Copies.{Agree}
+use Rattle.std.specs.Prelude.{◌≡◌, ◌+◌, ℕ, [], length, None}
 use Rattle.df_theory.specs.Found.{IsClean, IsFound}
 use Rattle.df_theory.specs.Holds.{IsWhole, Stands}
 use Rattle.df_theory.specs.Shape.{Shape}

@@ -3,7 +3,7 @@ use Rattle.std.proofs.Common.{◌≡◌, inl, inr, [], refl, sym, ◌∙◌, sub
 use Rattle.df_base.specs.Image.{Image}
 use Rattle.df_base.specs.Log.{now}
 use Rattle.df_base.specs.Moments.{IsMoment}
-use Rattle.df_disk.specs.Told.{IsHonest, Told}
+use Rattle.df_disk.specs.Told.{Told}
 use Rattle.df_layout.specs.declared.layout.Layout.{Layout}
 use Rattle.df_theory.specs.View.{View}
 use Rattle.df_units.specs.Bytes.{unit_at}
