@@ -64,7 +64,7 @@ use Rattle.df_lifetime.proofs.Orders.{Has, Order, after_barrier, goes_on, here, 
 pub format_spares : (layout : Layout) (cluster : ℕ) (t n : Told) (old new : Option (List ℕ)) (status : Status) → (IsUnformatted t.shown → ⊥) → Formats layout cluster (Some t) (Some n) old new status → t ≡ n
 format_spares layout cluster t n old new Done formatted made = absurd (formatted (made.0.may.blank t refl))
 format_spares layout cluster t n old new Refused formatted refuses = one_told (Some n) t n refuses.1.same refl
-format_spares layout cluster t n old new DiskFault formatted part = elim part.1 [ inl none ↦ one_told (Some n) t n none refl | inr blank ↦ absurd (formatted blank) ]
+format_spares layout cluster t n old new DiskFault formatted part = elim part.2 [ inl none ↦ one_told (Some n) t n none refl | inr blank ↦ absurd (formatted blank) ]
 format_spares layout cluster t n old new WriteFault formatted (inl made) = absurd (formatted (made.0.may.blank t refl))
 format_spares layout cluster t n old new WriteFault formatted (inr refuses) = one_told (Some n) t n refuses.1.same refl
 format_spares layout cluster t n old new Memory formatted nothing = one_told (Some n) t n nothing.0 refl

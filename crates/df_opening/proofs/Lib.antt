@@ -21,5 +21,6 @@ pub mod Hurts
 pub mod Barriers
 pub mod Refused
 pub mod Opens
+pub mod OneMending
 pub mod BegunStates
 pub mod Laws

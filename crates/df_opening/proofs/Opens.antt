@@ -38,7 +38,7 @@ use Rattle.df_superblock.specs.Steps.{repaired}
 use Rattle.df_damage.specs.Below.{DataFile, Represents, State, boot_fields, shape, spelling}
 use Rattle.df_layout.specs.declared.layout.Layout.{Layout}
 use Rattle.df_opening.specs.Survey.{Survey}
-use Rattle.df_opening.specs.Surveying.{IsMendable, TellsMends, TellsSurvey, mends_of}
+use Rattle.df_opening.specs.Surveying.{IsMendable, TellsMends, TellsSurvey}
 use Rattle.df_opening.specs.Following.{MayOpen}
 use Rattle.df_opening.specs.Mending.{IsPlanned, first_state, mending_steps, sector_puts, sectors_of}
 use Rattle.df_opening.specs.Keeping.{Firm, Keeps, format}
@@ -50,6 +50,7 @@ use Rattle.df_units.specs.Puts.{put_copies}
 use Rattle.df_units.proofs.Laws.{by_second, shown_checks}
 use Rattle.df_model.specs.Sense.{IsVersionTwo}
 use Rattle.df_damage.specs.Found.{IsLayoutShownAs}
+use Rattle.df_damage.specs.Surveying.{TellsSurveyAs}
 use Rattle.df_damage.specs.Surveys.{IsOpenedAs}
 use Rattle.df_opening.specs.Mending.{raising_events}
 use Rattle.df_opening.specs.Opened.{AreRaisingTo}
@@ -175,18 +176,16 @@ layout_shown layout image s is = record { fields = s.fields; super = super_shown
 
 -- ---- which device calls a mending is
 
--- what a survey lists is what is to be mended of the image
-pub own_raising : (d : SuperFields) (layout : Layout) (told : Option Told) (t : Told) (s : Survey) → told ≡ Some t → s.state.file.layout ≡ layout → TellsMends layout told s → IsImage t.shown
-    → AreRaisingTo d t s.state (raising_events s.state.file.layout s.state.headers s.mends s.state.fields s.chosen.members d)
-own_raising d layout told t s is of tells whole =
-    let may : IsMendable layout t.shown s = (subst (λ (o : Option Told). TellsMends layout o s) is tells) whole in
-    record {
-      chosen = s.chosen;
-      choice = may.choice;
-      are =
-          ap (λ (list : List Mend). raising_events s.state.file.layout s.state.headers list s.state.fields s.chosen.members d)
-          (may.mends ∙ ap (λ (l : Layout). mends_of l t.shown s.state.fields s.state.head s.chosen.members) (sym of));
-    }
+-- what was found is mended as it is planned
+pub own_raising : (version : ℕ) (d : SuperFields) (layout : Layout) (told : Option Told) (t : Told) (s : Survey) → told ≡ Some t → s.state.file.layout ≡ layout → TellsSurveyAs version layout told (Ok s.state) → TellsMends layout told s → IsImage t.shown
+    → AreRaisingTo version d t s.state (raising_events s.state.file.layout s.state.headers s.mends s.state.fields s.chosen.members d)
+own_raising version d layout told t s is of answer tells whole = record {
+  opened = subst (λ (l : Layout). IsOpenedAs version l t.shown s.state) (sym of) ((subst (λ (o : Option Told). TellsSurveyAs version layout o (Ok s.state)) is answer) whole);
+  chosen = s.chosen;
+  mends = s.mends;
+  planned = subst (λ (l : Layout). IsMendable l t.shown s) (sym of) ((subst (λ (o : Option Told). TellsMends layout o s) is tells) whole);
+  are = refl;
+}
 
 -- ---- where the disk failed
 

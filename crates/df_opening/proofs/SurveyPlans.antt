@@ -43,7 +43,7 @@ module _ (version : ℕ) (y : Surveyed) (layout : Layout) (plan : IsPlannedFor y
             (subst (λ (l : Layout). TellsRings l (unit_at l scan.start.cluster t.shown) scan) (sym read.file.layout_is) tells);
         top = y.traces.tail.op;
         top_is = λ whole v is_found. head_found version layout t.shown (state_found y) (answer whole) v is_found;
-        planned = plan;
+        planned = plan.plan;
       }
 
   pub survey_planned : (old new : Option Told) (t : Told) → new ≡ Some t → new ≡ after Sync old → IsReadOf version layout old y.scanned → TellsSurveyAs version layout old (Ok (state_found y)) → IsPlannedOn (survey_found y) t
@@ -55,4 +55,4 @@ module _ (version : ℕ) (y : Surveyed) (layout : Layout) (plan : IsPlannedFor y
 -- the list is what is to be mended
 pub told_mends : (layout : Layout) (told : Option Told) (y : Surveyed) → recovered.TellsMends layout told y → TellsMends layout told (survey_found y)
 told_mends layout None y is = tt
-told_mends layout (Some t) y is = λ image. let may = is image in record { choice = may.choice; mends = may.mends }
+told_mends layout (Some t) y is = λ image. let may = is image in record { choice = may.choice; four = may.four; table = may.table; mends = may.mends }

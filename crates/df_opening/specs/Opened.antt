@@ -1,10 +1,11 @@
 -- What an open leaves of a file, and what it leaves where the disk failed in it.
-use Rattle.std.specs.Prelude.{◌≡◌, ◌⊎◌, ◌<◌, ℕ, List, ◌∷◌, Option, Some, Result, Ok, Err}
+use Rattle.std.specs.Prelude.{◌≡◌, ◌⊎◌, ◌<◌, ℕ, List, ◌∷◌, ◌++◌, Option, Some, Result, Ok, Err}
 use Rattle.df_base.specs.Image.{Image, IsImage}
 use Rattle.df_base.specs.Log.{Event, Log, Sync, add}
 use Rattle.df_base.specs.Moments.{EachMoment}
 use Rattle.df_disk.specs.Told.{Told, did}
 use Rattle.df_disk.specs.Adds.{AddsPart, after_all}
+use Rattle.df_layout.specs.declared.damage.Mend.{Mend}
 use Rattle.df_layout.specs.declared.layout.Layout.{Layout}
 use Rattle.df_quorum.specs.declared.choice.Chosen.{Chosen}
 use Rattle.df_format.specs.Copies.{content_with}
@@ -19,13 +20,13 @@ use Rattle.df_theory.specs.View.{View}
 use Rattle.df_units.specs.Bytes.{unit_at}
 use Rattle.df_units.specs.Within.{AreWithin}
 use Rattle.df_units.specs.Meaning.{content_of}
+use Rattle.df_superblock.specs.Events.{update_events}
 use Rattle.df_model.specs.Work.{kept}
 use Rattle.df_model.specs.declared.errors.MendError.{MendError}
 use Rattle.df_model.specs.declared.errors.MendError.TheVariants as mend
 use Rattle.df_model.specs.declared.errors.OpenError.{OpenError}
 use Rattle.df_model.specs.declared.errors.OpenError.TheVariants as opens
 use Rattle.df_damage.specs.Below.{DataFile, State, boot_fields, shape}
-use Rattle.df_damage.specs.Found.{IsChoiceOf}
 use Rattle.df_damage.specs.Plan.{AreDistinct}
 use Rattle.df_damage.specs.Surveys.{IsOpenedAs}
 use Rattle.df_opening.specs.Following.{MayOpen}
@@ -33,7 +34,7 @@ use Rattle.df_opening.specs.Sparing.{AreSettled, SparesReads, image_after}
 use Rattle.df_opening.specs.Mending.{IsMended, StaysFound, raising_events}
 pub use Rattle.df_opening.specs.Mending.{begun_state, first_state, raised_state}
 use Rattle.df_opening.specs.Keeping.{Firm, Grade, IsGoodFor, IsKept, StandsFor, format}
-use Rattle.df_opening.specs.Surveying.{TellsSurvey, mends_of}
+use Rattle.df_opening.specs.Surveying.{IsMendable, TellsSurvey}
 
 -- what the disk tells changed by events alone
 abbrev pub ToldBy : (old new : Option Told) → Type 0
@@ -63,25 +64,33 @@ pub record Mends (file : DataFile) (old new : Option Told) : Type 0 where
   pub within : AreWithin file.layout events
   pub spares : (image : Image) → IsImage image → SparesReads file image (image_after events image)
 
--- These are the device calls by which a file that was surveyed gets this superblock, each once and in this order: of what is to be mended of the image that was shown the header sectors,
--- from the table in memory, and a sync, where there is one; then the copies that aren't members of the choice, each with a sync; then the four copies of this superblock, each with a sync.
-pub record AreRaisingTo (d : SuperFields) (t : Told) (found : State) (events : List Event) : Type 0 where
+-- These are the device calls by which the file that is found in what was shown, where this version is asked for, gets this superblock: what is planned of it alone is mended, each call is made once, and in this order: the
+-- header sectors that the list has a slot of, from the table, and a sync, where there is one; then the copies that aren't members of the choice, each with a sync; then the four copies of this superblock, each with a sync.
+pub record AreRaisingTo (version : ℕ) (d : SuperFields) (t : Told) (found : State) (events : List Event) : Type 0 where
+  pub opened : IsOpenedAs version found.file.layout t.shown found
   pub chosen : Chosen
-  pub choice : IsChoiceOf t.shown chosen
-  pub are : events ≡ raising_events found.file.layout found.headers (mends_of found.file.layout t.shown found.fields found.head chosen.members) found.fields chosen.members d
+  pub mends : List Mend
+  pub planned : IsMendable found.file.layout t.shown (record { state = found; chosen = chosen; mends = mends })
+  pub are : events ≡ raising_events found.file.layout found.headers mends found.fields chosen.members d
 
 -- they were begun: the first of them were made, and no others
-pub record BeginsRaisingTo (d : SuperFields) (t : Told) (found : State) (later : Option Told) : Type 0 where
+pub record BeginsRaisingTo (version : ℕ) (d : SuperFields) (t : Told) (found : State) (later : Option Told) : Type 0 where
   pub events : List Event
-  pub own : AreRaisingTo d t found events
+  pub own : AreRaisingTo version d t found events
   pub part : AddsPart events (Some (did Sync t)) later
+
+-- an image is mended in one way, whatever is taken for what was found: two such lists differ at most in the superblock that they end with
+abbrev pub OneMending : Type 0
+OneMending =
+    (version : ℕ) (d e : SuperFields) (t : Told) (s u : State) (es ds : List Event) → AreRaisingTo version d t s es → AreRaisingTo version e t u ds
+    → (mending : List Event) × (es ≡ mending ++ update_events d) × (ds ≡ mending ++ update_events e)
 
 -- those of an open: the superblock has the next boot
 abbrev pub AreRaising : Told → State → List Event → Type 0
-AreRaising t found events = AreRaisingTo (boot_fields found) t found events
+AreRaising t found events = AreRaisingTo 2 (boot_fields found) t found events
 
 abbrev pub BeginsRaising : Told → State → Option Told → Type 0
-BeginsRaising t found later = BeginsRaisingTo (boot_fields found) t found later
+BeginsRaising t found later = BeginsRaisingTo 2 (boot_fields found) t found later
 
 -- The file was found in what was shown, mended and raised, and then each copy shows the superblock that was written: so it is by each log that shows what the disk showed, and by which the file
 -- may be opened, the told one or one that is begun anew there; and whatever its copies showed, by the log that is begun anew there. Whatever history

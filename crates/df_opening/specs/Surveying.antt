@@ -1,5 +1,5 @@
 -- What a survey answers, and what is to be mended.
-use Rattle.std.specs.Prelude.{◌≡◌, Option, Some, None, Result, Ok, Err}
+use Rattle.std.specs.Prelude.{◌≡◌, length, Option, Some, None, Result, Ok, Err}
 use Rattle.df_base.specs.Image.{Image, IsImage}
 use Rattle.df_disk.specs.Told.{Told}
 use Rattle.df_layout.specs.declared.layout.Layout.{Layout}
@@ -7,7 +7,7 @@ use Rattle.df_model.specs.declared.errors.OpenError.{OpenError}
 use Rattle.df_damage.specs.Below.{State}
 use Rattle.df_damage.specs.Found.{IsChoiceOf}
 use Rattle.df_damage.specs.Surveying.{TellsSurveyAs, state_found}
-pub use Rattle.df_damage.specs.Surveying.{copy_mend_at, mends_of}
+pub use Rattle.df_damage.specs.Surveying.{copy_mend_at, headers_of, mends_of}
 use Rattle.df_damage.specs.Types.{Surveyed}
 use Rattle.df_opening.specs.Survey.{Survey}
 
@@ -15,9 +15,12 @@ use Rattle.df_opening.specs.Survey.{Survey}
 abbrev pub survey_found : Surveyed → Survey
 survey_found s = record { state = state_found s; chosen = s.scanned.copies.found.chosen; mends = s.scanned.log.mends.items }
 
--- the choice is the image's, and the list is what is to be mended of it
+-- The choice is the image's, of each of its four copies; the table in memory has the header that each slot is to have, by the decision on it: that of a prepare that is taken, the one that an empty slot
+-- shows, as it is, or a reserved one; and the list is what is to be mended.
 pub record IsMendable (layout : Layout) (image : Image) (s : Survey) : Type 0 where
   pub choice : IsChoiceOf image s.chosen
+  pub four : length s.chosen.members ≡ 4
+  pub table : s.state.headers ≡ headers_of layout image s.state.fields s.state.head
   pub mends : s.mends ≡ mends_of layout image s.state.fields s.state.head s.chosen.members
 
 -- of what a disk shows, where it tells that and its sectors are whole

@@ -8,6 +8,7 @@ mod making;
 mod mended;
 mod mending;
 mod opened;
+mod planned;
 mod surveying;
 
 pub use completeness::what_is_safe_is_not_refused;
@@ -23,4 +24,5 @@ pub use making::{format, test_blank, write_headers, write_synced};
 pub use mended::mend_file;
 pub use mending::write_mends;
 pub use opened::{open_file, refusal_of};
+pub use planned::an_image_is_mended_in_one_way;
 pub use surveying::{SurveyedFile, survey_file};

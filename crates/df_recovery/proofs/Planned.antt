@@ -269,7 +269,7 @@ module _ (layout : Layout) (sh : Shape) (image : Units.Units) (v : View) (scan :
         | inr mends ↦ let no = mends.0 in cc
       ]
 
-  cut_from : (slot o cluster : ℕ) (d : Decision) → slot < layout.slots → IsOpOf layout.slots scan.start.op slot o → head v < o → IsCutOff slot o d → IsFromSlot sh image v slot (header_of (header_by cluster slot (entry scan slot) d))
+  cut_from : (slot o cluster : ℕ) (d : Decision) → slot < layout.slots → IsOpOf layout.slots scan.start.op slot o → head v < o → IsCutOff slot o d → IsFromSlot sh image v slot (header_of (header_by cluster slot (entry scan slot) (decision_of d)))
   cut_from slot o cluster (Take mend) below of high same = absurd (not_taken slot o mend of high same)
   cut_from slot o cluster (Empty false) below of high same = shown_from sh image v cluster slot (entry scan slot).header (shows slot below).header
   cut_from slot o cluster (Empty true) below of high same = inr (inr (record { op = refl; checkpoint = refl; boot = refl }))
@@ -278,13 +278,13 @@ module _ (layout : Layout) (sh : Shape) (image : Units.Units) (v : View) (scan :
 
   -- ---- where the header comes from
 
-  take_header : (slot cluster : ℕ) (q : Message) (d : Decision) → slot < layout.slots → image (PreparePlace slot) ≡ Some (PrepareUnit q) → Cases.IsTake (decision_of d) → header_of (header_by cluster slot (entry scan slot) d) ≡ q.header
+  take_header : (slot cluster : ℕ) (q : Message) (d : Decision) → slot < layout.slots → image (PreparePlace slot) ≡ Some (PrepareUnit q) → Cases.IsTake (decision_of d) → header_of (header_by cluster slot (entry scan slot) (decision_of d)) ≡ q.header
   take_header slot cluster q (Take mend) below shown take = prepare_seen cluster slot (image (PreparePlace slot)) (entry scan slot).prepare q (shows slot below).prepare shown
   take_header slot cluster q Behind below shown take = absurd take
   take_header slot cluster q Lost below shown take = absurd take
   take_header slot cluster q (Empty mend) below shown take = absurd take
 
-  slot_header : (slot o cluster : ℕ) (d : Decision) → slot < layout.slots → IsOpOf layout.slots scan.start.op slot o → decision_of d ≡ planned layout.slots scan.start top image o → IsSlotHeader sh image v slot (header_of (header_by cluster slot (entry scan slot) d))
+  slot_header : (slot o cluster : ℕ) (d : Decision) → slot < layout.slots → IsOpOf layout.slots scan.start.op slot o → decision_of d ≡ planned layout.slots scan.start top image o → IsSlotHeader sh image v slot (header_of (header_by cluster slot (entry scan slot) (decision_of d)))
   slot_header slot o cluster d below of decided = elim (cases_lt (head v) o) [
     | inl high ↦ record {
       from = cut_from slot o cluster d below of high (cut_here slot o d of decided high);
@@ -294,7 +294,7 @@ module _ (layout : Layout) (sh : Shape) (image : Units.Units) (v : View) (scan :
     }
     | inr low ↦
         let own = taken slot o d of decided low in
-        let is_own : header_of (header_by cluster slot (entry scan slot) d) ≡ own.0.header = take_header slot cluster own.0 d below own.3 own.4 in
+        let is_own : header_of (header_by cluster slot (entry scan slot) (decision_of d)) ≡ own.0.header = take_header slot cluster own.0 d below own.3 own.4 in
         record {
           from = inr (inl (own.0, own.1, sym is_own, sym (ap (λ (h : Units.Header). h.op % slots sh) is_own ∙ ap (λ (k : ℕ). k % slots sh) own.2 ∙ ap (λ (k : ℕ). o % k) is.slots_are ∙ of.slot_is)));
           tail = λ q at here.
@@ -322,7 +322,7 @@ module _ (layout : Layout) (sh : Shape) (image : Units.Units) (v : View) (scan :
   -- ---- slots that aren't listed
 
   other_cut : (slot o cluster : ℕ) (d : Decision) → slot < layout.slots → IsOpOf layout.slots scan.start.op slot o → head v < o → is_mended (decision_of d) ≡ false → IsCutOff slot o d
-      → image (HeaderPlace slot) ≡ Some (HeaderUnit (header_of (header_by cluster slot (entry scan slot) d)))
+      → image (HeaderPlace slot) ≡ Some (HeaderUnit (header_of (header_by cluster slot (entry scan slot) (decision_of d))))
   other_cut slot o cluster (Take mend) below of high unlisted same = absurd (not_taken slot o mend of high same)
   other_cut slot o cluster (Empty false) below of high unlisted same =
       let shown = cut_empty scan.start.boot o (image (HeaderPlace slot)) (image (PreparePlace slot)) (decision layout.slots scan.start.boot image o) same (says slot o of.slot_is) in
@@ -340,7 +340,7 @@ module _ (layout : Layout) (sh : Shape) (image : Units.Units) (v : View) (scan :
       let said = subst (SaysOfSlot scan.start.boot o (image (HeaderPlace slot)) (image (PreparePlace slot))) lost (says slot o of.slot_is) in
       absurd (no_header slot o said.0 high said.1 said.2)
 
-  other_own : (slot o cluster : ℕ) (d : Decision) → slot < layout.slots → AreDistinct image → is_mended (decision_of d) ≡ false → IsOwn slot o d → image (HeaderPlace slot) ≡ Some (HeaderUnit (header_of (header_by cluster slot (entry scan slot) d)))
+  other_own : (slot o cluster : ℕ) (d : Decision) → slot < layout.slots → AreDistinct image → is_mended (decision_of d) ≡ false → IsOwn slot o d → image (HeaderPlace slot) ≡ Some (HeaderUnit (header_of (header_by cluster slot (entry scan slot) (decision_of d))))
   other_own slot o cluster d below distinct unlisted own =
       let shown = own.5 unlisted in
       let same : shown.0 ≡ own.0.header = distinct (HeaderPlace slot) (PreparePlace slot) (HeaderUnit shown.0) (PrepareUnit own.0) shown.1 own.3 shown.2 in
@@ -353,7 +353,7 @@ module _ (layout : Layout) (sh : Shape) (image : Units.Units) (v : View) (scan :
       let of = op_in_is layout scan.start.op slot below in
       let decided = plan.1 layout image o is.tells of in
       let quiet : is_mended (decision_of plan.0) ≡ false = ap is_mended decided ∙ unlisted in
-      let shown : image (HeaderPlace slot) ≡ Some (HeaderUnit (header_of (header_by cluster slot (entry scan slot) plan.0))) = elim (cases_lt (head v) o) [
+      let shown : image (HeaderPlace slot) ≡ Some (HeaderUnit (header_of (header_by cluster slot (entry scan slot) (decision_of plan.0)))) = elim (cases_lt (head v) o) [
         | inl high ↦ other_cut slot o cluster plan.0 below of high quiet (cut_here slot o plan.0 of decided high)
         | inr low ↦ other_own slot o cluster plan.0 below distinct quiet (taken slot o plan.0 of decided low)
       ] in

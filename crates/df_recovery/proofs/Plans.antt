@@ -65,15 +65,15 @@ entry_there scan slot below =
 
 pub planned_more : (cluster : ℕ) (scan : Scan) (top k : ℕ) (old new : List Header) → k < length old → ArePlanned cluster scan top k old → PutsHeader cluster scan top k old new → ArePlanned cluster scan top (k + 1) new
 planned_more cluster scan top k old new inside before put slot less = elim (cases_eq slot k) [
-  | inl here ↦ subst (λ (n : ℕ). (d : Decision) × IsDecided scan top n d × (slice_get new n ≡ Some (header_by cluster n (entry scan n) d))) (sym here)
-      (put.0, put.1, ap (λ (xs : List Header). slice_get xs k) put.2 ∙ get_set old k (header_by cluster k (entry scan k) put.0) inside)
+  | inl here ↦ subst (λ (n : ℕ). (d : Decision) × IsDecided scan top n d × (slice_get new n ≡ Some (header_by cluster n (entry scan n) (decision_of d)))) (sym here)
+      (put.0, put.1, ap (λ (xs : List Header). slice_get xs k) put.2 ∙ get_set old k (header_by cluster k (entry scan k) (decision_of put.0)) inside)
   | inr away ↦
       let was = before slot (omega (arith, less, away)) in
-      (was.0, was.1, ap (λ (xs : List Header). slice_get xs slot) put.2 ∙ get_set_other old k slot (header_by cluster k (entry scan k) put.0) away ∙ was.2)
+      (was.0, was.1, ap (λ (xs : List Header). slice_get xs slot) put.2 ∙ get_set_other old k slot (header_by cluster k (entry scan k) (decision_of put.0)) away ∙ was.2)
 ]
 
 pub size_kept : (cluster : ℕ) (scan : Scan) (top k : ℕ) (old new : List Header) → PutsHeader cluster scan top k old new → length new ≡ length old
-size_kept cluster scan top k old new put = ap length put.2 ∙ length-set old k (header_by cluster k (entry scan k) put.0)
+size_kept cluster scan top k old new put = ap length put.2 ∙ length-set old k (header_by cluster k (entry scan k) (decision_of put.0))
 
 shown_valid : (layout : Layout) (cluster slot : ℕ) (r : Result Header Class) → IsHeader layout cluster slot (reserved_header cluster slot) → IsHeaderThere layout cluster slot r → IsHeader layout cluster slot (header_or_reserved cluster slot (header_of_seen r))
 shown_valid layout cluster slot (Ok h) reserved there = there
@@ -87,7 +87,7 @@ taken_valid layout cluster slot (Ok h) reserved (body, is) =
     subst (λ (n : ℕ). IsHeader layout cluster n h) here.slot (subst (λ (c : ℕ). IsHeader layout c h.slot h) is.owner (in_header_ring layout u own))
 taken_valid layout cluster slot (Err class) reserved there = reserved
 
-by_valid : (layout : Layout) (cluster slot : ℕ) (seen : SlotSeen) (d : Decision) → IsHeader layout cluster slot (reserved_header cluster slot) → IsSlot layout cluster slot seen → IsHeader layout cluster slot (header_by cluster slot seen d)
+by_valid : (layout : Layout) (cluster slot : ℕ) (seen : SlotSeen) (d : Decision) → IsHeader layout cluster slot (reserved_header cluster slot) → IsSlot layout cluster slot seen → IsHeader layout cluster slot (header_by cluster slot seen (decision_of d))
 by_valid layout cluster slot seen (Take mend) reserved is = taken_valid layout cluster slot seen.prepare reserved is.prepare
 by_valid layout cluster slot seen (Empty false) reserved is = shown_valid layout cluster slot seen.header reserved is.header
 by_valid layout cluster slot seen (Empty true) reserved is = reserved
@@ -101,7 +101,7 @@ planned_table layout cluster scan top table named small slots count planned = re
   each = λ slot h at.
       let below : slot < layout.slots = omega (arith, slice_get_within table slot h at, count) in
       let plan = planned slot below in
-      let same : header_by cluster slot (entry scan slot) plan.0 ≡ h = same_Some _ _ (sym plan.2 ∙ at) in
+      let same : header_by cluster slot (entry scan slot) (decision_of plan.0) ≡ h = same_Some _ _ (sym plan.2 ∙ at) in
       subst (λ (x : Header). IsHeader layout cluster slot x) same
       (by_valid layout cluster slot (entry scan slot) plan.0 (reserved_unit layout cluster slot named small below) (slots.each slot (entry scan slot) (entry_there scan slot (omega (arith, below, slots.size)))));
 }

@@ -2,7 +2,9 @@
 use Rattle.std.proofs.Common.{◌≡◌, ◌∙◌, ℕ, zero, suc, ◌+◌, ◌<◌, ◌≤◌, ◌^◌, Bool, true, false, cond, not, List, ◌∷◌, ◌++◌, length, get_or, map, Option, Some, None, Result, Ok, Err, refl, sym, ap, subst, arith}
 use Rattle.std.specs.Prelude.{IfOk, option_map}
 use Rattle.std.specs.List.{filter, range_with_len, slice_get}
-use Rattle.std.proofs.lemmas.Option.{same_Some, slice_get-map}
+use Rattle.std.proofs.lemmas.List.{ext_get_or}
+use Rattle.std.proofs.lemmas.List.FromFn.{get_or-map-range_with_len, length-map-range_with_len}
+use Rattle.std.proofs.lemmas.Option.{get_or_from_slice_get, same_Some, slice_get-map}
 use Rattle.df_disk.specs.Told.{Told}
 use Rattle.df_layout.specs.declared.damage.Class.{Class}
 use Rattle.df_layout.specs.declared.damage.Mend.{Mend}
@@ -11,8 +13,12 @@ use Rattle.df_layout.specs.declared.places.Zone.TheVariants.{Superblock, WalHead
 use Rattle.df_format.specs.Own.{place_in}
 use Rattle.df_format.specs.Shown.{class_at}
 use Rattle.df_format.specs.declared.superblock.SuperFields.{SuperFields}
-use Rattle.df_journal.specs.Scan.{Scan}
+use Rattle.df_cases.specs.Cases.{decision_of}
+use Rattle.df_cases.specs.declared.cases.Decision.{Decision}
+use Rattle.df_format.specs.declared.header.Header.{Header}
+use Rattle.df_journal.specs.Scan.{Scan, entry}
 use Rattle.df_journal.specs.Scanned as rings
+use Rattle.df_journal.specs.Scanned.{seen_at}
 use Rattle.df_journal.specs.Shows.{IsTable as AreSlots, TellsRings}
 use Rattle.df_journal.specs.Tail.{AreNumbered, AreUnstored}
 use Rattle.df_journal.specs.declared.table.Start.{Start}
@@ -34,10 +40,10 @@ use Rattle.df_rooms.specs.declared.file.DataFile.{DataFile}
 use Rattle.df_recovery.specs.Checkpoints.{Base, base_of}
 use Rattle.df_recovery.specs.Finding.{Answers, HasHeaders, IsKept, IsOfFile, IsRefused, StoresTo, base_with, read_of}
 use Rattle.df_recovery.specs.Found.{IsChoiceOf, TellsFoundAs}
-use Rattle.df_recovery.specs.Plan.{class_of_slot, copy_mend, copy_mends, header_or_none, needs_header, shown_class, slot_mend, slot_mends}
+use Rattle.df_recovery.specs.Plan.{ArePlanned, IsDecided, class_of_slot, copy_mend, copy_mends, decision_at, header_by, header_or_none, needs_header, op_in, shown_class, slot_mend, slot_mends}
 use Rattle.df_recovery.specs.Scanning.{AreCopies, IsFileOf, IsScanAs, TellsReadAs, base_scanned}
 use Rattle.df_recovery.specs.Starting.{start_of}
-use Rattle.df_recovery.specs.Surveying.{ArePlannedFrom, IsLawful, IsMendable, IsPlannedFor, IsReadOf, KeepsFile, KeepsRead, TellsMends, TellsSurveyAs, copy_mend_at, mends_of, state_found}
+use Rattle.df_recovery.specs.Surveying.{ArePlannedFrom, IsLawful, IsMendable, IsPlannedFor, IsReadOf, KeepsFile, KeepsRead, TellsMends, TellsSurveyAs, copy_mend_at, headers_of, mends_of, planned_header, state_found}
 use Rattle.df_recovery.specs.Surveys.{SurveysAs}
 use Rattle.df_recovery.specs.Waiting.{waiting_in}
 use Rattle.df_recovery.specs.declared.finding.Traces.{Traces}
@@ -46,6 +52,7 @@ use Rattle.df_recovery.specs.declared.scanning.Copies.{Copies}
 use Rattle.df_recovery.specs.declared.surveying.Surveyed.{Surveyed}
 use Rattle.df_recovery.proofs.FilesRead.{file_is_read}
 use Rattle.df_recovery.proofs.OpenAnswers.{kept_is_answer, refused_is_answer}
+use Rattle.df_recovery.proofs.Plans.{entry_there, op_in_is}
 use Rattle.df_recovery.proofs.Scans.{scanned_as}
 
 -- ---- what was read makes sense by itself
@@ -126,7 +133,7 @@ module _ (t : Told) (x : Scanned) (is : IsOfFile t x.file (read_of x) (base_scan
       replies = ap (λ (r : Traces). r.replies) traces_are;
       unstored = unstored;
       stored = subst (λ table. StoresTo traces.replies x.log.replies (length after) after table.sessions) (sym keeps.sessions) stores;
-      count = plan.is_table.count;
+      count = plan.plan.is_table.count;
       waiting = waiting ∙ (λ i. waiting_in ((sym keeps.file) i).layout.slots (of.slots i) y.scanned.log.headers ((sym traces_are) i).replies ((sym traces_are) i).tail.op);
       starts = record { staged = refl; running = refl; tour = refl; findings = refl };
     }
@@ -139,7 +146,7 @@ module _ (t : Told) (x : Scanned) (is : IsOfFile t x.file (read_of x) (base_scan
         let start : y.scanned.log.slots.start ≡ start_of x.copies.found.content = ap (λ (r : Scan). r.start) (keeps.slots ∙ of.slots) ∙ is.start in
         let tells : TellsRings s.file.layout image y.scanned.log.slots =
         subst (λ (r : Scan). TellsRings s.file.layout image r) (sym (keeps.slots ∙ of.slots)) (subst (λ (file : DataFile). TellsRings file.layout image x.log.slots) (sym file_is) read.tells) in
-        let here = plan.from (shape s.file) image v (record {
+        let here = plan.plan.from (shape s.file) image v (record {
           slots_are = refl;
           op = ap (λ (c : Content). c.op) content ∙ sym (ap (λ (r : Start). r.op) start);
           pin = ap (λ (c : Content). c.pin) content ∙ sym (ap (λ (r : Start). r.head) start);
@@ -170,6 +177,12 @@ listed f g p a zero same = refl
 listed f g p a (suc n) same =
     listed_case (p a) f g a (filter p (range_with_len (a + 1) n)) (filter p (range_with_len (a + 1) n)) (same a (omega arith) (omega arith)) (listed f g p (a + 1) n (λ k from to. same k (omega (arith, from)) (omega (arith, to))))
 
+-- a list with this at each place is what a function makes of the places
+each_slot : (header : ℕ → Header) (n : ℕ) (table : List Header) → length table ≡ n → ((slot : ℕ) → slot < n → slice_get table slot ≡ Some (header slot)) → table ≡ map header (range_with_len 0 n)
+each_slot header n table count each =
+    ext_get_or (header 0) table (map header (range_with_len 0 n)) (count ∙ sym (length-map-range_with_len header 0 n))
+    (λ slot below. get_or_from_slice_get table slot (header slot) (header 0) (each slot (omega (arith, below, count))) ∙ sym (get_or-map-range_with_len header 0 n slot slot (header 0) (omega (arith, below, count)) (omega arith)))
+
 module _ (t : Told) (x : Scanned) (is : IsOfFile t x.file (read_of x) (base_scanned x)) (shows : ShowsSlots (Some t) x.copies.slots) where
   abbrev layout : Layout
   layout = x.file.layout
@@ -194,6 +207,22 @@ module _ (t : Told) (x : Scanned) (is : IsOfFile t x.file (read_of x) (base_scan
       ∙ listed (slot_mend (shown_class scan)) (slot_mend (λ s. class_at layout f.cluster t.shown (place_in WalHeaders s))) (needs_header layout (start_of f) top (unit_at layout f.cluster t.shown)) 0 layout.slots
       (λ k from to. ap (λ (class : Class). record { place = place_in WalHeaders k; class = class }) ((class_shown layout t scan k is.scanned.slots (omega (arith, to))).0 ∙ ap (λ (n : ℕ). class_at layout n t.shown (place_in WalHeaders k)) cluster))
 
+  -- the header that was planned of a slot is that of the image
+  header_shown : (top slot : ℕ) (d : Decision) → slot < layout.slots → TellsRings layout (unit_at layout f.cluster t.shown) scan → IsDecided scan top slot d
+      → header_by x.file.cluster slot (entry scan slot) (decision_of d) ≡ planned_header layout t.shown f top slot
+  header_shown top slot d below tells decided =
+      let image = unit_at layout f.cluster t.shown in
+      let own : x.file.cluster ≡ f.cluster = sym is.has.cluster in
+      let there : slice_get scan.slots slot ≡ Some (entry scan slot) = entry_there scan slot (omega (arith, below, tells.table.size)) in
+      let seen : entry scan slot ≡ seen_at layout f.cluster t.shown slot = is.scanned.slots.seen slot (entry scan slot) there ∙ ap (λ (n : ℕ). seen_at layout n t.shown slot) cluster in
+      let one : decision_of d ≡ decision_at layout (start_of f) top image slot =
+      decided layout image (op_in layout.slots scan.start.op slot) tells (op_in_is layout scan.start.op slot below) ∙ ap (λ (start : Start). decision_at layout start top image slot) is.start in
+      (λ i. header_by (own i) slot (seen i) (one i))
+
+  headers_shown : (top : ℕ) (table : List Header) → length table ≡ layout.slots → TellsRings layout (unit_at layout f.cluster t.shown) scan → ArePlanned x.file.cluster scan top layout.slots table → table ≡ headers_of layout t.shown f top
+  headers_shown top table count tells planned =
+      each_slot (planned_header layout t.shown f top) layout.slots table count (λ slot below. let plan = planned slot below in plan.2 ∙ ap Some (header_shown top slot plan.0 below tells plan.1))
+
   pub mendable : (y : Surveyed) → KeepsFile x y.scanned → IsPlannedFor y → IsMendable layout t.shown y
   mendable y of plan =
       let image = unit_at layout f.cluster t.shown in
@@ -202,12 +231,17 @@ module _ (t : Told) (x : Scanned) (is : IsOfFile t x.file (read_of x) (base_scan
       let here : ArePlannedFrom x.file.layout x.file.cluster scan top x.copies.slots members y.scanned.log.headers y.scanned.log.mends.items =
       subst (λ (file : DataFile). ArePlannedFrom file.layout file.cluster scan top x.copies.slots members y.scanned.log.headers y.scanned.log.mends.items) of.file
       (subst (λ (r : Scan). ArePlannedFrom y.scanned.file.layout y.scanned.file.cluster r top x.copies.slots members y.scanned.log.headers y.scanned.log.mends.items) of.slots
-      (subst (λ (c : Copies). ArePlannedFrom y.scanned.file.layout y.scanned.file.cluster y.scanned.log.slots top c.slots c.found.chosen.members y.scanned.log.headers y.scanned.log.mends.items) of.copies plan)) in
+      (subst (λ (c : Copies). ArePlannedFrom y.scanned.file.layout y.scanned.file.cluster y.scanned.log.slots top c.slots c.found.chosen.members y.scanned.log.headers y.scanned.log.mends.items) of.copies plan.plan)) in
+      let each : ArePlanned x.file.cluster scan top layout.slots y.scanned.log.headers =
+      subst (λ (file : DataFile). ArePlanned file.cluster scan top file.layout.slots y.scanned.log.headers) of.file
+      (subst (λ (r : Scan). ArePlanned y.scanned.file.cluster r top y.scanned.file.layout.slots y.scanned.log.headers) of.slots plan.each) in
       let tells : TellsRings layout image scan = subst (λ (n : ℕ). TellsRings layout (unit_at layout n t.shown) scan) cluster (rings_shown layout t scan is.scanned.slots) in
       let list = here.list image tells ∙ ap (λ (xs : List Mend). xs ++ slot_mends (needs_header layout scan.start top image) (shown_class scan) layout.slots) (copies_listed members)
       ∙ ap (λ (xs : List Mend). map (copy_mend_at t.shown) (filter (λ n. not (get_or members n false)) (range_with_len 0 4)) ++ xs) (slots_listed top) in
       record {
         choice = subst (λ (c : Copies). IsChoiceOf t.shown c.found.chosen) (sym of.copies) is.choice;
+        four = plan.four;
+        table = subst (λ (c : Copies). y.scanned.log.headers ≡ headers_of layout t.shown c.found.content top) (sym of.copies) (headers_shown top y.scanned.log.headers here.is_table.count tells each);
         mends = subst (λ (c : Copies). y.scanned.log.mends.items ≡ mends_of layout t.shown c.found.content top c.found.chosen.members) (sym of.copies) list;
       }
 

@@ -12,7 +12,6 @@ use Rattle.df_quorum.specs.declared.slot.Slot.{Slot}
 use Rattle.df_quorum.specs.declared.slot.Slot.TheVariants.{Sound, Bad}
 use Rattle.df_quorum.specs.Quorum.{nothing}
 use Rattle.df_cases.specs.declared.cases.Decision.{Decision}
-use Rattle.df_cases.specs.declared.cases.Decision.TheVariants.{Empty, Take}
 use Rattle.df_theory.specs.Units
 use Rattle.df_theory.specs.Units.{AnyUnit, HeaderPlace, HeaderUnit, Place}
 use Rattle.df_theory.specs.Cases
@@ -120,9 +119,9 @@ header_or_reserved cluster slot None = reserved_header cluster slot
 header_or_reserved cluster slot (Some h) = h
 
 -- the header that a slot is to have: that of the prepare that is taken, the one that an empty slot shows, or a reserved one
-abbrev pub header_by : ℕ → ℕ → SlotSeen → Decision → Header
-header_by cluster slot seen (Take mend) = header_or_reserved cluster slot (header_of_seen seen.prepare)
-header_by cluster slot seen (Empty false) = header_or_reserved cluster slot (header_of_seen seen.header)
+abbrev pub header_by : ℕ → ℕ → SlotSeen → Cases.Decision → Header
+header_by cluster slot seen (Cases.Take mend) = header_or_reserved cluster slot (header_of_seen seen.prepare)
+header_by cluster slot seen (Cases.Empty false) = header_or_reserved cluster slot (header_of_seen seen.header)
 header_by cluster slot seen d = reserved_header cluster slot
 
 -- this is decided of a slot with this head, whatever image shows what was scanned
@@ -131,7 +130,7 @@ IsDecided scan top slot d = (layout : Layout) (image : Units.Units) (o : ℕ) �
 
 -- the table with the header that the decision says, in the slot
 abbrev pub PutsHeader : ℕ → Scan → ℕ → ℕ → List Header → List Header → Type 0
-PutsHeader cluster scan top slot old new = (d : Decision) × IsDecided scan top slot d × (new ≡ slice_set old slot (header_by cluster slot (entry scan slot) d))
+PutsHeader cluster scan top slot old new = (d : Decision) × IsDecided scan top slot d × (new ≡ slice_set old slot (header_by cluster slot (entry scan slot) (decision_of d)))
 
 -- an element, if it is one that is wanted
 abbrev pub if_wanted : {X : Type 0} → Bool → X → List X
@@ -140,4 +139,4 @@ if_wanted false x = []
 
 -- the first k slots have their headers
 abbrev pub ArePlanned : ℕ → Scan → ℕ → ℕ → List Header → Type 0
-ArePlanned cluster scan top k table = (slot : ℕ) → slot < k → (d : Decision) × IsDecided scan top slot d × (slice_get table slot ≡ Some (header_by cluster slot (entry scan slot) d))
+ArePlanned cluster scan top k table = (slot : ℕ) → slot < k → (d : Decision) × IsDecided scan top slot d × (slice_get table slot ≡ Some (header_by cluster slot (entry scan slot) (decision_of d)))

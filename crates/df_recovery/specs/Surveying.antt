@@ -15,6 +15,7 @@ use Rattle.df_quorum.specs.declared.slot.Slot.{Slot}
 use Rattle.df_headers.specs.Ring.{IsTable}
 use Rattle.df_journal.specs.Scan.{Scan}
 use Rattle.df_journal.specs.Scanned as rings
+use Rattle.df_journal.specs.Scanned.{seen_at}
 use Rattle.df_journal.specs.Shows.{IsTable as AreSlots, TellsRings}
 use Rattle.df_journal.specs.Tail.{AreNumbered}
 use Rattle.df_grid.specs.Table.{IsIdle}
@@ -32,7 +33,7 @@ use Rattle.df_units.specs.Bytes.{unit_at}
 use Rattle.df_units.specs.Superblocks.{AreFieldsOf}
 use Rattle.df_rooms.specs.State.{AreAsked, State}
 use Rattle.df_recovery.specs.Found.{IsChoiceOf, TellsFoundAs}
-use Rattle.df_recovery.specs.Plan.{AreDistinct, IsScanOf, OthersAreShown, class_of_slot, headers_in, mend_list, needs_header, slot_mends}
+use Rattle.df_recovery.specs.Plan.{AreDistinct, ArePlanned, IsScanOf, OthersAreShown, class_of_slot, decision_at, header_by, headers_in, mend_list, needs_header, slot_mends}
 use Rattle.df_recovery.specs.Scanning.{AreCopies, IsFileOf}
 use Rattle.df_recovery.specs.Starting.{start_of}
 use Rattle.df_recovery.specs.Surveys.{SurveysAs}
@@ -164,10 +165,11 @@ pub record ArePlannedFrom (layout : Layout) (cluster : ℕ) (scan : Scan) (top :
   pub others : (sh : Shape) (image : Units) (v : View) → IsScanOf layout sh image v scan top → AreDistinct image → OthersAreShown layout scan.start top image (headers_in table)
   pub list : (image : Units) → TellsRings layout image scan → mends ≡ mend_list layout scan top image copies members
 
--- those of a surveyed file are
-abbrev pub IsPlannedFor : Surveyed → Type 0
-IsPlannedFor s =
-    ArePlannedFrom s.scanned.file.layout s.scanned.file.cluster s.scanned.log.slots s.traces.tail.op s.scanned.copies.slots s.scanned.copies.found.chosen.members s.scanned.log.headers s.scanned.log.mends.items
+-- those of a surveyed file are, each slot has the header that its decision says, and of each of the four copies it is said whether it is a member
+pub record IsPlannedFor (s : Surveyed) : Type 0 where
+  pub plan : ArePlannedFrom s.scanned.file.layout s.scanned.file.cluster s.scanned.log.slots s.traces.tail.op s.scanned.copies.slots s.scanned.copies.found.chosen.members s.scanned.log.headers s.scanned.log.mends.items
+  pub each : ArePlanned s.scanned.file.cluster s.scanned.log.slots s.traces.tail.op s.scanned.file.layout.slots s.scanned.log.headers
+  pub four : length s.scanned.copies.found.chosen.members ≡ 4
 
 -- a copy with the class of what its place shows: a sound copy of its own place is a stale one
 abbrev pub copy_mend_at : Image → ℕ → Mend
@@ -179,9 +181,19 @@ mends_of layout image f top members =
     map (copy_mend_at image) (filter (λ n. not (get_or members n false)) (range_with_len 0 4))
     ++ slot_mends (needs_header layout (start_of f) top (unit_at layout f.cluster image)) (λ s. class_at layout f.cluster image (place_in WalHeaders s)) layout.slots
 
--- the choice is the image's, and the list is what is to be mended of it
+-- the header that a slot of an image is to have where this head is found
+abbrev pub planned_header : Layout → Image → SuperFields → (top : ℕ) → ℕ → Header
+planned_header layout image f top slot = header_by f.cluster slot (seen_at layout f.cluster image slot) (decision_at layout (start_of f) top (unit_at layout f.cluster image) slot)
+
+-- that of each slot, in order
+abbrev pub headers_of : Layout → Image → SuperFields → (top : ℕ) → List Header
+headers_of layout image f top = map (planned_header layout image f top) (range_with_len 0 layout.slots)
+
+-- the choice is the image's, of each of its four copies, the table has the header that each slot is to have, and the list is what is to be mended
 pub record IsMendable (layout : Layout) (image : Image) (s : Surveyed) : Type 0 where
   pub choice : IsChoiceOf image s.scanned.copies.found.chosen
+  pub four : length s.scanned.copies.found.chosen.members ≡ 4
+  pub table : s.scanned.log.headers ≡ headers_of layout image s.scanned.copies.found.content s.traces.tail.op
   pub mends : s.scanned.log.mends.items ≡ mends_of layout image s.scanned.copies.found.content s.traces.tail.op s.scanned.copies.found.chosen.members
 
 -- of what a disk shows, where it tells that and its sectors are whole

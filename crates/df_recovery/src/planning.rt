@@ -5,7 +5,7 @@ ghost use Rattle.df_recovery.specs.Below.{Shape, Units, View, Layout as AnyLayou
 ghost use Rattle.df_theory.specs.MendLaws.{IsTable as IsSlotTable};
 ghost use Rattle.df_headers.specs.Ring.{IsTable};
 ghost use Rattle.df_journal.specs.Shows.{IsTable as AreSlots};
-ghost use Rattle.df_recovery.specs.Plan.{AreDistinct, IsScanOf, OthersAreShown, PutsHeader, class_of_slot, copy_mend, copy_mends, header_by, header_or_reserved, headers_in, if_wanted, is_mended, mend_list, needs_header, shown_class, slot_mend};
+ghost use Rattle.df_recovery.specs.Plan.{AreDistinct, ArePlanned, IsScanOf, OthersAreShown, PutsHeader, class_of_slot, copy_mend, copy_mends, header_by, header_or_reserved, headers_in, if_wanted, is_mended, mend_list, needs_header, shown_class, slot_mend};
 
 use df_cases::Decision;
 use df_format::Header;
@@ -84,7 +84,7 @@ fn or_reserved(header: Option<Header>, cluster: u128, slot: u32) -> Header
 fn header_for(cluster: u128, found: &SlotTable, slot: u32, decision: &Decision) -> Header
     requires cluster { 0 < cluster }
     requires slot { slot < length found.now.slots }
-    ensures { result ≡ header_by cluster slot (entry found.now slot) decision.now }
+    ensures { result ≡ header_by cluster slot (entry found.now slot) (decision_of decision.now) }
 {
     match decision {
         Decision::Take { .. } => or_reserved(found.prepare(slot), cluster, slot),
@@ -156,7 +156,9 @@ pub fn plan(
     requires slots { AreSlots layout.now cluster found.now.slots }
     requires headers { length headers.old ≡ layout.now.slots }
     requires room { layout.now.slots + 4 ≤ vec_capacity mends.old }
+    ensures four { length members.now ≡ 4 }
     ensures table { IsTable layout.now cluster headers.new }
+    ensures each { ArePlanned cluster found.now head layout.now.slots headers.new }
     ensures tells { (sh : Shape) (image : Units) (v : View) → IsScanOf layout.now sh image v found.now head → IsSlotTable sh image v (headers_in headers.new) }
     ensures whole { (sh : Shape) (image : Units) (v : View) → IsScanOf layout.now sh image v found.now head → AreDistinct image → OthersAreShown layout.now found.now.start head image (headers_in headers.new) }
     ensures lists { (image : Units) → TellsRings layout.now image found.now → mends.new.items ≡ mend_list layout.now found.now head image copies.now members.now }

@@ -6,6 +6,7 @@ ghost use Rattle.df_recovery.specs.Below.{IsBlamed, Told, is_open_fault};
 ghost use Rattle.df_recovery.specs.Checkpoints.{AreOfCheckpoint};
 ghost use Rattle.df_recovery.specs.Finding.{IsDamage, IsOfFile, read_of};
 ghost use Rattle.df_recovery.specs.Found.{Syncs};
+ghost use Rattle.df_recovery.specs.Plan.{ArePlanned};
 ghost use Rattle.df_recovery.specs.Scanning.{base_scanned, without_rooms};
 ghost use Rattle.df_recovery.specs.Surveying.{AreAfter, ArePlannedFrom, EndsBehind, IsLawful, IsPlannedFor, IsReadOf, IsWellFound, KeepsFile, KeepsRead, TellsMends, TellsSurveyAs, answer_of};
 ghost use Rattle.df_recovery.specs.Surveys.{SurveysAs};
@@ -38,6 +39,8 @@ fn plan_log(file: &DataFile, copies: &Copies, head: u64, rooms: &mut LogRooms)
     requires cluster { rooms.old.slots.start.cluster ≡ file.now.cluster }
     requires slots { AreSlots file.now.layout file.now.cluster rooms.old.slots.slots }
     ensures planned { ArePlannedFrom file.now.layout file.now.cluster rooms.new.slots head copies.now.slots copies.now.found.chosen.members rooms.new.headers rooms.new.mends.items }
+    ensures each { ArePlanned file.now.cluster rooms.new.slots head file.now.layout.slots rooms.new.headers }
+    ensures four { length copies.now.found.chosen.members ≡ 4 }
     ensures layout { rooms.new.layout ≡ file.now.layout }
     ensures slots { rooms.new.slots ≡ rooms.old.slots }
     ensures replies { rooms.new.replies ≡ rooms.old.replies }

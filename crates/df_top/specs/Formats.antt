@@ -41,11 +41,11 @@ pub record IsRefusedBy (error : FormatError) (cluster : ℕ) (old new : Option T
   pub same : new ≡ old
 
 -- What the word does, by how it ends: the file is made, whole, or in part where the disk failed, and then the disk was blank, or nothing was done to it; or it
--- is refused. Its line is written, or a front of it where the sink failed.
+-- is refused, a cluster of 0 before the disk is asked. Its line is written, or a front of it where the sink failed.
 abbrev pub Formats : Layout → (cluster : ℕ) → (told later : Option Told) → (old new : Option (List ℕ)) → Status → Type 0
 Formats layout cluster told later old new Done = IsMadeBy layout cluster told later × Appends old new (formatted_text (file_sectors layout))
 Formats layout cluster told later old new Refused = (error : FormatError) × IsRefusedBy error cluster told later × Appends old new (format_refusal error)
-Formats layout cluster told later old new DiskFault = AddsPart (making_events layout cluster) told later × OnlyOnBlank told later × (new ≡ old)
+Formats layout cluster told later old new DiskFault = (0 < cluster) × AddsPart (making_events layout cluster) told later × OnlyOnBlank told later × (new ≡ old)
 Formats layout cluster told later old new WriteFault =
     (IsMadeBy layout cluster told later × AppendsPart old new (formatted_text (file_sectors layout)))
     ⊎ ((error : FormatError) × IsRefusedBy error cluster told later × AppendsPart old new (format_refusal error))

@@ -59,7 +59,7 @@ module _ (y : Surveyed) (old : IsOld y) (usable : IsUsable y.scanned.copies.foun
       };
       sequence = usable.rules.sequence;
       root = omega arith;
-      ring = old.planned.is_table;
+      ring = old.planned.plan.is_table;
     };
     booted = λ live. absurd (let none : false ≡ true = live in cc);
     ends = found_ends y old.found usable.rules;

@@ -41,12 +41,12 @@ TellsHurtUpgraded layout told (Err e) = TellsHurtOld layout told (Err e)
 
 -- ---- what it leaves
 
--- these are the device calls of an upgrade behind its survey: the superblock is of version 2
+-- these are the device calls of an upgrade behind its survey: the file that is found is of version 1, and gets a superblock of version 2
 abbrev pub AreUpgrading : Told → State → List Event → Type 0
-AreUpgrading t found events = AreRaisingTo (base_fields found) t found events
+AreUpgrading t found events = AreRaisingTo 1 (base_fields found) t found events
 
 abbrev pub BeginsUpgrading : Told → State → Option Told → Type 0
-BeginsUpgrading t found later = BeginsRaisingTo (base_fields found) t found later
+BeginsUpgrading t found later = BeginsRaisingTo 1 (base_fields found) t found later
 
 -- The file was found and is upgraded: what is told changed by these events alone, whose writes lie within the zones of the file, and each place that a call reads is as it was.
 pub record UpgradesAll (layout : Layout) (t : Told) (sequence : ℕ) (later : Option Told) : Type 0 where

@@ -92,7 +92,7 @@ returns-in-Ok-mend_file-clause-opened g c = λ t is.
         within = steps_within s.state.file.layout s.state.file.cluster es (opening_steps s) c.in-Ok-mend_file.ensures.steps;
         spares = raising_spares s.state.file s.state.headers s.mends s.state.fields s.chosen.members (boot_fields s.state) c.in-Ok-mend_file.ensures.steps;
       };
-      own = λ whole. own_raising (boot_fields s.state) c.args.rooms.layout (g.D.Disk.told c.args.disk.now) t s is c.in-Ok.ensures.kept c.in-Ok.ensures.mends whole;
+      own = λ whole. own_raising 2 (boot_fields s.state) c.args.rooms.layout (g.D.Disk.told c.args.disk.now) t s is c.in-Ok.ensures.kept c.in-Ok.ensures.answer c.in-Ok.ensures.mends whole;
       copies = λ whole. raising_copies s.state.file s.state.headers s.mends s.state.fields s.chosen.members (boot_fields s.state) c.in-Ok-mend_file.ensures.steps t.shown whole;
       over = λ grade view base same may stands.
           let planned = planned_same s.state.file s.state.headers s.mends s.state.fields s.chosen.members (did Sync t) (did Sync base) same plan in
@@ -134,7 +134,7 @@ returns-in-Err-mend_file-clause-stopped g c = λ t is whole fault.
       };
       own = λ image. record {
         events = es;
-        own = own_raising (boot_fields s.state) c.args.rooms.layout (g.D.Disk.told c.args.disk.now) t s is c.in-Ok.ensures.kept c.in-Ok.ensures.mends image;
+        own = own_raising 2 (boot_fields s.state) c.args.rooms.layout (g.D.Disk.told c.args.disk.now) t s is c.in-Ok.ensures.kept c.in-Ok.ensures.answer c.in-Ok.ensures.mends image;
         part = subst (λ (o : Option Told). AddsPart es o (g.D.Disk.told c.mend_file.new.disk)) synced adds;
       };
       moments = λ grade view base same may stands.

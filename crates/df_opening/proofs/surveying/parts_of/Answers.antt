@@ -23,7 +23,7 @@ returns-clause-found c =
             second = second_super c.args.surveyed.scanned.file f (sym found.read.version ∙ c.requires.version) usable found.read.fields;
             sequence = usable.rules.sequence;
             root = c.root_fits.ensures;
-            ring = c.requires.planned.is_table;
+            ring = c.requires.planned.plan.is_table;
           };
           booted = λ live. absurd (let none : false ≡ true = live in cc);
           ends = found_ends c.args.surveyed found usable.rules;

@@ -30,6 +30,11 @@ returns-clause-table c =
     planned_table c.args.layout.now c.args.cluster c.args.found.now c.args.head c.loop-slot.headers c.requires.named c.ranges.cluster.fits c.requires.slots c.loop-slot.invariant.size
     (subst (λ (k : ℕ). ArePlanned c.args.cluster c.args.found.now c.args.head k c.loop-slot.headers) all c.loop-slot.invariant.planned)
 
+pub returns-clause-each : goal.returns-clause-each
+returns-clause-each c =
+    let all : c.loop-slot.slot ≡ c.args.layout.now.slots = omega (arith, c.loop-slot.invariant.within, c.loop-slot-test.false) in
+    subst (λ (k : ℕ). ArePlanned c.args.cluster c.args.found.now c.args.head k c.loop-slot.headers) all c.loop-slot.invariant.planned
+
 pub returns-clause-tells : goal.returns-clause-tells
 returns-clause-tells c = λ sh image v is.
     let all : c.loop-slot.slot ≡ c.args.layout.now.slots = omega (arith, c.loop-slot.invariant.within, c.loop-slot-test.false) in

@@ -24,3 +24,6 @@ returns-clause-found c =
       sessions = c.requires.sessions;
       waiting = omega (arith, count, c.requires.tail.order);
     }
+
+pub returns-clause-planned : goal.returns-clause-planned
+returns-clause-planned c = record { plan = c.plan_log.ensures.planned; each = c.plan_log.ensures.each; four = c.plan_log.ensures.four }

@@ -51,7 +51,7 @@ returns-in-Ok-upgrade_surveyed-clause-upgraded g c = λ t is.
         within = steps_within s.state.file.layout s.state.file.cluster es (upgrading_steps s) c.in-Ok-upgrade_surveyed.ensures.steps;
         spares = raising_spares s.state.file s.state.headers s.mends s.state.fields s.chosen.members (base_fields s.state) c.in-Ok-upgrade_surveyed.ensures.steps;
       };
-      own = own_raising (base_fields s.state) c.args.rooms.layout (g.D.Disk.told c.args.disk.now) t s is c.in-Ok.ensures.kept c.in-Ok.ensures.mends;
+      own = own_raising 1 (base_fields s.state) c.args.rooms.layout (g.D.Disk.told c.args.disk.now) t s is c.in-Ok.ensures.kept c.in-Ok.ensures.answer c.in-Ok.ensures.mends;
       anew = λ view whole found distinct.
           c.in-Ok-upgrade_surveyed.ensures.anew t view (planned_same s.state.file s.state.headers s.mends s.state.fields s.chosen.members (did Sync t) (begun t) refl plan) whole found distinct (stands_old c.args.rooms.layout t s.state view c.in-Ok.ensures.kept answer whole found);
     }
@@ -91,7 +91,7 @@ returns-in-Err-upgrade_surveyed-clause-stopped g c = λ t is whole fault.
       writes = record { events = part.part; told = part.is; within = steps_within s.state.file.layout s.state.file.cluster part.part done.steps done.are; spares = front_spares s.state.file s.state.headers s.mends s.state.fields s.chosen.members (base_fields s.state) part.part done };
       own = λ image. record {
         events = es;
-        own = own_raising (base_fields s.state) c.args.rooms.layout (g.D.Disk.told c.args.disk.now) t s is c.in-Ok.ensures.kept c.in-Ok.ensures.mends image;
+        own = own_raising 1 (base_fields s.state) c.args.rooms.layout (g.D.Disk.told c.args.disk.now) t s is c.in-Ok.ensures.kept c.in-Ok.ensures.answer c.in-Ok.ensures.mends image;
         part = subst (λ (o : Option Told). AddsPart es o (g.D.Disk.told c.upgrade_surveyed.new.disk)) synced adds;
       };
       anew = λ view image found distinct.
