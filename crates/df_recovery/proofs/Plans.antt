@@ -17,6 +17,7 @@ use Rattle.df_format.specs.Message.{Message}
 use Rattle.df_format.specs.Own.{place_in}
 use Rattle.df_format.specs.Valid.{IsInSlot, IsUnit}
 use Rattle.df_format.proofs.Laws.{valid_belongs}
+use Rattle.df_cases.specs.Cases.{decision_of}
 use Rattle.df_cases.specs.declared.cases.Decision.{Decision}
 use Rattle.df_cases.specs.declared.cases.Decision.TheVariants.{Behind, Empty, Lost, Take}
 use Rattle.df_units.specs.Sample.{reserved_header}
