@@ -17,9 +17,17 @@ use Rattle.df_units.specs.Bytes.{unit_at}
 use Rattle.df_units.proofs.Laws.{is_format}
 use Rattle.df_replica.specs.Below.{DataFile, FindsSince, IsLivedDisk, IsOpened, MayReopen, State as Replica, begun, shape, told_after}
 use Rattle.df_replica.specs.Following.{MayOpen}
-use Rattle.df_replica.specs.Serving.{format}
+use Rattle.df_replica.specs.Serving.{Firm, format}
 use Rattle.df_replica.proofs.Laws.{added_is_told, begun_may_open, first_goes_on, found_was_since, layout_shown, lived_layout, stopped_goes_on}
 use Rattle.df_upgrade.specs.Upgrading.{second}
+use Rattle.df_model.specs.Work.{Work}
+use Rattle.df_session.specs.Acknowledging.{KeepsAnswered}
+use Rattle.df_session.specs.Anew.{begun_after}
+use Rattle.df_session.specs.Begun.{begun_work}
+use Rattle.df_session.specs.Found.{FoundFile}
+use Rattle.df_session.specs.Keeping.{KeepsFile, over}
+use Rattle.df_session.specs.Laws.{CallsKeep}
+use Rattle.df_session.specs.Links.{CallsMade, events_made}
 use Rattle.df_session.specs.Opened.{StopsOpening}
 use Rattle.df_top.specs.Opening.{StopsBefore}
 use Rattle.df_top.specs.Outside.{Outside}
@@ -30,13 +38,14 @@ use Rattle.df_top.specs.declared.mode.Mode.TheVariants.{Format, Run, Recover, In
 use Rattle.df_top.specs.declared.status.Status.{Status}
 use Rattle.df_top.proofs.Laws.{runs_over_history, serves_over_history}
 use Rattle.df_lifetime.specs.Again.{Again, EveryLifeIsLived, EveryOpenFindsSince, IsSpared, LifeBeginsAnew, RunsKeepSince, ScriptsKeepSince, UpgradedMayBeDamaged}
-use Rattle.df_lifetime.specs.Again.Again.{Damaged, Halted, Once}
-use Rattle.df_lifetime.specs.Life.{GoesAlong, IsCarried, IsInOrder, Word}
+use Rattle.df_lifetime.specs.Again.Again.{Damaged, Halted, Once, Opened}
+use Rattle.df_lifetime.specs.Life.{AreMade, Extent, GoesAlong, IsCarried, IsInOrder, ShowsFile, Word}
 use Rattle.df_lifetime.specs.Life.Life.{Taken}
 use Rattle.df_lifetime.proofs.Along.{after_along, moment_along}
 use Rattle.df_lifetime.proofs.HurtLives.{start_stays}
 use Rattle.df_lifetime.proofs.HurtSessions.{runs_keep_on, scripts_keep_on}
 use Rattle.df_lifetime.proofs.Lives.{every_life_is_in_order, left_by}
+use Rattle.df_lifetime.proofs.Openings.{answers_begun, begins_begun, keeps_begun, made_honest, made_left, made_safe, made_start}
 
 abbrev pub IsSound : DataFile → List Log → Told → Type 0
 IsSound file older b = (file.version ≡ 2) × IsHonest b × IsLivedFile file older b.log
@@ -57,6 +66,37 @@ stopped_file file older b changes view is loose chance held lived =
       lived = lived safe;
     }
 
+-- a file that was opened, whatever was done to its disk before: its log is safe, whatever a stop leaves has a view, and its units are of earlier boots
+module _ (file : DataFile) (view : View) (t m : Told) (layout : Layout) (found : FoundFile layout t) (c : CallsMade) (extent : Extent) (shows : ShowsFile Firm file view t.shown) (calls : CallsKeep t found.replica found.mended found.mending c)
+    (made : AreMade extent (begun_after found.mending.events t) c m) where
+  abbrev start : Work
+  start = begun_work file t.shown view
+
+  abbrev base : Told
+  base = begun_after found.mending.events t
+
+  keeps : KeepsFile file Firm start base c.acts c.answers c.failed (over [] (events_made c) base)
+  keeps = keeps_begun Firm file view t layout found c shows calls
+
+  answered : KeepsAnswered file Firm start (over [] [] base) c
+  answered = answers_begun Firm file view t layout found c shows calls
+
+  opened_history : BeginsHistory (shape file) (unit_at file.layout file.cluster m.log.start)
+  opened_history =
+      subst (λ (image : Image). BeginsHistory (shape file) (unit_at file.layout file.cluster image)) (sym (made_start file Firm start base c keeps answered extent m made)) (begins_begun Firm file view t layout found c shows calls)
+
+  opened_sound : (file.version ≡ 2) × IsHonest m × IsLivedFile file [] m.log
+  opened_sound =
+      let safe : IsSafeDisk (format file) (shape file) m.log = made_safe file Firm start base c keeps answered extent m made in (
+        shows.version,
+        made_honest file Firm start base c keeps answered extent m made,
+        record {
+          safe = safe;
+          left = λ image gone chance. let has = (made_left file Firm start base c keeps answered extent t.shown m made image gone chance).has in (has.0, has.2);
+          lived = first_goes_on file m.log safe opened_history;
+        },
+      )
+
 abbrev IsFirst : List Log → Type 0
 IsFirst [] = Unit {0}
 IsFirst (log ∷ older) = ⊥
@@ -64,6 +104,7 @@ IsFirst (log ∷ older) = ⊥
 -- the first log begins a history
 begins : (file : DataFile) (older : List Log) (b : Told) → Again file older b → IsFirst older → BeginsHistory (shape file) (unit_at file.layout file.cluster b.log.start)
 begins _ _ _ (Once file first b chapters life first_image) is = subst (λ (m : Image). BeginsHistory (shape file) (unit_at file.layout file.cluster m)) (sym (start_stays file first b chapters life)) first_image
+begins _ _ _ (Opened file view t m layout found c extent shows calls made) is = opened_history file view t m layout found c extent shows calls made
 begins _ _ _ (Damaged file older b t n p m word life spared wrote until along honest) none = absurd none
 begins _ _ _ (Halted file older b changes life loose chance) is = begins file older b life is
 
@@ -149,6 +190,7 @@ every_life_is_lived _ _ _ (Once file first b chapters life first_image) =
         lived = first_goes_on file b.log order.safe start;
       },
     )
+every_life_is_lived _ _ _ (Opened file view t m layout found c extent shows calls made) = opened_sound file view t m layout found c extent shows calls made
 every_life_is_lived _ _ _ (Damaged file older b t n p m word life spared wrote until along honest) =
     let is = every_life_is_lived file older b life in
     (is.0, honest, word_lives file older b t n p m word is spared wrote until along)

@@ -18,7 +18,7 @@ use Rattle.df_lifetime.specs.Life.{GoesAlong}
 use Rattle.df_lifetime.specs.Life.Life.{Taken}
 use Rattle.df_lifetime.proofs.Along.{after_along, moment_along}
 use Rattle.df_lifetime.proofs.Files.{one_told}
-use Rattle.df_lifetime.proofs.Upgrades.{distinct_left}
+use Rattle.df_lifetime.proofs.Openings.{distinct_left}
 
 -- what shows the copy may be taken
 is_copied : (layout : Layout) (file : DataFile) (source : Image) (v : View) (image : Image) → ShowsCopy layout file source v image → AreDistinct (unit_at layout file.cluster image) → IsCopied layout file source v image

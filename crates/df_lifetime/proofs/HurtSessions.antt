@@ -26,6 +26,7 @@ use Rattle.df_replica.specs.HeldBlocks.{AreInputs}
 use Rattle.df_replica.specs.Serving.{Firm, Grade, StandsFor, Whole, format}
 use Rattle.df_replica.specs.Session.{Act, HasView, HoldsFor, IsMidway, answers_of, work_after}
 use Rattle.df_replica.proofs.Laws.{added_is_told, begun_may_open, same_goes_on, stopped_may_open}
+use Rattle.df_session.specs.Anew.{begun_after}
 use Rattle.df_session.specs.Begun.{begun_work}
 use Rattle.df_session.specs.Found.{FoundFile}
 use Rattle.df_session.specs.Laws.{CallsKeep}
@@ -36,13 +37,15 @@ use Rattle.df_top.specs.Acknowledging.{run_calls, script_calls}
 use Rattle.df_session.specs.Keeping.{KeepsFile, LeavesAll, over}
 use Rattle.df_top.specs.Outside.{Outside}
 use Rattle.df_lifetime.specs.Acknowledged.{AreThere}
-use Rattle.df_lifetime.specs.Hurt.{AreAnswered, HurtRunsKeep, HurtScriptsKeep, KeepsOn, NextFinds, RunsKeepOn, ScriptsKeepOn, at_end}
+use Rattle.df_lifetime.specs.Hurt.{AreAnswered, HurtRunsKeep, HurtScriptsKeep, KeepsOn, NextFinds, RunsKeepAnew, RunsKeepOn, ScriptsKeepAnew, ScriptsKeepOn, at_end}
+use Rattle.df_lifetime.specs.Life.{ShowsFile}
 use Rattle.df_lifetime.specs.There.{promised_in}
 use Rattle.df_lifetime.proofs.Acts.{ends_inputs, first_answers, front_and_rest, has_front, work_on}
 use Rattle.df_lifetime.proofs.Bases.{AnsweredOver, KeepsOver, told_over}
 use Rattle.df_lifetime.proofs.Files.{one_file, one_told}
 use Rattle.df_lifetime.proofs.Found.{front_inputs, front_there}
 use Rattle.df_lifetime.proofs.Lives.{left_by}
+use Rattle.df_lifetime.proofs.Openings.{answers_begun, keeps_begun, work_begun}
 use Rattle.df_lifetime.proofs.Orders.{now_left}
 
 -- ---- what an image has
@@ -113,17 +116,18 @@ module _ (file : DataFile) (g : Grade) (w : Work) (work : IsWork (shape file) (s
 
 -- ---- a session
 
-module _ (file : DataFile) (g : Grade) (view : View) (t base : Told) (same : base.shown ≡ t.shown) (may : MayOpen file view base) where
-  found_shown : IsFound (shape file) (unit_at file.layout file.cluster t.shown) view
-  found_shown =
-      let shows : now base.log ≡ base.shown = λ i sector. sym (may.honest.shows sector) i in
-      subst (λ (image : Image). IsFound (shape file) (unit_at file.layout file.cluster image) view) (shows ∙ same) may.found
+-- what a base finds that shows what is shown
+found_shown : (file : DataFile) (view : View) (t base : Told) → base.shown ≡ t.shown → MayOpen file view base → IsFound (shape file) (unit_at file.layout file.cluster t.shown) view
+found_shown file view t base same may =
+    let shows : now base.log ≡ base.shown = λ i sector. sym (may.honest.shows sector) i in
+    subst (λ (image : Image). IsFound (shape file) (unit_at file.layout file.cluster image) view) (shows ∙ same) may.found
 
+module _ (file : DataFile) (g : Grade) (view : View) (t base : Told) (version : file.version ≡ 2) where
   abbrev start : Work
   start = begun_work file t.shown view
 
   module _ (work : IsWork (shape file) (spelling file) start) (mending : List Event) (c : CallsMade) (keeps : KeepsFile file g start base c.acts c.answers c.failed (over mending (events_made c) base)) (answered : KeepsAnswered file g start (over mending [] base) c)
-      (from : c.old ≡ after_all mending (Some (did Sync t))) (to : c.new ≡ after_all (events_made c) c.old) where
+      (shows : (n : Told) → c.new ≡ Some n → (at_end mending c base).shown ≡ n.shown) where
     inputs : AreInputs (c.acts ++ list_of c.failed)
     inputs = ends_inputs c.from c.to c.old c.new c.acts c.answers c.failed c.calls
 
@@ -141,7 +145,7 @@ module _ (file : DataFile) (g : Grade) (view : View) (t base : Told) (same : bas
 
     ended : NoChanceOf (format file) last.log (now last.log) → NextFinds file g start c.acts c.answers (list_of c.failed) last
     ended chance =
-        next_ended file g start work may.version c.acts c.answers c.failed last (moments last.log (record { since = grew; until = extends_self last.log })).safe (subst IsHonest after_is keeps.honest)
+        next_ended file g start work version c.acts c.answers c.failed last (moments last.log (record { since = grew; until = extends_self last.log })).safe (subst IsHonest after_is keeps.honest)
         (subst (λ (x : Told). LeavesAll file g start c.acts c.failed x) after_is keeps.left) keeps.answered inputs chance
 
     midway : (k : ℕ) (m : Told) → IsMoment (did Sync base).log last.log m.log → AreAnswered k mending base m.log c → IsMidway file g (work_after file start (take k c.acts)) (drop k c.acts ++ list_of c.failed) m.log
@@ -152,18 +156,26 @@ module _ (file : DataFile) (g : Grade) (view : View) (t base : Told) (same : bas
     stopped : (k : ℕ) (m : Told) (changes : List (ℕ × List ℕ)) → IsMoment (did Sync base).log last.log m.log → AreAnswered k mending base m.log c → IsHonest m → AreLoose m.log.events changes → NoChanceOf (format file) m.log (changed changes (now m.log))
         → NextFinds file g start (take k c.acts) (take k c.answers) (drop k c.acts ++ list_of c.failed) (did (Stop changes) m)
     stopped k m changes moment were honest loose chance =
-        next_stopped file g start work may.version (take k c.acts) (take k c.answers) (ap (take k) keeps.answered ∙ first_answers file k start c.acts) (drop k c.acts ++ list_of c.failed) (take_inputs k c.acts (list_of c.failed) inputs)
+        next_stopped file g start work version (take k c.acts) (take k c.answers) (ap (take k) keeps.answered ∙ first_answers file k start c.acts) (drop k c.acts ++ list_of c.failed) (take_inputs k c.acts (list_of c.failed) inputs)
         m changes (midway k m moment were) honest loose chance
-
-    -- the disk shows what the base tells
-    shows : (n : Told) → c.new ≡ Some n → last.shown ≡ n.shown
-    shows n is =
-        let told : Told = at_end mending c t in
-        let one : told ≡ n = one_told c.new told n (told_over mending (events_made c) t c.old c.new from to) is in
-        same_goes_on (events_made c) (told_after mending (did Sync t)) (told_after mending (did Sync base)) (same_goes_on mending (did Sync t) (did Sync base) same) ∙ ap (λ (x : Told). x.shown) one
 
     keeps_on : KeepsOn file g start base mending c
     keeps_on = record { keeps = keeps; acknowledged = answered; shows = shows; ended = ended; stopped = stopped }
+
+-- ---- the disk shows what the base tells
+
+-- where it showed the same at the open
+shows_over : (mending : List Event) (c : CallsMade) (t base : Told) → base.shown ≡ t.shown → c.old ≡ after_all mending (Some (did Sync t)) → c.new ≡ after_all (events_made c) c.old → (n : Told) → c.new ≡ Some n → (at_end mending c base).shown ≡ n.shown
+shows_over mending c t base same from to n is =
+    let told : Told = at_end mending c t in
+    let one : told ≡ n = one_told c.new told n (told_over mending (events_made c) t c.old c.new from to) is in
+    same_goes_on (events_made c) (told_after mending (did Sync t)) (told_after mending (did Sync base)) (same_goes_on mending (did Sync t) (did Sync base) same) ∙ ap (λ (x : Told). x.shown) one
+
+-- and where it was begun at the end of that
+pub shows_begun : (mending : List Event) (c : CallsMade) (t : Told) → c.old ≡ after_all mending (Some (did Sync t)) → c.new ≡ after_all (events_made c) c.old → (n : Told) → c.new ≡ Some n → (at_end [] c (begun_after mending t)).shown ≡ n.shown
+shows_begun mending c t from to n is =
+    let one : at_end mending c t ≡ n = one_told c.new (at_end mending c t) n (told_over mending (events_made c) t c.old c.new from to) is in
+    same_goes_on (events_made c) (told_after mending (did Sync t)) (did Sync (begun_after mending t)) refl ∙ ap (λ (x : Told). x.shown) one
 
 -- ---- the laws
 
@@ -171,12 +183,12 @@ module _ (file : DataFile) (g : Grade) (view : View) (t base : Told) (same : bas
 calls_keep_on : (g : Grade) (file : DataFile) (view : View) (t base : Told) (found : FoundFile file.layout t) (c : CallsMade) → CallsKeep t found.replica found.mended found.mending c → c.old ≡ found.mended → c.new ≡ after_all (events_made c) c.old → base.shown ≡ t.shown
     → MayOpen file view base → StandsFor g (unit_at file.layout file.cluster t.shown) view → KeepsOn file g (begun_work file t.shown view) base found.mending.events c
 calls_keep_on g file view t base found c calls from adds same may stands =
-    let here = found_shown file g view t base same may in
+    let here = found_shown file view t base same may in
     let one : found.replica.file ≡ file = file_there file.layout t found ∙ one_file 2 file file.layout t.shown view found.found here found.is_opened in
     let there = subst (λ (f : DataFile). IsFound (shape f) (unit_at f.layout f.cluster t.shown) view) (sym one) here in
     let work : IsWork (shape file) (spelling file) (begun_work file t.shown view) = subst (λ (f : DataFile). IsWork (shape f) (spelling f) (begun_work f t.shown view)) one (calls.stands view there).0 in
-    keeps_on file g view t base same may work found.mending.events c (subst (λ (f : DataFile). KeepsOver f t c.acts c.answers c.failed found.mending.events (events_made c)) one calls.keeps g view base same may stands)
-    (subst (λ (f : DataFile). AnsweredOver f t found.mending.events c) one calls.acknowledged g view base same may stands) (from ∙ found.mending.told) adds
+    keeps_on file g view t base may.version work found.mending.events c (subst (λ (f : DataFile). KeepsOver f t c.acts c.answers c.failed found.mending.events (events_made c)) one calls.keeps g view base same may stands)
+    (subst (λ (f : DataFile). AnsweredOver f t found.mending.events c) one calls.acknowledged g view base same may stands) (shows_over found.mending.events c t base same (from ∙ found.mending.told) adds)
 
 pub scripts_keep_on : ScriptsKeepOn
 scripts_keep_on g file view t base old new status pace found serves same may stands = calls_keep_on g file view t base found (script_calls serves.session) serves.calls refl (ap (λ (o : Outside). o.told) serves.last_is ∙ serves.adds) same may stands
@@ -195,3 +207,17 @@ hurt_scripts_keep g file view t old new status pace found serves had same stands
 pub hurt_runs_keep : HurtRunsKeep
 hurt_runs_keep g file view t old new status seed count found works had same stands =
     runs_keep_on g file had.found t (begun t) old new status seed count found works refl (begun_may_open file had.found t (of_one file found.found had.of found.is_opened.of.version_is) (had.begins same)) stands
+
+-- ---- whatever was done before
+
+calls_keep_anew : (g : Grade) (file : DataFile) (view : View) (t : Told) (found : FoundFile file.layout t) (c : CallsMade) → CallsKeep t found.replica found.mended found.mending c → c.old ≡ found.mended → c.new ≡ after_all (events_made c) c.old → ShowsFile g file view t.shown
+    → KeepsOn file g (begun_work file t.shown view) (begun_after found.mending.events t) [] c
+calls_keep_anew g file view t found c calls from adds shows =
+    keeps_on file g view t (begun_after found.mending.events t) shows.version (work_begun g file view t file.layout found c shows calls) [] c (keeps_begun g file view t file.layout found c shows calls) (answers_begun g file view t file.layout found c shows calls)
+    (shows_begun found.mending.events c t (from ∙ found.mending.told) adds)
+
+pub scripts_keep_anew : ScriptsKeepAnew
+scripts_keep_anew g file view t old new status pace found serves shows = calls_keep_anew g file view t found (script_calls serves.session) serves.calls refl (ap (λ (o : Outside). o.told) serves.last_is ∙ serves.adds) shows
+
+pub runs_keep_anew : RunsKeepAnew
+runs_keep_anew g file view t old new status seed count found works shows = calls_keep_anew g file view t found (run_calls works.worked) works.calls refl works.calls.adds shows

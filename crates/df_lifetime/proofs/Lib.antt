@@ -4,6 +4,7 @@ mod Haves
 mod Along
 mod Orders
 mod Bases
+mod Openings
 mod Lives
 mod Blank
 mod Next
@@ -11,6 +12,7 @@ mod Done
 mod Promises
 mod Found
 mod HurtSessions
+mod OpenLives
 mod HurtLives
 mod Reborn
 mod Upgrades

@@ -51,13 +51,14 @@ use Rattle.df_top.specs.declared.mode.Mode.TheVariants.{Format, Run, Recover, In
 use Rattle.df_top.specs.declared.status.Status.{Status}
 use Rattle.df_top.specs.declared.status.Status.TheVariants.{Done, Found, Words, Script, Refused, DiskFault, ReadFault, WriteFault, Memory}
 use Rattle.df_lifetime.specs.Life.{Chapter, EveryLifeGoesOn, EveryLifeIsInOrder, EveryWordGoesAlong, GoesAlong, HaveAnswers, IsInOrder, MayHave, OtherWord, Outcome, ToAMoment, ToItsEnd, Word, calls_in, calls_made, calls_of, calls_to, chapter_of, chapters_of, outcome_of, sessions_in, word_calls}
-use Rattle.df_lifetime.specs.Life.Life.{Begun, Ended, Made, Ran, Spared, Stopped, Taken}
+use Rattle.df_lifetime.specs.Life.Life.{Begun, Ended, Made, Opened, Ran, Spared, Stopped, Taken}
 use Rattle.df_lifetime.specs.Life.OtherWord.{ToFormat, ToUpgrade}
 use Rattle.df_lifetime.proofs.Bases.{AnsweredOver, KeepsOver, told_over}
 use Rattle.df_lifetime.proofs.Along.{after_along, along_on, answered_along, extends_along, grows, moment_along, one_end}
 use Rattle.df_lifetime.proofs.Acts.{HasFront, ends_inputs, first_answers, front_and_rest, has_front, work_on}
 use Rattle.df_lifetime.proofs.Files.{one_file, one_told}
 use Rattle.df_lifetime.proofs.Haves.{begun_bare, had_on}
+use Rattle.df_lifetime.proofs.Openings.{opened_in_order}
 use Rattle.df_lifetime.proofs.Orders.{Has, Order, after_barrier, goes_on, here, in_order, made_in_order, made_safe, may, none_referenced, order_of, same_moments, shows, stands_shown, synced, synced_moments, taken_in_order}
 
 -- the word `format` leaves a disk as it is whose superblock isn't blank
@@ -465,6 +466,7 @@ every_life_is_in_order _ _ _ _ (Begun layout cluster t n m status changes makabl
     stopped_order file (first_view layout cluster) [] m refl safe there changes loose chance
     (record { view = first_view layout cluster; had = keeps_self (first_view layout cluster); held = held; stands = none_referenced file (changed changes (now m.log)) })
 every_life_is_in_order _ _ _ _ (Taken file first t may) = taken_in_order file first t may
+every_life_is_in_order _ _ _ _ (Opened file first t m layout found c extent shows calls made) = opened_in_order file first t m layout found c extent shows calls made
 every_life_is_in_order _ _ _ _ (Ran file first b m t n chapters word life chance along) =
     let is = every_life_is_in_order file first b chapters life in
     let comes = word_comes file first chapters b is chance t along.shown n word in

@@ -16,7 +16,6 @@ use Rattle.df_theory.specs.UnitLog.{UnitLog}
 use Rattle.df_theory.specs.Units.{BlockPlace, Units}
 use Rattle.df_theory.specs.Upgrades.{as_version}
 use Rattle.df_theory.specs.View.{View}
-use Rattle.df_theory.proofs.Laws.{pool_pools}
 use Rattle.df_units.specs.Bytes.{unit_at}
 use Rattle.df_model.specs.Result.{AgreeReads}
 use Rattle.df_replica.specs.Below.{AreDistinct, DataFile, State as Replica, begun, shape, told_after}
@@ -36,6 +35,7 @@ use Rattle.df_lifetime.specs.Upgraded.{DoneIsUpgraded, IsOld, IsUpgraded, Stoppe
 use Rattle.df_lifetime.proofs.Along.{after_along, moment_along}
 use Rattle.df_lifetime.proofs.Reborn.{begins_history}
 use Rattle.df_lifetime.proofs.Files.{one_file, one_told}
+use Rattle.df_lifetime.proofs.Openings.{distinct_left}
 
 -- ---- blocks
 
@@ -44,12 +44,6 @@ stands_on : (image start : Units) (v : View) → ((a : ℕ) → image (BlockPlac
 stands_on image start v same stands a c is =
     let there = stands a c is in
     (there.0, same a ∙ there.1, there.2, there.3)
-
--- no two units that came about by no chance have one checksum
-pub distinct_left : (file : DataFile) (log : Log) (image : Image) → NoChanceOf (format file) log image → AreDistinct (unit_at file.layout file.cluster image)
-distinct_left file log image chance place other x y one two =
-    let units : UnitLog = units_log (format file) log in
-    chance.distinct place other x y (pool_pools units.start units.events place x (chance.pooled place x one)) (pool_pools units.start units.events other y (chance.pooled other y two))
 
 -- ---- what an image is then
 

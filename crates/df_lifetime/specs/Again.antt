@@ -5,6 +5,7 @@ use Rattle.df_base.specs.Log.{AreLoose, Log, Stop, Sync, add, now}
 use Rattle.df_base.specs.Moments.{Extends}
 use Rattle.df_disk.specs.Adds.{AddsPart}
 use Rattle.df_disk.specs.Told.{IsHonest, Told, did}
+use Rattle.df_layout.specs.declared.layout.Layout.{Layout}
 use Rattle.df_history.specs.Histories.{MayHurtCopies, NoChanceOver}
 use Rattle.df_history.specs.OpenLaws.{BeginsHistory}
 use Rattle.df_theory.specs.Device.{NoChanceOf}
@@ -12,10 +13,12 @@ use Rattle.df_theory.specs.Holds.{Stands}
 use Rattle.df_theory.specs.View.{View}
 use Rattle.df_units.specs.Bytes.{unit_at}
 use Rattle.df_replica.specs.Below.{DataFile, FindsSince, IsOpened, State as Replica, begun, shape, units_logs}
-use Rattle.df_replica.specs.Serving.{Grade, StandsFor, format}
+use Rattle.df_replica.specs.Serving.{Firm, Grade, StandsFor, format}
 use Rattle.df_upgrade.specs.Upgrading.{second}
 use Rattle.df_session.specs.Begun.{begun_work}
+use Rattle.df_session.specs.Anew.{begun_after}
 use Rattle.df_session.specs.Found.{FoundFile}
+use Rattle.df_session.specs.Laws.{CallsKeep}
 use Rattle.df_session.specs.Links.{CallsMade}
 use Rattle.df_pace.specs.declared.pace.Pace.{Pace}
 use Rattle.df_top.specs.Acknowledging.{run_calls, script_calls}
@@ -25,7 +28,7 @@ use Rattle.df_top.specs.Run.{ServesScript}
 use Rattle.df_top.specs.Working.{WorksThrough}
 use Rattle.df_top.specs.declared.status.Status.{Status}
 use Rattle.df_lifetime.specs.Hurt.{KeepsOn, began_with}
-use Rattle.df_lifetime.specs.Life.{Chapter, GoesAlong, Life, OtherWord, Word}
+use Rattle.df_lifetime.specs.Life.{AreMade, Chapter, Extent, GoesAlong, Life, OtherWord, ShowsFile, Word}
 use Rattle.df_lifetime.specs.Upgraded.{IsUpgraded}
 
 -- What a disk shows behind these logs of a file, whatever was done to its sectors: no unit came about by chance, and at most two superblock copies are hurt, none where the four weren't equal.
@@ -38,6 +41,9 @@ pub record IsSpared (file : DataFile) (log : Log) (older : List Log) (image : Im
 pub data Again : DataFile → List Log → Told → Type 0 where
   -- a life without damage, on a disk that was empty at first, or held what an upgrade or a copy leaves
   Once : (file : DataFile) (first : View) (b : Told) (chapters : List Chapter) (life : Life file first b chapters) → BeginsHistory (shape file) (unit_at file.layout file.cluster (began_with file first b chapters life)) → Again file [] b
+  -- or an open of it answered, whatever was done to its disk before, and calls were made on it, to their end or up to a moment
+  Opened : (file : DataFile) (view : View) (t m : Told) (layout : Layout) (found : FoundFile layout t) (c : CallsMade) (extent : Extent) → ShowsFile Firm file view t.shown → CallsKeep t found.replica found.mended found.mending c
+      → AreMade extent (begun_after found.mending.events t) c m → Again file [] m
   -- then sectors were damaged, lost or swapped, or none were, and a word was run over what the disk showed, to its end or up to a moment. It wrote to the file, so its open began a log at its barrier; a word that
   -- wrote nothing leaves a file as it was
   Damaged : (file : DataFile) (older : List Log) (b t n p m : Told) (word : Word t n) → Again file older b → IsSpared file b.log older t.shown → (AddsPart (Sync ∷ []) (Some t) (Some n) → ⊥)

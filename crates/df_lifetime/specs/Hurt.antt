@@ -2,9 +2,10 @@
 -- whatever life a file has had, it may be hurt.
 use Rattle.std.specs.Prelude.{◌≡◌, ℕ, zero, suc, List, [], ◌++◌, take, drop, Some}
 use Rattle.df_base.specs.Image.{Image, IsImage, blank, changed}
-use Rattle.df_base.specs.Log.{AreLoose, Event, Log, Stop, Sync, add, now}
+use Rattle.df_base.specs.Log.{AreLoose, Event, IsLeft, Log, Stop, Sync, add, now}
 use Rattle.df_base.specs.Moments.{IsMoment}
 use Rattle.df_disk.specs.Told.{IsHonest, Told, did}
+use Rattle.df_layout.specs.declared.layout.Layout.{Layout}
 use Rattle.df_theory.specs.Device.{NoChanceOf}
 use Rattle.df_theory.specs.View.{View}
 use Rattle.df_units.specs.Bytes.{unit_at}
@@ -16,7 +17,9 @@ use Rattle.df_replica.specs.Following.{MayOpen}
 use Rattle.df_replica.specs.Serving.{Grade, StandsFor, format}
 use Rattle.df_replica.specs.Session.{Act, work_after}
 use Rattle.df_session.specs.Begun.{begun_work}
+use Rattle.df_session.specs.Anew.{begun_after}
 use Rattle.df_session.specs.Found.{FoundFile}
+use Rattle.df_session.specs.Laws.{CallsKeep}
 use Rattle.df_session.specs.Links.{CallsMade, events_made, list_of}
 use Rattle.df_session.specs.Acknowledging.{KeepsAnswered, WereAnswered}
 use Rattle.df_top.specs.Acknowledging.{run_calls, script_calls}
@@ -27,9 +30,9 @@ use Rattle.df_top.specs.Run.{ServesScript}
 use Rattle.df_top.specs.Working.{WorksThrough}
 use Rattle.df_top.specs.declared.status.Status.{Status}
 use Rattle.df_lifetime.specs.Acknowledged.{AreThere}
-use Rattle.df_lifetime.specs.Life.{Chapter, Life, MayHave}
+use Rattle.df_lifetime.specs.Life.{Chapter, Life, MayHave, ShowsFile}
 use Rattle.df_lifetime.specs.There.{promised_in}
-use Rattle.df_lifetime.specs.Life.Life.{Begun, Ended, Made, Ran, Spared, Stopped, Taken}
+use Rattle.df_lifetime.specs.Life.Life.{Begun, Ended, Made, Opened, Ran, Spared, Stopped, Taken}
 
 -- The next open finds the view after all of these acts, which were answered so, and perhaps some of those behind them, from the first of these on: the file may be opened by
 -- this log, what was answered is there, and at the higher grade so is each block that is referenced.
@@ -82,13 +85,32 @@ HurtRunsKeep =
     (g : Grade) (file : DataFile) (view : View) (t : Told) (old new : Outside) (status : Status) (seed count : ℕ) (found : FoundFile file.layout t) (works : WorksThrough seed count file.layout t found old new status) (had : FindsHad file view t found.found) → (had.found.checkpoint ≡ view.checkpoint)
     → StandsFor g (unit_at file.layout file.cluster t.shown) had.found → KeepsOn file g (begun_work file t.shown had.found) (begun t) found.mending.events (run_calls works.worked)
 
+-- Whatever was done to the disk before, and whatever its copies show: where an open answered, all that is answered after it is kept by the log that is begun anew at its end. Nothing is asked of the start but that the
+-- file is found, and that one checksum is one unit.
+abbrev pub ScriptsKeepAnew : Type 0
+ScriptsKeepAnew =
+    (g : Grade) (file : DataFile) (view : View) (t : Told) (old new : Outside) (status : Status) (pace : Pace) (found : FoundFile file.layout t) (serves : ServesScript pace file.layout t found old new status) → ShowsFile g file view t.shown
+    → KeepsOn file g (begun_work file t.shown view) (begun_after found.mending.events t) [] (script_calls serves.session)
+
+abbrev pub RunsKeepAnew : Type 0
+RunsKeepAnew =
+    (g : Grade) (file : DataFile) (view : View) (t : Told) (old new : Outside) (status : Status) (seed count : ℕ) (found : FoundFile file.layout t) (works : WorksThrough seed count file.layout t found old new status) → ShowsFile g file view t.shown
+    → KeepsOn file g (begun_work file t.shown view) (begun_after found.mending.events t) [] (run_calls works.worked)
+
+-- And a stop within such an open leaves the view that was found, but for its boot, by the log that is begun anew at its barrier: so the next open begins anew.
+abbrev pub StoppedOpensBegin : Type 0
+StoppedOpensBegin =
+    (g : Grade) (file : DataFile) (view : View) (t m : Told) (image : Image) (layout : Layout) (found : FoundFile layout t) (c : CallsMade) → ShowsFile g file view t.shown → CallsKeep t found.replica found.mended found.mending c
+    → IsMoment (begun t).log (told_after found.mending.events (begun t)).log m.log → IsLeft m.log image → NoChanceOf (format file) m.log image → SomeKeeps view (λ next. ShowsFile g file next image)
+
 -- ---- damage at any time of a life
 
--- what the disk of a life held at first: as its making began, the start of the log; or as the file was taken
+-- what the disk of a life held at first: as its making began, the start of the log; or as the file was taken, or at the end of its open
 abbrev pub began_with : (file : DataFile) (first : View) (t : Told) (chapters : List Chapter) → Life file first t chapters → Image
 began_with _ _ _ _ (Made layout cluster t n makable honest word) = t.log.start
 began_with _ _ _ _ (Begun layout cluster t n m status changes makable honest word wanting moment there loose chance held) = t.log.start
 began_with _ _ _ _ (Taken file first t may) = t.shown
+began_with _ _ _ _ (Opened file first t m layout found c extent shows calls made) = (begun_after found.mending.events t).shown
 began_with _ _ _ _ (Ran file first b m t n chapters word life chance along) = began_with file first b chapters life
 began_with _ _ _ _ (Ended file first b m t p n chapters word answered life chance until along honest had) = began_with file first b chapters life
 began_with _ _ _ _ (Spared file first b m t p n chapters word life chance until along honest) = began_with file first b chapters life

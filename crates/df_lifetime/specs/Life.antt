@@ -2,7 +2,7 @@
 use Rattle.std.specs.Prelude.{◌≡◌, ◌⊎◌, ◌<◌, ◌^◌, ℕ, zero, suc, List, [], ◌∷◌, ◌++◌, take, drop, Option, Some, None}
 use Rattle.std.proofs.Common.{inl, inr}
 use Rattle.df_base.specs.Image.{Image, IsImage, changed}
-use Rattle.df_base.specs.Log.{AreLoose, Event, IsLeft, Log, Stop, now}
+use Rattle.df_base.specs.Log.{AreLoose, Event, IsLeft, Log, Stop, Sync, now}
 use Rattle.df_base.specs.Moments.{Extends, IsMoment}
 use Rattle.df_disk.specs.Told.{IsHonest, Told, did}
 use Rattle.df_layout.specs.declared.layout.Layout.{Layout}
@@ -16,15 +16,18 @@ use Rattle.df_units.specs.Making.{first_view}
 use Rattle.df_model.specs.Commands.{Answer}
 use Rattle.df_model.specs.Views.{KeepsView}
 use Rattle.df_model.specs.Work.{kept}
-use Rattle.df_replica.specs.Below.{shape, DataFile, begun}
+use Rattle.df_replica.specs.Below.{AreDistinct, DataFile, begun, shape, told_after}
 use Rattle.df_replica.specs.Following.{MayOpen}
 use Rattle.df_replica.specs.HeldBlocks.{AreInputs}
 use Rattle.df_replica.specs.Making.{MayMakeOn, file_of}
-use Rattle.df_replica.specs.Serving.{format}
+use Rattle.df_replica.specs.Serving.{Grade, StandsFor, Whole, format}
 use Rattle.df_replica.specs.Session.{Act, answers_of, work_after}
 use Rattle.df_session.specs.Begun.{begun_work}
+use Rattle.df_session.specs.Anew.{begun_after}
 use Rattle.df_session.specs.Found.{FoundFile}
-use Rattle.df_session.specs.Links.{CallsMade, list_of}
+use Rattle.df_session.specs.Keeping.{over}
+use Rattle.df_session.specs.Laws.{CallsKeep}
+use Rattle.df_session.specs.Links.{CallsMade, events_made, list_of}
 use Rattle.df_session.specs.Acknowledging.{WereAnswered}
 use Rattle.df_top.specs.Acknowledging.{run_calls, script_calls}
 use Rattle.df_top.specs.Formats.{Formats, MakesFile}
@@ -193,6 +196,19 @@ pub record MayTake (file : DataFile) (view : View) (image : Image) : Type 0 wher
   pub begins : MayBegin file view image
   pub stands : Stands (unit_at file.layout file.cluster image) view
 
+-- A file of version 2 is shown: an open finds this view in the image, at the higher grade with each block that it references, and one checksum is one unit. Nothing is asked of its copies.
+pub record ShowsFile (g : Grade) (file : DataFile) (view : View) (image : Image) : Type 0 where
+  pub version : file.version ≡ 2
+  pub whole : IsImage image
+  pub found : IsFound (shape file) (unit_at file.layout file.cluster image) view
+  pub distinct : AreDistinct (unit_at file.layout file.cluster image)
+  pub stands : StandsFor g (unit_at file.layout file.cluster image) view
+
+-- What the log tells that was begun at the end of an open: after all calls that were made then, or at a moment of them before which this many were answered.
+abbrev pub AreMade : Extent → (b : Told) → CallsMade → (m : Told) → Type 0
+AreMade ToItsEnd b c m = m ≡ told_after (events_made c) (did Sync b)
+AreMade (ToAMoment k) b c m = WereAnswered k (over [] [] b) m.log c × Extends (told_after (events_made c) (did Sync b)).log m.log × IsHonest m
+
 -- The life of a file so far: which file it is, with which view it began, its log since then and what that shows, and the sessions that served it, the newest first.
 pub data Life : DataFile → (first : View) → Told → List Chapter → Type 0 where
   -- it was made, on an honest disk on which a file may be made, as on one that was never written: it is the file of this layout and cluster that the word makes
@@ -204,6 +220,9 @@ pub data Life : DataFile → (first : View) → Told → List Chapter → Type 0
       → Life (file_of layout cluster makable.named) (first_view layout cluster) (did (Stop changes) m) []
   -- or it was there, as one is that was upgraded, or copied: its log begins with what the disk shows
   Taken : (file : DataFile) (first : View) (t : Told) → MayTake file first t.shown → Life file first (begun t) []
+  -- or it was opened, whatever was done to its disk before, and calls were made on it, to their end or up to a moment: its log begins with what the disk shows at the end of that open
+  Opened : (file : DataFile) (first : View) (t m : Told) (layout : Layout) (found : FoundFile layout t) (c : CallsMade) (extent : Extent) → ShowsFile Whole file first t.shown → CallsKeep t found.replica found.mended found.mending c
+      → AreMade extent (begun_after found.mending.events t) c m → Life file first m (chapter_of extent t.shown c ∷ [])
   -- then a word was run to its end, whatever its status; what was shown as it began did not come about by chance
   Ran : (file : DataFile) (first : View) (b m t n : Told) (chapters : List Chapter) (word : Word t n) → Life file first b chapters → NoChanceOf (format file) b.log (now b.log) → GoesAlong t n b m → Life file first m (sessions_in ToItsEnd t n word ++ chapters)
   -- or the program was ended at a moment of it, before or within any call of the disk, when so many of its calls were answered, and the disk goes on telling
@@ -248,3 +267,9 @@ abbrev pub EveryWordGoesAlong : Type 0
 EveryWordGoesAlong =
     (file : DataFile) (first : View) (b t n : Told) (chapters : List Chapter) → Life file first b chapters → NoChanceOf (format file) b.log (now b.log) → b.shown ≡ t.shown → Word t n ⊎ OtherWord t n
     → (m : Told) × GoesAlong t n b m × (b ≡ t → m ≡ n)
+
+-- A life begins at the end of any open that answered, whatever was done to the disk before, with the calls that the word made on it; and its log shows what the disk shows.
+abbrev pub EveryOpenBegins : Type 0
+EveryOpenBegins =
+    (file : DataFile) (first : View) (t n : Told) (word : Word t n) (c : CallsMade) → ShowsFile Whole file first t.shown → calls_made t n word ≡ Some c
+    → (m : Told) × Life file first m (chapter_of ToItsEnd t.shown c ∷ []) × (m.shown ≡ n.shown)

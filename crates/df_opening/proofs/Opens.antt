@@ -102,7 +102,7 @@ mending_aside file table mends f members a =
     steps_join headers copies (BlockPlace a) None ∙ ap (unit_after copies (BlockPlace a)) (headers_aside a table (sectors_of file.layout mends)) ∙ copies_aside a 0 f members
 
 -- nor one of the boot update
-opening_aside : (s : Survey) (a : ℕ) → unit_after (opening_steps s) (BlockPlace a) None ≡ None
+pub opening_aside : (s : Survey) (a : ℕ) → unit_after (opening_steps s) (BlockPlace a) None ≡ None
 opening_aside s a =
     let first = mending_steps s.state.file.layout s.state.headers s.mends s.state.fields s.chosen.members in
     let update = update_steps (put_copies (boot_fields s.state)) in

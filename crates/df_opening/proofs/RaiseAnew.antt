@@ -1,6 +1,6 @@
 -- What an open does behind its survey keeps the bare view in a log that is begun anew, whatever the copies showed.
-use Rattle.std.proofs.Common.{◌≡◌, ◌⊎◌, inl, ℕ, ◌<◌, ◌≤◌, ◌^◌, List, length, Option, Some, None, ◌∙◌, ap, subst, arith, refl, sym}
-use Rattle.std.proofs.lemmas.Bool.{and_parts, ltb-true}
+use Rattle.std.proofs.Common.{◌≡◌, ◌⊎◌, inl, inr, ℕ, ◌<◌, ◌≤◌, ◌^◌, List, [], ◌∷◌, length, Option, Some, None, ◌∙◌, ap, subst, arith, refl, sym}
+use Rattle.std.proofs.lemmas.Bool.{and_parts, cases_lt, ltb-true}
 use Rattle.std.proofs.lemmas.Option.{slice_get_within}
 use Rattle.df_base.specs.Log as Log
 use Rattle.df_base.specs.Image.{Image, IsImage, blank}
@@ -10,20 +10,24 @@ use Rattle.df_disk.specs.Told.{Told}
 use Rattle.df_format.specs.Copies.{content_with}
 use Rattle.df_format.specs.declared.header.Header.{Header}
 use Rattle.df_theory.specs.Units
-use Rattle.df_theory.specs.Units.{Content, CopyPlace, CopyUnit, HeaderPlace, HeaderUnit}
+use Rattle.df_theory.specs.Units.{AnyUnit, BlockPlace, Content, CopyPlace, CopyUnit, HeaderPlace, HeaderUnit, Place, or_else}
 use Rattle.df_theory.specs.CopyPuts.{PutsCopies, update_steps}
-use Rattle.df_theory.specs.Device.{AreSteps, units_log}
+use Rattle.df_theory.specs.Device.{AreSteps, NoChanceOf, units_log}
 use Rattle.df_theory.specs.Found.{AreOfPlaces, IsFound}
+use Rattle.df_theory.specs.Holds.{Stands}
 use Rattle.df_theory.specs.Next.{IsSameBare, booted}
 use Rattle.df_theory.specs.Chance.{EachLeft}
 use Rattle.df_theory.specs.MendLaws.{mend_steps}
-use Rattle.df_theory.specs.Runs.{AtEach, Step, after_steps}
+use Rattle.df_theory.specs.Runs.{AtEach, Puts, Step, Syncs, after_steps}
 use Rattle.df_theory.specs.Shape.{Shape}
 use Rattle.df_theory.specs.Upgrades as UnitsUpgrades
-use Rattle.df_theory.specs.Upgrades.{IsCleanBeyond, MayRaise, raise_steps}
+use Rattle.df_theory.specs.Upgrades.{BeginsRaised, EndsRaised, IsCleanBeyond, MayRaise, of_version, raise_steps}
 use Rattle.df_theory.specs.UnitLog.{UnitLog, now}
 use Rattle.df_theory.specs.View.{View}
-use Rattle.df_theory.proofs.Laws.{after_append, firm_units, moments, now_units, open_law}
+use Rattle.df_theory.specs.WholeLaws.{AllSpare, IsStanding}
+use Rattle.df_theory.proofs.Laws.{after_append, firm_units, moments, now_units, open_law, raise_ends_law, stands_law}
+use Rattle.df_history.specs.Lives.{Starts}
+use Rattle.df_history.specs.OpenLaws.{BeginsHistory}
 use Rattle.df_units.specs.Bytes.{unit_at}
 use Rattle.df_units.specs.Meaning.{content_of, layout_of}
 use Rattle.df_units.specs.Puts.{put_copies}
@@ -34,7 +38,7 @@ use Rattle.df_journal.specs.Append.{ShowsRing}
 use Rattle.df_model.specs.Boots.{Raises}
 use Rattle.df_model.specs.Making.{boot_content}
 use Rattle.df_model.specs.Memory.{Memory, memory_of}
-use Rattle.df_model.specs.Sense.{IsVersionTwo, IsWork}
+use Rattle.df_model.specs.Sense.{IsBacked, IsVersionTwo, IsWork}
 use Rattle.df_model.specs.Laws.{IsKeptBy}
 use Rattle.df_model.specs.Work.{Work, raised}
 use Rattle.df_model.proofs.Laws.{found_law as sense_found, raised_kept_law, raised_law}
@@ -42,14 +46,15 @@ use Rattle.df_damage.specs.Anew.{begun, told_after}
 use Rattle.df_damage.specs.Below.{DataFile, IsState, Represents, boot_fields, memory, shape, spelling}
 use Rattle.df_damage.specs.Plan.{AreDistinct, header_or_none, headers_in}
 use Rattle.df_damage.proofs.Laws.{added_is_told, begun_is_honest, honest_stays}
-use Rattle.df_opening.specs.Keeping.{format}
+use Rattle.df_opening.specs.Keeping.{Firm, Grade, KeptFor, StandsFor, Whole, format}
 use Rattle.df_opening.specs.Mending.{StaysFound, begun_state, first_state, raised_state, sector_puts, sectors_of}
 use Rattle.df_opening.specs.Raising.{IsPlannedOf, RaisesAnew, opening_events, opening_steps, raised_content}
 use Rattle.df_opening.specs.Survey.{Survey}
 use Rattle.df_opening.proofs.Mendable.{IsPlannedIn, content_is, planned_in}
 use Rattle.df_opening.proofs.MendSteps.{kept as kept_there, slot_ends}
-use Rattle.df_opening.proofs.Opens.{codec_of, second_found}
+use Rattle.df_opening.proofs.Opens.{codec_of, opening_aside, second_found}
 use Rattle.df_opening.proofs.RaiseSteps.{raised_is, sum_of}
+use Rattle.df_opening.proofs.StepShows.{some_stays, unit_after}
 
 -- there are four copies
 beyond_four : (file : DataFile) (image : Image) (n : ℕ) → 4 ≤ n → unit_at file.layout file.cluster image (CopyPlace n) ≡ None
@@ -60,9 +65,24 @@ beyond_four file image n past =
 pub clean_beyond : (file : DataFile) (image : Image) (view : View) → IsCleanBeyond (unit_at file.layout file.cluster image) view
 clean_beyond file image view n c past is = let none : None ≡ Some (CopyUnit c) = sym (beyond_four file image n past) ∙ is in absurd (cc)
 
-module _ (view : View) (s : Survey) (base : Told) (four : length s.chosen.members ≡ 4) (version : s.state.file.version ≡ 2) (is : IsState s.state) (unspent : s.state.fields.boot < 2 ^ 62)
+-- steps that put no unit at a place
+no_put : (ss : List Step) (place : Place) (o : Option AnyUnit) → unit_after ss place (or_else o None) ≡ None → (o ≡ None) × (unit_after ss place None ≡ None)
+no_put ss place None none = (refl, none)
+no_put ss place (Some y) none = absurd (some_stays ss place y none)
+
+-- spare what a view references, where they put no block
+spared : (v : View) (ss : List Step) → ((a : ℕ) → unit_after ss (BlockPlace a) None ≡ None) → AllSpare v ss
+spared v [] none = tt
+spared v ((Puts put) ∷ ss) none = (λ a c is. (no_put ss (BlockPlace a) (put (BlockPlace a)) (none a)).0, spared v ss (λ a. (no_put ss (BlockPlace a) (put (BlockPlace a)) (none a)).1))
+spared v (Syncs ∷ ss) none = spared v ss none
+
+same_unit : (c d : Content) → Some (CopyUnit c) ≡ Some (CopyUnit d) → c ≡ d
+same_unit c d is = cc
+
+module _ (g : Grade) (view : View) (s : Survey) (base : Told) (four : length s.chosen.members ≡ 4) (version : s.state.file.version ≡ 2) (is : IsState s.state) (unspent : s.state.fields.boot < 2 ^ 62)
     (plan : IsPlannedOf s (begun base)) (whole : IsImage base.shown) (found : IsFound (shape s.state.file) (unit_at s.state.file.layout s.state.file.cluster base.shown) view)
-    (distinct : AreDistinct (unit_at s.state.file.layout s.state.file.cluster base.shown)) (stands : Represents s.state (first_state s.state.file base view)) (steps : AreSteps (format s.state.file) (opening_events s) (opening_steps s)) where
+    (distinct : AreDistinct (unit_at s.state.file.layout s.state.file.cluster base.shown)) (referenced : StandsFor g (unit_at s.state.file.layout s.state.file.cluster base.shown) view)
+    (stands : Represents s.state (first_state s.state.file base view)) (steps : AreSteps (format s.state.file) (opening_events s) (opening_steps s)) where
   abbrev file : DataFile
   file = s.state.file
 
@@ -124,22 +144,39 @@ module _ (view : View) (s : Survey) (base : Told) (four : length s.chosen.member
   added : end.log ≡ adds (opening_events s) (begun base).log
   added = all_added (opening_events s) (begun base) end (sym (added_is_told (opening_events s) (begun base)))
 
-  -- and so of that of sectors, each of which is one of a disk
-  moments_both : EachMoment (begun base).log end.log (λ l. Log.IsLog l × StaysFound file view (boot_fields s.state) l)
+  -- at a moment of the log of sectors each image left has the bare view
+  abbrev Found : Log.Log → Type 0
+  Found l =
+      (m : Image) → Log.IsLeft l m → NoChanceOf (format file) l m
+      → IsFound sh (unit_at file.layout file.cluster m) view ⊎ IsFound sh (unit_at file.layout file.cluster m) (booted view (raised_content s.state))
+
+  -- and shows what it references
+  abbrev Shown : Grade → Log.Log → Type 0
+  Shown grade l = (m : Image) → Log.IsLeft l m → NoChanceOf (format file) l m → StandsFor grade (unit_at file.layout file.cluster m) view
+
+  -- so it is, and each is a log of a disk
+  moments_both : EachMoment (begun base).log end.log (λ l. Log.IsLog l × Found l)
   moments_both =
-      subst (λ (l : Log.Log). EachMoment (begun base).log l (λ m. Log.IsLog m × StaysFound file view (boot_fields s.state) m)) (sym added)
-      (moments (format file) (λ log. EachLeft log (λ left. IsFound sh left view ⊎ IsFound sh left (booted view d))) (λ l. Log.IsLog l × StaysFound file view (boot_fields s.state) l)
+      subst (λ (l : Log.Log). EachMoment (begun base).log l (λ m. Log.IsLog m × Found m)) (sym added)
+      (moments (format file) (λ log. EachLeft log (λ left. IsFound sh left view ⊎ IsFound sh left (booted view d))) (λ l. Log.IsLog l × Found l)
       (λ l is left. (
         is,
-        record {
-          left = λ m gone chance.
-              subst (λ (c : Content). IsFound sh (unit_at file.layout file.cluster m) view ⊎ IsFound sh (unit_at file.layout file.cluster m) (booted view c)) (sym content_is_d)
-              (left (unit_at file.layout file.cluster m) (firm_units (format file) (is_format file.layout file.cluster) l m gone.kept) chance);
-        },
+        λ m gone chance.
+            subst (λ (c : Content). IsFound sh (unit_at file.layout file.cluster m) view ⊎ IsFound sh (unit_at file.layout file.cluster m) (booted view c)) (sym content_is_d)
+            (left (unit_at file.layout file.cluster m) (firm_units (format file) (is_format file.layout file.cluster) l m gone.kept) chance),
       )) (opening_events s) (raise_steps headers copies puts) (begun base).log (record { start = whole; events = tt }) (subst (AreSteps (format file) (opening_events s)) there.1 steps) each)
 
-  pub anew_moments : EachMoment (begun base).log end.log (StaysFound file view (boot_fields s.state))
-  anew_moments = λ l moment. (moments_both l moment).1
+  shown_moments : (grade : Grade) → StandsFor grade image view → EachMoment (begun base).log end.log (Shown grade)
+  shown_moments Firm shown = λ l moment m gone chance. tt
+  shown_moments Whole shown =
+      subst (λ (l : Log.Log). EachMoment (begun base).log l (Shown Whole)) (sym added)
+      (moments (format file) (λ log. IsStanding log view × EachLeft log (λ left. Stands left view)) (Shown Whole)
+      (λ l is standing m gone chance. standing.1 (unit_at file.layout file.cluster m) (firm_units (format file) (is_format file.layout file.cluster) l m gone.kept) chance)
+      (opening_events s) (opening_steps s) (begun base).log (record { start = whole; events = tt }) steps
+      (stands_law (UnitsUpgrades.begun image) view (opening_steps s) (record { shown = shown; firm = λ a c is. refl }) (spared view (opening_steps s) (opening_aside s))))
+
+  pub anew_moments : EachMoment (begun base).log end.log (StaysFound g file view (boot_fields s.state))
+  anew_moments = λ l moment. record { left = λ m gone chance. ((moments_both l moment).1 m gone chance, shown_moments g referenced l moment m gone chance) }
 
   pub anew_bare : IsSameBare view (booted view (raised_content s.state))
   anew_bare = subst (λ (c : Content). IsSameBare view (booted view c)) (sym content_is_d) raises.bare
@@ -170,6 +207,16 @@ module _ (view : View) (s : Survey) (base : Told) (four : length s.chosen.member
       (subst (λ (u : Units.Units). IsKeptBy sh (spelling file) (UnitsUpgrades.begun u) (raised w d)) (sym image_raised)
       (raised_kept_law sh (spelling file) image view (headers_in s.state.headers) headers copies (sum_of s.state) puts (codec_of file) two may (clean_beyond file base.shown view)).0)
 
+  anew_backed : Stands image view → IsBacked (units_log (format file) (begun end).log) (begun_state file base view (boot_fields s.state))
+  anew_backed shown =
+      subst (λ (c : Content). IsBacked (units_log (format file) (begun end).log) (raised w c)) (sym content_is_d)
+      (subst (λ (u : Units.Units). IsBacked (UnitsUpgrades.begun u) (raised w d)) (sym image_raised)
+      ((raised_kept_law sh (spelling file) image view (headers_in s.state.headers) headers copies (sum_of s.state) puts (codec_of file) two may (clean_beyond file base.shown view)).1 shown))
+
+  kept_at : (grade : Grade) → StandsFor grade image view → KeptFor grade sh (spelling file) (units_log (format file) (begun end).log) (begun_state file base view (boot_fields s.state))
+  kept_at Firm shown = anew_keeps
+  kept_at Whole shown = (anew_keeps, anew_backed shown)
+
   anew_stands : Represents (raised_state s.state) (begun_state file base view (boot_fields s.state))
   anew_stands =
       subst (λ (c : Content). record (memory s.state) { content = c } ≡ memory_of sh (spelling file) (raised w c)) (sym content_is_d)
@@ -184,9 +231,50 @@ module _ (view : View) (s : Survey) (base : Told) (four : length s.chosen.member
       ap (λ (u : Units.Units). u (HeaderPlace k)) image_is ∙ ap (λ (l : UnitLog). now l (HeaderPlace k)) (after_append (mend_steps headers copies) (update_steps (put_copies (boot_fields s.state))) (UnitsUpgrades.begun image)) ∙ behind
       ∙ ap (λ (o : Option Header). Some (HeaderUnit (header_or_none o))) at
 
-  pub raises_anew : RaisesAnew view s (begun base)
+  -- ---- a history may begin there, too
+
+  abbrev last : Units.Units
+  last = unit_at file.layout file.cluster end.shown
+
+  -- the version that is written is the one of before
+  same_version : of_version view.checkpoint.content.version sh ≡ sh
+  same_version = ap (λ (n : ℕ). of_version n sh) found.checkpoint.tests.version
+
+  ends_raised : EndsRaised sh (after_steps (raise_steps headers copies puts) (UnitsUpgrades.begun image)) (booted view d) × BeginsRaised sh last (booted view d)
+  ends_raised =
+      let all = raise_ends_law sh view.checkpoint.content.version image view (headers_in s.state.headers) headers copies d puts may in
+      let begins = all.1 (clean_beyond file base.shown view) in (
+        subst (λ (shape : Shape). EndsRaised shape (after_steps (raise_steps headers copies puts) (UnitsUpgrades.begun image)) (booted view d)) same_version all.0,
+        subst (λ (u : Units.Units). BeginsRaised sh u (booted view d)) (sym image_raised)
+            (subst (λ (shape : Shape). BeginsRaised shape (now (after_steps (raise_steps headers copies puts) (UnitsUpgrades.begun image))) (booted view d)) same_version begins),
+      )
+
+  -- there are four copies, and they are equal
+  one_copy : (n : ℕ) (c : Content) → last (CopyPlace n) ≡ Some (CopyUnit c) → c ≡ d
+  one_copy n c at = elim (cases_lt n 4) [
+    | inl below ↦
+        let whole_there : last (CopyPlace n) ≡ Some (CopyUnit d) = ap (λ (u : Units.Units). u (CopyPlace n)) image_raised ∙ ends_raised.0.whole.copies n below in
+        same_unit c d (sym at ∙ whole_there)
+    | inr past ↦ absurd (let none : None ≡ Some (CopyUnit c) = sym (beyond_four file end.shown n past) ∙ at in cc)
+  ]
+
+  starts : Starts last [] (booted view d)
+  starts =
+      let raised_there = ends_raised.1.raised in
+      record {
+        prepares = λ k p at. elim at [ inl there ↦ raised_there.prepares k p there | inr none ↦ absurd none ];
+        replies = λ k r at. elim at [ inl there ↦ raised_there.replies k r there | inr none ↦ absurd none ];
+        copies = λ n c differs at. elim at [ inl there ↦ inl (one_copy n c there) | inr none ↦ absurd none ];
+        counted = (omega (arith, raises.may.is.same.op.0, raises.may.is.head), sym raises.may.is.replies);
+      }
+
+  anew_history : BeginsHistory sh last
+  anew_history = inr (booted view d, ends_raised.1.raised.holds, starts)
+
+  pub raises_anew : RaisesAnew g view s (begun base)
   raises_anew = record {
     moments = anew_moments;
     bare = anew_bare;
-    kept_for = record { log_is = record { start = end_is_image; events = tt }; stands = anew_stands; kept_by = anew_keeps; ring = anew_ring };
+    kept_for = record { log_is = record { start = end_is_image; events = tt }; stands = anew_stands; kept_by = kept_at g referenced; ring = anew_ring };
+    begins = anew_history;
   }

@@ -182,10 +182,12 @@ abbrev pub IsUnharmed : {T : Type 0} → Option Told → Result T MendError → 
 IsUnharmed (Some t) (Err (Damaged place class)) = ⊥
 IsUnharmed told result = Unit {0}
 
--- at this moment each image that a stop may leave, none of whose units came about by chance, has the view, by the superblock of before or by this one: the bare view is one. Nothing is asked of what the copies showed before
-pub record StaysFound (file : DataFile) (view : View) (d : SuperFields) (log : Log) : Type 0 where
+-- At this moment each image that a stop may leave, none of whose units came about by chance, has the view, by the superblock of before or by this one: the bare view is one. By the grade it
+-- shows the referenced blocks, too. Nothing is asked of what the copies showed before.
+pub record StaysFound (g : Grade) (file : DataFile) (view : View) (d : SuperFields) (log : Log) : Type 0 where
   pub left : (image : Image) → IsLeft log image → NoChanceOf (format file) log image
-      → IsFound (shape file) (unit_at file.layout file.cluster image) view ⊎ IsFound (shape file) (unit_at file.layout file.cluster image) (booted view (content_of (content_with d)))
+      → (IsFound (shape file) (unit_at file.layout file.cluster image) view ⊎ IsFound (shape file) (unit_at file.layout file.cluster image) (booted view (content_of (content_with d))))
+      × StandsFor g (unit_at file.layout file.cluster image) view
 
 -- behind the barrier its log rests on the view
 abbrev pub BarrierRests : Type 0

@@ -13,6 +13,7 @@ use Rattle.df_format.specs.declared.superblock.SuperFields.{SuperFields}
 use Rattle.df_damage.specs.Anew.{begun, told_after}
 use Rattle.df_damage.specs.Answers.{TellsHurt}
 use Rattle.df_damage.specs.Histories.{IsLivedDisk, LivesOn, MayReopen, TellsLived}
+use Rattle.df_history.specs.OpenLaws.{BeginsHistory}
 use Rattle.df_theory.specs.Found.{IsFound}
 use Rattle.df_theory.specs.Units.{CopyPlace, CopyUnit}
 use Rattle.df_theory.specs.Next.{IsSameBare}
@@ -31,9 +32,9 @@ use Rattle.df_damage.specs.Plan.{AreDistinct}
 use Rattle.df_damage.specs.Surveys.{IsOpenedAs}
 use Rattle.df_opening.specs.Following.{MayOpen}
 use Rattle.df_opening.specs.Sparing.{AreSettled, SparesReads, image_after}
-use Rattle.df_opening.specs.Mending.{IsMended, StaysFound, raising_events}
-pub use Rattle.df_opening.specs.Mending.{begun_state, first_state, raised_state}
-use Rattle.df_opening.specs.Keeping.{Firm, Grade, IsGoodFor, IsKept, StandsFor, format}
+use Rattle.df_opening.specs.Mending.{IsMended, raising_events}
+pub use Rattle.df_opening.specs.Mending.{StaysFound, begun_state, first_state, raised_state}
+use Rattle.df_opening.specs.Keeping.{Grade, IsGoodFor, IsKept, StandsFor, format}
 use Rattle.df_opening.specs.Surveying.{IsMendable, TellsSurvey}
 
 -- what the disk tells changed by events alone
@@ -49,12 +50,17 @@ pub record OpensOver (g : Grade) (view : View) (s : State) (base n : Told) : Typ
   pub kept_for : IsKept g s (begun_state s.file base view s.fields) n.log
   pub settled : AreSettled s.file n.log (begun_state s.file base view s.fields)
 
--- What it leaves of a log that is begun anew at the barrier, whatever the copies showed: at each moment each image has the bare view that was found; and behind it calls go on
--- from there, where a log is begun anew once more.
-pub record OpensAnew (view : View) (s : State) (base n : Told) : Type 0 where
-  pub moments : EachMoment (begun base).log n.log (StaysFound s.file view s.fields)
+-- a history of logs may begin with a file in this image: all its units are of earlier boots than its superblock
+abbrev pub HistoryBegins : DataFile → Image → Type 0
+HistoryBegins file image = BeginsHistory (shape file) (unit_at file.layout file.cluster image)
+
+-- What it leaves of a log that is begun anew at the barrier, whatever the copies showed: at each moment each image has the bare view that was found; and after it calls go on
+-- from there, where a log is begun anew once more, and a history, too.
+pub record OpensAnew (g : Grade) (view : View) (s : State) (base n : Told) : Type 0 where
+  pub moments : EachMoment (begun base).log n.log (StaysFound g s.file view s.fields)
   pub bare : IsSameBare view (kept (begun_state s.file base view s.fields))
-  pub kept_for : IsKept Firm s (begun_state s.file base view s.fields) (begun n).log
+  pub kept_for : IsKept g s (begun_state s.file base view s.fields) (begun n).log
+  pub begins : HistoryBegins s.file n.shown
 
 -- A mending of a file, or as much of it as was done: what is told changed by these events alone, whose writes lie within the zones of the file, and whatever is shown they
 -- leave each place that a call reads as it was.
@@ -104,7 +110,8 @@ pub record MendsAll (t : Told) (s : State) (later : Option Told) : Type 0 where
   pub copies : IsImage t.shown → (n : ℕ) → n < 4 → unit_at s.file.layout s.file.cluster (image_after mending.events t.shown) (CopyPlace n) ≡ Some (CopyUnit (content_of (content_with s.fields)))
   pub over : (g : Grade) (view : View) (base : Told) → base.shown ≡ t.shown → MayOpen s.file view base → StandsFor g (unit_at s.file.layout s.file.cluster t.shown) view
       → OpensOver g view s base (told_after mending.events (did Sync base))
-  pub anew : (view : View) → IsImage t.shown → IsFound (shape s.file) (unit_at s.file.layout s.file.cluster t.shown) view → AreDistinct (unit_at s.file.layout s.file.cluster t.shown) → OpensAnew view s t (told_after mending.events (begun t))
+  pub anew : (g : Grade) (view : View) → IsImage t.shown → IsFound (shape s.file) (unit_at s.file.layout s.file.cluster t.shown) view → AreDistinct (unit_at s.file.layout s.file.cluster t.shown)
+      → StandsFor g (unit_at s.file.layout s.file.cluster t.shown) view → OpensAnew g view s t (told_after mending.events (begun t))
   pub lived : (log : Log) (logs : List Log) → MayReopen s.file log logs t.shown → LivesOn s.file (add Sync log) logs (did Sync (begun t)).log (told_after mending.events (did Sync (begun t))).log
 
 -- the file was found, and the disk failed within its mending or its boot update: at each moment whatever a stop leaves has the view that was found or the raised one, by each of these logs; and the history is lived with the new one
@@ -116,8 +123,8 @@ pub record MendsPartly (layout : Layout) (t : Told) (later : Option Told) : Type
   pub moments : (g : Grade) (view : View) (base : Told) → base.shown ≡ t.shown → MayOpen found.file view base → StandsFor g (unit_at found.file.layout found.file.cluster t.shown) view
       → EachMoment (did Sync base).log (told_after mending.events (did Sync base)).log (IsGoodFor g (format found.file) (shape found.file) view (kept (begun_state found.file base view (boot_fields found))))
       × IsSameBare view (kept (begun_state found.file base view (boot_fields found)))
-  pub anew : (view : View) → IsImage t.shown → IsFound (shape found.file) (unit_at found.file.layout found.file.cluster t.shown) view → AreDistinct (unit_at found.file.layout found.file.cluster t.shown)
-      → EachMoment (begun t).log (told_after mending.events (begun t)).log (StaysFound found.file view (boot_fields found))
+  pub anew : (g : Grade) (view : View) → IsImage t.shown → IsFound (shape found.file) (unit_at found.file.layout found.file.cluster t.shown) view → AreDistinct (unit_at found.file.layout found.file.cluster t.shown)
+      → StandsFor g (unit_at found.file.layout found.file.cluster t.shown) view → EachMoment (begun t).log (told_after mending.events (begun t)).log (StaysFound g found.file view (boot_fields found))
   pub lived : (log : Log) (logs : List Log) → MayReopen found.file log logs t.shown → EachMoment (did Sync (begun t)).log (told_after mending.events (did Sync (begun t))).log (IsLivedDisk found.file (add Sync log ∷ logs))
 
 -- it failed in the barrier, which added a sync or nothing, or in a read behind it; or within the mending

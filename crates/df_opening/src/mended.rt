@@ -6,7 +6,7 @@ ghost use Rattle.df_units.specs.Bytes.{unit_at};
 ghost use Rattle.df_damage.specs.Plan.{AreDistinct};
 ghost use Rattle.df_opening.specs.Below.{HasCause, IsBlamed, IsImage, Told, Adds, AreSteps, Represents, View, begun, is_mend_fault, shape, update_events, without_rooms};
 ghost use Rattle.df_opening.specs.Held.{AreAsBefore, AreRoomsOf};
-ghost use Rattle.df_opening.specs.Keeping.{Grade, format};
+ghost use Rattle.df_opening.specs.Keeping.{Grade, StandsFor, format};
 ghost use Rattle.df_opening.specs.Mending.{AddsRaising, IsReadBack, IsUnharmed, RestsOnDisk, first_state, mending_events, mending_steps, raised_state};
 ghost use Rattle.df_opening.specs.Raising.{IsPlannedOf, RaisesAnew, RaisesOver, opening_events, opening_steps};
 ghost use Rattle.df_opening.specs.Survey.{opened_of, survey_in};
@@ -138,8 +138,8 @@ pub fn mend_file<D: Disk>(disk: &mut D, surveyed: SurveyedFile) -> Result<Parts,
     ensures unharmed { IsUnharmed (D.told disk.new) (without_rooms result) }
     ensures over { (base : Told) (g : Grade) (view : View) → IsPlannedOf (survey_in surveyed) base → RestsOnDisk g surveyed.parts.file view base
         → Represents (state_in surveyed.parts) (first_state surveyed.parts.file base view) → RaisesOver g view (survey_in surveyed) base }
-    ensures anew { (base : Told) (view : View) → IsPlannedOf (survey_in surveyed) (begun base) → IsImage base.shown → IsFound (shape surveyed.parts.file) (unit_at surveyed.parts.file.layout surveyed.parts.file.cluster base.shown) view → AreDistinct (unit_at surveyed.parts.file.layout surveyed.parts.file.cluster base.shown)
-        → Represents (state_in surveyed.parts) (first_state surveyed.parts.file base view) → RaisesAnew view (survey_in surveyed) (begun base) }
+    ensures anew { (base : Told) (g : Grade) (view : View) → IsPlannedOf (survey_in surveyed) (begun base) → IsImage base.shown → IsFound (shape surveyed.parts.file) (unit_at surveyed.parts.file.layout surveyed.parts.file.cluster base.shown) view → AreDistinct (unit_at surveyed.parts.file.layout surveyed.parts.file.cluster base.shown)
+        → StandsFor g (unit_at surveyed.parts.file.layout surveyed.parts.file.cluster base.shown) view → Represents (state_in surveyed.parts) (first_state surveyed.parts.file base view) → RaisesAnew g view (survey_in surveyed) (begun base) }
     ensures cause { IsBlamed is_mend_fault (D.faults disk.old) (D.faults disk.new) (without_rooms result) }
 {
     let SurveyedFile { mut parts, chosen } = surveyed;

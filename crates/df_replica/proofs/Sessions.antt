@@ -103,7 +103,7 @@ moments_go_on g w acts a s (Some t) (Some o) (Some n) one two = (
 -- ---- the laws
 
 -- what is kept is good where it stands: a command that does nothing
-good_now : (g : Grade) (s : State) (w : Work) (t : Told) → IsKept g s w t.log → EachMoment t.log t.log (IsGoodFor g (format s.file) (shape s.file) (kept w) (kept w))
+pub good_now : (g : Grade) (s : State) (w : Work) (t : Told) → IsKept g s w t.log → EachMoment t.log t.log (IsGoodFor g (format s.file) (shape s.file) (kept w) (kept w))
 good_now g s w t k = moments ForRecent Recent s [] (record { checksums = tt; fields = tt }) (λ known x told there. record { steps = []; are = tt; does = refl }) g w t k t refl
 
 view_now : (g : Grade) (s : State) (w : Work) (t : Told) → IsKept g s w t.log → LeavesView s.file g w (Some t)

@@ -6,7 +6,7 @@ ghost use Rattle.df_replica.specs.Below.{AreDistinct, AreSteps, IsBlamed, IsImag
 ghost use Rattle.df_replica.specs.Replica.{summary_of};
 ghost use Rattle.df_opening.specs.Mending.{AddsRaising, IsPlanned, IsReadBack, IsUnharmed, RestsOnDisk, first_state, raised_state};
 ghost use Rattle.df_opening.specs.Raising.{IsPlannedOf, RaisesAnew, RaisesOver, opening_events, opening_steps};
-ghost use Rattle.df_opening.specs.Keeping.{Grade, format};
+ghost use Rattle.df_opening.specs.Keeping.{Grade, StandsFor, format};
 ghost use Rattle.df_opening.specs.Surveying.{TellsMends, TellsSurvey, state_of};
 
 use crate::{MendError, OpenError, Replica, Rooms};
@@ -95,8 +95,9 @@ impl Surveyed {
         ensures unharmed { IsUnharmed (D.told disk.new) (without_rooms result) }
         ensures over { (base : Told) (g : Grade) (view : View) → IsPlannedOf self base → RestsOnDisk g self.state.file view base
             → Represents self.state (first_state self.state.file base view) → RaisesOver g view self base }
-        ensures anew { (base : Told) (view : View) → IsPlannedOf self (begun base) → IsImage base.shown → IsFound (shape self.state.file) (unit_at self.state.file.layout self.state.file.cluster base.shown) view
-            → AreDistinct (unit_at self.state.file.layout self.state.file.cluster base.shown) → Represents self.state (first_state self.state.file base view) → RaisesAnew view self (begun base) }
+        ensures anew { (base : Told) (g : Grade) (view : View) → IsPlannedOf self (begun base) → IsImage base.shown → IsFound (shape self.state.file) (unit_at self.state.file.layout self.state.file.cluster base.shown) view
+            → AreDistinct (unit_at self.state.file.layout self.state.file.cluster base.shown) → StandsFor g (unit_at self.state.file.layout self.state.file.cluster base.shown) view
+            → Represents self.state (first_state self.state.file base view) → RaisesAnew g view self (begun base) }
         ensures cause { IsBlamed is_mend_fault (D.faults disk.old) (D.faults disk.new) (without_rooms result) }
     {
         let Surveyed { found } = self;

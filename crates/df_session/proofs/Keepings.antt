@@ -16,6 +16,7 @@ use Rattle.df_result.proofs.Laws.{begun_is_work, begun_keeps}
 use Rattle.df_session.specs.Links.{events_to}
 use Rattle.df_session.specs.Laws.{CallsOnOpenFileKeepIt, made_on}
 use Rattle.df_session.proofs.Acknowledged.{keeps_answered}
+use Rattle.df_session.proofs.Anews.{calls_keep_anew}
 use Rattle.df_session.proofs.Kept.{OpenedOver, answers_alone, ends_add, keeps_over, opened_over}
 use Rattle.df_session.proofs.Lived.{calls_lived, safe_each}
 use Rattle.df_session.proofs.Resulted.{opened_answers}
@@ -52,6 +53,7 @@ calls_keep t s mended found to new acts answers failed calls whole live = record
   acknowledged = λ g view base same may stands.
       keeps_answered s.file g (begun_work s.file t.shown view) (Some (told_after found.mending.events (did Sync base))) (made_on s mended to new acts answers failed calls) refl live
       (opened_here t s mended found whole g view base same may stands).kept_for;
+  anew = calls_keep_anew t s mended found to new acts answers failed calls whole live;
   lived = λ log logs may.
       calls_lived t s mended found whole (events_to s to mended new acts answers failed calls)
       (λ view opens.

@@ -8,6 +8,7 @@ mod Lived
 mod Resulted
 mod Acknowledged
 mod Spared
+mod Anews
 mod Keepings
 mod Founds
 mod Files

@@ -10,7 +10,7 @@ use Rattle.df_theory.specs.View.{View}
 use Rattle.df_units.specs.Bytes.{unit_at}
 use Rattle.df_model.specs.Commands.{Answer}
 use Rattle.df_model.specs.Supply.{Shown}
-use Rattle.df_result.specs.Below.{IsLivedDisk, MayReopen, State as Replica, begun, shape, told_after}
+use Rattle.df_result.specs.Below.{AreDistinct, IsLivedDisk, MayReopen, State as Replica, begun, shape, told_after}
 use Rattle.df_result.specs.Following.{MayOpen}
 use Rattle.df_result.specs.Begun.{begun_work}
 use Rattle.df_result.specs.Opened.{AreRaising, Mends, MendsAll, raised_state}
@@ -19,6 +19,7 @@ use Rattle.df_result.specs.Serving.{Firm, Grade, IsKept, Keeps, StandsFor}
 use Rattle.df_result.specs.Session.{Act, answers_of}
 use Rattle.df_result.specs.Agreeing.{AgreeShown}
 use Rattle.df_session.specs.Acknowledging.{KeepsAnswered}
+use Rattle.df_session.specs.Anew.{KeepsAnew}
 use Rattle.df_session.specs.Keeping.{KeepsFile, over}
 use Rattle.df_session.specs.Links.{CallsMade, EndsCalls, events_made}
 use Rattle.df_session.specs.Resulting.{AnswersResult}
@@ -27,7 +28,7 @@ use Rattle.df_session.specs.Sparing.{SparesBlocks}
 -- The calls were made on a file that was found in what the disk showed, mended and raised. On whatever image: the mending and the boot update are their own device calls alone, as each of the calls is; the answers
 -- are the machine's, from the state behind the boot update on, for which the replica stands, and a function of what was shown; what is told is what the calls added; no call writes a sector of a block that is held, but a step those of the running trailer's next. By each log that shows what was shown, and by which
 -- the file may be opened, the told one or one that is begun anew there: the file is kept at the open, at the end all that was answered is there, and so it is at each moment from its
--- answer on. Whatever history of damage and opens the file has, it is lived with the log that is begun anew at the open, at each moment.
+-- answer on. And whatever the copies of the superblock showed, so it is by the log that is begun anew at the end of the open. Whatever history of damage and opens the file has, it is lived with the log that is begun anew at the open, at each moment.
 pub record CallsKeep (t : Told) (s : Replica) (mended : Option Told) (mending : Mends s.file (Some (did Sync t)) mended) (c : CallsMade) : Type 0 where
   pub stands : (view : View) → IsFound (shape s.file) (unit_at s.file.layout s.file.cluster t.shown) view → Keeps Firm s (begun_work s.file t.shown view) None
   pub answered : (view : View) → IsFound (shape s.file) (unit_at s.file.layout s.file.cluster t.shown) view → c.answers ≡ answers_of s.file (begun_work s.file t.shown view) c.acts
@@ -41,6 +42,8 @@ pub record CallsKeep (t : Told) (s : Replica) (mended : Option Told) (mending : 
       → KeepsFile s.file g (begun_work s.file t.shown view) base c.acts c.answers c.failed (over mending.events (events_made c) base)
   pub acknowledged : (g : Grade) (view : View) (base : Told) → base.shown ≡ t.shown → MayOpen s.file view base → StandsFor g (unit_at s.file.layout s.file.cluster t.shown) view
       → KeepsAnswered s.file g (begun_work s.file t.shown view) (over mending.events [] base) c
+  pub anew : (g : Grade) (view : View) → IsFound (shape s.file) (unit_at s.file.layout s.file.cluster t.shown) view → AreDistinct (unit_at s.file.layout s.file.cluster t.shown)
+      → StandsFor g (unit_at s.file.layout s.file.cluster t.shown) view → KeepsAnew g t s view mending.events c
   pub lived : (log : Log) (logs : List Log) → MayReopen s.file log logs t.shown
       → EachMoment (did Sync (begun t)).log (told_after (events_made c) (told_after mending.events (did Sync (begun t)))).log (IsLivedDisk s.file (add Sync log ∷ logs))
   pub spares : (view : View) → IsFound (shape s.file) (unit_at s.file.layout s.file.cluster t.shown) view → SparesBlocks s.file (begun_work s.file t.shown view) c

@@ -8,6 +8,7 @@ pub mod Acknowledging
 pub mod Sparing
 pub mod Owning
 pub mod Resulting
+pub mod Anew
 pub mod Laws
 pub mod Below
 pub use Rattle.df_result.specs.Begun

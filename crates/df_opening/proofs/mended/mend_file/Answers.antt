@@ -45,19 +45,19 @@ returns-in-Err-raise_parts-clause-over g c = λ base grade view plan on stands.
     raises_over grade view (survey_in c.args.surveyed) base c.mend_parts.ensures.size c.requires.found.whole.state c.requires.found.unspent plan on stands (returns-in-Err-raise_parts-clause-steps g c)
 
 pub returns-in-Err-clause-anew : goal.returns-in-Err-clause-anew
-returns-in-Err-clause-anew g c = λ base view plan whole found distinct stands.
+returns-in-Err-clause-anew g c = λ base grade view plan whole found distinct shown stands.
     let is = c.requires.found.whole.state in
-    raises_anew view (survey_in c.args.surveyed) base c.mend_parts.ensures.size (sym is.version ∙ is.second.rules.version) is c.requires.found.unspent plan whole found distinct stands (returns-in-Err-clause-steps g c)
+    raises_anew grade view (survey_in c.args.surveyed) base c.mend_parts.ensures.size (sym is.version ∙ is.second.rules.version) is c.requires.found.unspent plan whole found distinct shown stands (returns-in-Err-clause-steps g c)
 
 pub returns-in-Ok-raise_parts-clause-anew : goal.returns-in-Ok-raise_parts-clause-anew
-returns-in-Ok-raise_parts-clause-anew g c = λ base view plan whole found distinct stands.
+returns-in-Ok-raise_parts-clause-anew g c = λ base grade view plan whole found distinct shown stands.
     let is = c.requires.found.whole.state in
-    raises_anew view (survey_in c.args.surveyed) base c.mend_parts.ensures.size (sym is.version ∙ is.second.rules.version) is c.requires.found.unspent plan whole found distinct stands (returns-in-Ok-raise_parts-clause-steps g c)
+    raises_anew grade view (survey_in c.args.surveyed) base c.mend_parts.ensures.size (sym is.version ∙ is.second.rules.version) is c.requires.found.unspent plan whole found distinct shown stands (returns-in-Ok-raise_parts-clause-steps g c)
 
 pub returns-in-Err-raise_parts-clause-anew : goal.returns-in-Err-raise_parts-clause-anew
-returns-in-Err-raise_parts-clause-anew g c = λ base view plan whole found distinct stands.
+returns-in-Err-raise_parts-clause-anew g c = λ base grade view plan whole found distinct shown stands.
     let is = c.requires.found.whole.state in
-    raises_anew view (survey_in c.args.surveyed) base c.mend_parts.ensures.size (sym is.version ∙ is.second.rules.version) is c.requires.found.unspent plan whole found distinct stands (returns-in-Err-raise_parts-clause-steps g c)
+    raises_anew grade view (survey_in c.args.surveyed) base c.mend_parts.ensures.size (sym is.version ∙ is.second.rules.version) is c.requires.found.unspent plan whole found distinct shown stands (returns-in-Err-raise_parts-clause-steps g c)
 
 -- ---- which calls were made
 

@@ -99,10 +99,10 @@ returns-in-Ok-mend_file-clause-opened g c = λ t is.
           let on = barrier_rests grade s.state.file view base may (subst (λ (m : Image). StandsFor grade (unit_at s.state.file.layout s.state.file.cluster m) view) (sym same) stands) in
           let by = c.in-Ok-mend_file.ensures.over (did Sync base) grade view planned on (stands_over c.args.rooms.layout t base s.state same view may c.in-Ok.ensures.kept answer) in
           record { moments = by.moments; bare = by.bare; mended = by.raised; kept_for = by.kept_for; settled = open_settles s base _ c.in-Ok-mend_file.ensures.steps };
-      anew = λ view whole found distinct.
+      anew = λ grade view whole found distinct shown.
           let anew = planned_same s.state.file s.state.headers s.mends s.state.fields s.chosen.members (did Sync t) (begun t) refl plan in
-          let by = c.in-Ok-mend_file.ensures.anew t view anew whole found distinct (stands_anew c.args.rooms.layout t s.state view c.in-Ok.ensures.kept answer whole found) in
-          record { moments = by.moments; bare = by.bare; kept_for = by.kept_for };
+          let by = c.in-Ok-mend_file.ensures.anew t grade view anew whole found distinct shown (stands_anew c.args.rooms.layout t s.state view c.in-Ok.ensures.kept answer whole found) in
+          record { moments = by.moments; bare = by.bare; kept_for = by.kept_for; begins = by.begins };
       lived = λ log logs may.
           let is : IsOpenedAs 2 s.state.file.layout t.shown s.state = subst (λ (l : Layout). IsOpenedAs 2 l t.shown s.state) (sym c.in-Ok.ensures.kept) (answer may.whole) in
           let finds = found_was_since s.state.file log logs t.shown s.state may is in
@@ -142,10 +142,10 @@ returns-in-Err-mend_file-clause-stopped g c = λ t is whole fault.
           let on = barrier_rests grade s.state.file view base may (subst (λ (m : Image). StandsFor grade (unit_at s.state.file.layout s.state.file.cluster m) view) (sym same) stands) in
           let by = c.in-Err-mend_file.ensures.over (did Sync base) grade view planned on (stands_over c.args.rooms.layout t base s.state same view may c.in-Ok.ensures.kept answer) in
           (front_moments es (did Sync base) part.part part.again (IsGoodFor grade (format s.state.file) (shape s.state.file) view (kept (begun_state s.state.file base view (boot_fields s.state)))) by.moments, by.bare);
-      anew = λ view image found distinct.
+      anew = λ grade view image found distinct shown.
           let anew = planned_same s.state.file s.state.headers s.mends s.state.fields s.chosen.members (did Sync t) (begun t) refl plan in
-          let by = c.in-Err-mend_file.ensures.anew t view anew image found distinct (stands_anew c.args.rooms.layout t s.state view c.in-Ok.ensures.kept answer image found) in
-          front_moments es (begun t) part.part part.again (StaysFound s.state.file view (boot_fields s.state)) by.moments;
+          let by = c.in-Err-mend_file.ensures.anew t grade view anew image found distinct shown (stands_anew c.args.rooms.layout t s.state view c.in-Ok.ensures.kept answer image found) in
+          front_moments es (begun t) part.part part.again (StaysFound grade s.state.file view (boot_fields s.state)) by.moments;
       lived = λ log logs may.
           let is : IsOpenedAs 2 s.state.file.layout t.shown s.state = subst (λ (l : Layout). IsOpenedAs 2 l t.shown s.state) (sym c.in-Ok.ensures.kept) (answer whole) in
           let finds = found_was_since s.state.file log logs t.shown s.state may is in

@@ -4,7 +4,7 @@ use Rattle.std.specs.Prelude.{Err}
 use Rattle.df_base.specs.Image.{IsImage}
 use Rattle.df_theory.specs.Found.{IsFound}
 use Rattle.df_units.specs.Bytes.{unit_at}
-use Rattle.df_opening.specs.Keeping.{Grade}
+use Rattle.df_opening.specs.Keeping.{Grade, StandsFor}
 use Rattle.df_opening.specs.Below.{Parts, State, state_in}
 use Rattle.df_opening.specs.Mending.{AddsRaising, IsReadBack, RestsOnDisk, first_state}
 use Rattle.df_opening.specs.Raising.{IsPlannedOf, RaisesAnew, RaisesOver, opening_events}
@@ -17,8 +17,9 @@ abbrev Over : Survey → Type 0
 Over v = (base : Told) (grade : Grade) (view : View) → IsPlannedOf v base → RestsOnDisk grade v.state.file view base → Represents v.state (first_state v.state.file base view) → RaisesOver grade view v base
 
 abbrev Anew : Survey → Type 0
-Anew v = (base : Told) (view : View) → IsPlannedOf v (begun base) → IsImage base.shown → IsFound (shape v.state.file) (unit_at v.state.file.layout v.state.file.cluster base.shown) view
-    → AreDistinct (unit_at v.state.file.layout v.state.file.cluster base.shown) → Represents v.state (first_state v.state.file base view) → RaisesAnew view v (begun base)
+Anew v = (base : Told) (grade : Grade) (view : View) → IsPlannedOf v (begun base) → IsImage base.shown → IsFound (shape v.state.file) (unit_at v.state.file.layout v.state.file.cluster base.shown) view
+    → AreDistinct (unit_at v.state.file.layout v.state.file.cluster base.shown) → StandsFor grade (unit_at v.state.file.layout v.state.file.cluster base.shown) view
+    → Represents v.state (first_state v.state.file base view) → RaisesAnew grade view v (begun base)
 
 pub returns-in-Ok-clause-over : goal.returns-in-Ok-clause-over
 returns-in-Ok-clause-over g c = subst Over c.self.view_is c.mend_file.ensures.over

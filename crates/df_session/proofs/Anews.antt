@@ -1,0 +1,80 @@
+-- What calls keep by the log that is begun anew at the end of their open, whatever was done to the disk before.
+use Rattle.std.proofs.Common.{◌≡◌, ℕ, true, List, [], ◌∷◌, Option, Some, refl, subst}
+use Rattle.df_base.specs.Image.{Image, IsImage}
+use Rattle.df_base.specs.Log.{Sync}
+use Rattle.df_base.proofs.Laws.{extends_self}
+use Rattle.df_disk.specs.Told.{Told, did}
+use Rattle.df_theory.specs.Device.{units_log}
+use Rattle.df_theory.specs.Found.{IsFound}
+use Rattle.df_theory.specs.Shape.{Shape}
+use Rattle.df_theory.specs.UnitLog.{Synced, UnitLog, add}
+use Rattle.df_theory.specs.Units.{Parts}
+use Rattle.df_theory.specs.View.{View}
+use Rattle.df_theory.proofs.Laws.{tidy_sync_law}
+use Rattle.df_units.specs.Bytes.{unit_at}
+use Rattle.df_model.specs.Commands.{Answer}
+use Rattle.df_model.specs.Work.{Work, kept}
+use Rattle.df_result.specs.Begun.{begun_work}
+use Rattle.df_result.specs.Below.{AreDistinct, State as Replica, begun, shape, spelling, told_after}
+use Rattle.df_result.specs.Opened.{HistoryBegins, MendsAll}
+use Rattle.df_result.specs.Serving.{Firm, Grade, IsKept, KeptFor, StandsFor, Whole, format}
+use Rattle.df_result.specs.Session.{Act}
+use Rattle.df_result.proofs.Laws.{begun_is_work, good_now, keeps_self, same_goes_on}
+use Rattle.df_session.specs.Anew.{KeepsAnew}
+use Rattle.df_session.specs.Laws.{made_on}
+use Rattle.df_session.specs.Links.{EndsCalls}
+use Rattle.df_session.proofs.Acknowledged.{keeps_answered}
+use Rattle.df_session.proofs.Kept.{OpenedOver, keeps_over}
+
+-- ---- a sync keeps what is kept
+
+synced_for : (g : Grade) (sh : Shape) (spell : Parts → List ℕ) (log : UnitLog) (w : Work) → KeptFor g sh spell log w → KeptFor g sh spell (add Synced log) w
+synced_for Firm sh spell log w by = record { sense = by.sense; tidy = (tidy_sync_law sh log (kept w) by.tidy).0.tidy; written = by.written }
+synced_for Whole sh spell log w by = (
+  synced_for Firm sh spell log w by.0,
+  record { standing = record { shown = by.1.standing.shown; firm = λ a c is. refl }; live = by.1.live; captured = by.1.captured },
+)
+
+kept_synced : (g : Grade) (s : Replica) (w : Work) (t : Told) → IsKept g s w t.log → IsKept g s w (did Sync t).log
+kept_synced g s w t k = record {
+  log_is = record { start = k.log_is.start; events = k.log_is.events };
+  stands = k.stands;
+  kept_by = synced_for g (shape s.file) (spelling s.file) (units_log (format s.file) t.log) w k.kept_by;
+  ring = k.ring;
+}
+
+-- what is kept where a log is begun goes on from its barrier
+opened_begun : (g : Grade) (s : Replica) (w : Work) (n : Told) → IsKept g s w (begun n).log → OpenedOver g s (kept w) w (begun n) (did Sync (begun n))
+opened_begun g s w n k =
+    let synced : IsKept g s w (did Sync (begun n)).log = kept_synced g s w (begun n) k in
+    record {
+      honest = record { shows = λ sector. refl };
+      grew = extends_self (did Sync (begun n)).log;
+      kept_for = synced;
+      moments = good_now g s w (did Sync (begun n)) synced;
+      bare = keeps_self (kept w);
+      settled = record { firm = λ a sector durable here. refl };
+    }
+
+-- ---- the calls
+
+pub calls_keep_anew : (t : Told) (s : Replica) (mended : Option Told) (found : MendsAll t s mended) (to : Replica) (new : Option Told) (acts : List Act) (answers : List Answer) (failed : Option Act) (calls : EndsCalls s to mended new acts answers failed)
+    → IsImage t.shown → s.live ≡ true → (g : Grade) (view : View) → IsFound (shape s.file) (unit_at s.file.layout s.file.cluster t.shown) view → AreDistinct (unit_at s.file.layout s.file.cluster t.shown)
+    → StandsFor g (unit_at s.file.layout s.file.cluster t.shown) view → KeepsAnew g t s view found.mending.events (made_on s mended to new acts answers failed calls)
+calls_keep_anew t s mended found to new acts answers failed calls whole live g view is distinct stands =
+    let es = found.mending.events in
+    let n : Told = told_after es (did Sync t) in
+    let w : Work = begun_work s.file t.shown view in
+    let anew = found.anew g view whole is distinct stands in
+    let same : (told_after es (begun t)).shown ≡ n.shown = same_goes_on es (did Sync t) (begun t) refl in
+    let started : IsKept g s w (begun (told_after es (begun t))).log = subst (λ (x : Work). IsKept g s x (begun (told_after es (begun t))).log) (begun_is_work t s mended found view whole is) anew.kept_for in
+    let there : IsKept g s w (begun n).log = subst (λ (m : Image). IsKept g s w (record { start = m; events = [] })) same started in
+    let by : OpenedOver g s (kept w) w (begun n) (did Sync (begun n)) = opened_begun g s w n there in
+    record {
+      opening = anew.moments;
+      bare = anew.bare;
+      kept = there;
+      begins = subst (HistoryBegins s.file) same anew.begins;
+      keeps = keeps_over g s (kept w) w (begun n) (did Sync (begun n)) live by to mended new acts answers failed calls;
+      acknowledged = keeps_answered s.file g w (Some (did Sync (begun n))) (made_on s mended to new acts answers failed calls) refl live by.kept_for;
+    }
