@@ -19,6 +19,7 @@ use Rattle.df_theory.specs.View.{View, boot_of}
 use Rattle.df_theory.proofs.Laws.{one_found_law, pool_pools}
 use Rattle.df_units.specs.Bytes.{unit_at}
 use Rattle.df_units.specs.Meaning.{content_of}
+use Rattle.df_model.specs.Commands.{Answer}
 use Rattle.df_model.specs.Sense.{IsWork}
 use Rattle.df_model.specs.Views.{SomeKeeps}
 use Rattle.df_model.specs.Work.{Work, kept}
@@ -37,7 +38,7 @@ use Rattle.df_session.specs.Laws.{CallsKeep}
 use Rattle.df_session.specs.Links.{CallsMade, events_made, list_of}
 use Rattle.df_session.proofs.Laws.{file_there}
 use Rattle.df_lifetime.specs.Hurt.{StoppedOpensBegin}
-use Rattle.df_lifetime.specs.Life.{AreMade, CameThrough, Chapter, Extent, IsInOrder, ShowsFile, ToAMoment, ToItsEnd, chapter_of}
+use Rattle.df_lifetime.specs.Life.{AreMade, Extent, IsInOrder, ShowsFile, ToAMoment, ToItsEnd, chapter_of}
 use Rattle.df_lifetime.proofs.Acts.{ends_inputs, first_answers, front_and_rest, has_front, work_on}
 use Rattle.df_lifetime.proofs.Along.{grows}
 use Rattle.df_lifetime.proofs.Files.{one_file, one_told}
@@ -143,52 +144,62 @@ module _ (file : DataFile) (g : Grade) (w : Work) where
         (all_came c.acts c.failed keeps.after keeps.left)
     made_left (ToAMoment k) shown m made = some_came (take k c.acts) (drop k c.acts ++ list_of c.failed) m.log (midway k m made)
 
-    -- what was answered by then is what the machine answers
-    pub made_answers : (extent : Extent) (shown : Image) → (chapter_of extent shown c).answers ≡ answers_of file w (chapter_of extent shown c).answered
-    made_answers ToItsEnd shown = keeps.answered
-    made_answers (ToAMoment k) shown = ap (take k) keeps.answered ∙ first_answers file k w c.acts
-
 made_inputs : (c : CallsMade) (extent : Extent) (shown : Image) → AreInputs ((chapter_of extent shown c).answered ++ (chapter_of extent shown c).perhaps)
 made_inputs c ToItsEnd shown = ends_inputs c.from c.to c.old c.new c.acts c.answers c.failed c.calls
 made_inputs c (ToAMoment k) shown = subst AreInputs (sym (front_and_rest k c.acts (list_of c.failed))) (ends_inputs c.from c.to c.old c.new c.acts c.answers c.failed c.calls)
 
 -- ---- so a life that begins there is in order
 
+module _ (file : DataFile) (first : View) (t m : Told) (shows : ShowsFile Whole file first t.shown) (unspent : boot_of first < 2 ^ 62) where
+  -- a session as far as it is known, of which each image that is left has what came through
+  opened_by : (answered : List Act) (answers : List Answer) (perhaps : List Act) → answers ≡ answers_of file (begun_work file t.shown first) answered → AreInputs (answered ++ perhaps) → IsHonest m → IsSafeDisk (format file) (shape file) m.log
+      → ((image : Image) → IsLeft m.log image → NoChanceOf (format file) m.log image → Came file Whole (begun_work file t.shown first) answered perhaps image)
+      → IsInOrder file first (record { shown = t.shown; answered = answered; answers = answers; perhaps = perhaps } ∷ []) m
+  opened_by answered answers perhaps are inputs honest safe left =
+      in_order file first (record { shown = t.shown; answered = answered; answers = answers; perhaps = perhaps } ∷ []) m shows.version honest
+      (record {
+        safe = safe;
+        left = λ image gone no.
+            let by = left image gone no in
+            record {
+              view = by.has.0;
+              had = (
+                first,
+                keeps_self first,
+                inr (
+                  by.came,
+                  record {
+                    whole = shows.whole;
+                    found = shows.found;
+                    unspent = unspent;
+                    inputs = inputs;
+                    answers_are = are;
+                    came = record { more = by.more; rest = by.rest; are = by.are; some = by.some };
+                    view = by.has.1;
+                  },
+                ),
+              );
+              held = by.has.2.0;
+              stands = by.has.2.1;
+            };
+      })
+
 pub opened_in_order : (file : DataFile) (first : View) (t m : Told) (layout : Layout) (found : FoundFile layout t) (c : CallsMade) (extent : Extent) → ShowsFile Whole file first t.shown → CallsKeep t found.replica found.mended found.mending c
     → AreMade extent (begun_after found.mending.events t) c m → IsInOrder file first (chapter_of extent t.shown c ∷ []) m
-opened_in_order file first t m layout found c extent shows calls made =
+opened_in_order file first t m layout found c ToItsEnd shows calls made =
     let w : Work = begun_work file t.shown first in
     let b : Told = begun_after found.mending.events t in
     let keeps = keeps_begun Whole file first t layout found c shows calls in
     let answered = answers_begun Whole file first t layout found c shows calls in
-    let unspent : boot_of first < 2 ^ 62 = unspent_begun Whole file first t layout found c shows calls in
-    in_order file first (chapter_of extent t.shown c ∷ []) m shows.version (made_honest file Whole w b c keeps answered extent m made)
-    (record {
-      safe = made_safe file Whole w b c keeps answered extent m made;
-      left = λ image left no.
-          let by = made_left file Whole w b c keeps answered extent t.shown m made image left no in
-          record {
-            view = by.has.0;
-            had = (
-              first,
-              keeps_self first,
-              inr (
-                by.came,
-                record {
-                  whole = shows.whole;
-                  found = shows.found;
-                  unspent = unspent;
-                  inputs = made_inputs c extent t.shown;
-                  answers_are = made_answers file Whole w b c keeps answered extent t.shown;
-                  came = record { more = by.more; rest = by.rest; are = by.are; some = by.some };
-                  view = by.has.1;
-                },
-              ),
-            );
-            held = by.has.2.0;
-            stands = by.has.2.1;
-          };
-    })
+    opened_by file first t m shows (unspent_begun Whole file first t layout found c shows calls) c.acts c.answers (list_of c.failed) keeps.answered (made_inputs c ToItsEnd t.shown) (made_honest file Whole w b c keeps answered ToItsEnd m made)
+    (made_safe file Whole w b c keeps answered ToItsEnd m made) (made_left file Whole w b c keeps answered ToItsEnd t.shown m made)
+opened_in_order file first t m layout found c (ToAMoment k) shows calls made =
+    let w : Work = begun_work file t.shown first in
+    let b : Told = begun_after found.mending.events t in
+    let keeps = keeps_begun Whole file first t layout found c shows calls in
+    let answered = answers_begun Whole file first t layout found c shows calls in
+    opened_by file first t m shows (unspent_begun Whole file first t layout found c shows calls) (take k c.acts) (take k c.answers) (drop k c.acts ++ list_of c.failed) (ap (take k) keeps.answered ∙ first_answers file k w c.acts)
+    (made_inputs c (ToAMoment k) t.shown) (made_honest file Whole w b c keeps answered (ToAMoment k) m made) (made_safe file Whole w b c keeps answered (ToAMoment k) m made) (made_left file Whole w b c keeps answered (ToAMoment k) t.shown m made)
 
 -- ---- a stop within the open
 
