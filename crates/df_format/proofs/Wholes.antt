@@ -18,7 +18,7 @@ use Rattle.df_layout.specs.declared.places.Zone.TheVariants.{Superblock, WalHead
 use Rattle.df_layout.specs.Spans.{HasPlace, place_sectors}
 use Rattle.df_format.specs.declared.header.Header.{Header}
 use Rattle.df_format.specs.declared.kind.Kind.{Kind}
-use Rattle.df_format.specs.declared.kind.Kind.TheVariants.{Reserved, Prepare, Reply, Block, Trailer}
+use Rattle.df_format.specs.declared.kind.Kind.TheVariants.{Reserved}
 use Rattle.df_format.specs.Spelling.{code_of, spelling}
 use Rattle.df_format.specs.Rules.{IsSealed}
 use Rattle.df_format.specs.Reading.{header_in}
