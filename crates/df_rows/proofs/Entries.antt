@@ -1,11 +1,12 @@
 -- The bytes of a row: what stands where in them, and that they are one row.
-use Rattle.std.proofs.Common.{◌≡◌, ℕ, zero, suc, ◌-◌, ◌^◌, ◌<◌, ◌≤◌, ◌==◌, true, List, [], ◌∷◌, ◌++◌, length, get_or, take, drop, replicate, refl, sym, ap, ◌∙◌, arith, length-append, length-drop}
+use Rattle.std.proofs.Common.{◌≡◌, ℕ, zero, suc, ◌+◌, ◌-◌, ◌^◌, ◌<◌, ◌≤◌, ◌==◌, true, List, [], ◌∷◌, ◌++◌, length, get_or, take, drop, replicate, refl, sym, ap, ◌∙◌, arith, length-append, length-drop}
 use Rattle.std.specs.List.{list_all}
 use Rattle.std.proofs.lemmas.Bool.{and_parts, eqb-true}
-use Rattle.std.proofs.lemmas.List.{append-nil, take_at, drop_at, take-append-drop, take_rest, length-replicate, length-take-le, drop-drop, drop_more, get_or_at}
+use Rattle.std.proofs.lemmas.List.{append-nil, take_at, drop_at, take-append-drop, take_rest, length-replicate, length-take-le, drop-drop, get_or_at}
 use Rattle.df_base.specs.Fields.{AreBytes, field_at, spelled}
-use Rattle.df_base.proofs.Laws.{length-spelled, field_spelled, spelled-field_at}
-use Rattle.df_rows.specs.Rows.{Entry, IsEntry, row_of}
+use Rattle.df_base.specs.Text.{total}
+use Rattle.df_base.proofs.Laws.{length-spelled, field_spelled, spelled_back}
+use Rattle.df_rows.specs.Rows.{Entry, IsEntry, row_of, row_pieces}
 
 -- ---- two texts of fronts that are as long
 
@@ -102,13 +103,13 @@ module _ (bytes tail value rest : List ℕ) (n : ℕ) (whole : length bytes ≡ 
   -- bytes whose value is short enough, with zeros behind it, are a row
   pub row_read : AreBytes bytes → n ≡ get_or bytes 16 0 → n ≤ 47 → rest ≡ replicate (length rest) 0 → bytes ≡ row_of (field_at 16 0 bytes, value)
   row_read are said fits zeros =
-      let key : spelled 16 (field_at 16 0 bytes) ≡ take 16 bytes = spelled-field_at 16 0 bytes are (omega arith) in
       let size : length value ≡ n = ap length value_is ∙ length-take-le n tail (omega (arith, length_tail)) in
-      let left : length rest ≡ 47 - length value = omega (arith, length_tail, ap length tail_parts, length-append value rest, size) in
-      let padding : rest ≡ replicate (47 - length value) 0 = zeros ∙ ap (λ (m : ℕ). replicate m 0) left in
-      let behind : drop 16 bytes ≡ length value ∷ padded value =
-      drop_more bytes 16 0 (omega arith) ∙ (λ i. (sym said ∙ sym size) i ∷ (sym tail_from ∙ tail_parts ∙ ap (λ (l : List ℕ). value ++ l) padding) i) in
-      sym (take-append-drop 16 bytes) ∙ (λ i. sym key i ++ behind i)
+      let here : get_or bytes 16 0 ≡ length value = sym said ∙ sym size in
+      let there : take (length value) (drop 17 bytes) ≡ value = (λ i. take (size i) (sym tail_from i)) ∙ sym value_is in
+      let left : length rest ≡ 47 - length value = omega (arith, length_tail, ap length tail_parts, length-append value rest) in
+      let behind : drop (17 + n) bytes ≡ replicate (47 - length value) 0 = sym (drop-drop n 17 bytes) ∙ ap (drop n) (sym tail_from) ∙ sym rest_is ∙ zeros ∙ ap (λ (m : ℕ). replicate m 0) left in
+      let ends : 0 + total (row_pieces (length value)) ≡ 17 + n = omega (arith, size) in
+      spelled_back (row_pieces (length value)) 0 bytes (replicate (47 - length value) 0) (field_at 16 0 bytes, value) are (omega arith) (assumption) (ap (λ (m : ℕ). drop m bytes) ends ∙ behind)
 
   -- and those of a row have zeros there
   pub row_ends : (e : Entry) → IsEntry e → bytes ≡ row_of e → n ≡ get_or bytes 16 0 → rest ≡ replicate (length rest) 0

@@ -1,7 +1,8 @@
 -- The bytes of a row of a table.
-use Rattle.std.specs.Prelude.{ℕ, ◌-◌, ◌^◌, ◌<◌, ◌≤◌, List, ◌∷◌, ◌++◌, length, replicate}
+use Rattle.std.specs.Prelude.{ℕ, ◌-◌, ◌^◌, ◌<◌, ◌≤◌, List, [], ◌∷◌, length, replicate}
 use Rattle.std.specs.List.{flat_map}
-use Rattle.df_base.specs.Fields.{spelled}
+use Rattle.df_base.specs.Text.{Piece, text}
+use Rattle.df_base.specs.Text.Piece.{Byte, Number, Bytes}
 
 -- a key and its value
 abbrev pub Entry : Type 0
@@ -16,9 +17,13 @@ pub record IsEntry (e : Entry) : Type 0 where
   pub key : e.0 < 2 ^ 128
   pub value : length e.1 ≤ longest_value
 
--- the 64 bytes of a row: its key, how many bytes its value has, the value, and zeros
+-- what stands in front of a row's zeros, with a value of so many bytes: its key, how many bytes its value has, and the value
+abbrev pub row_pieces : ℕ → List (Piece Entry)
+row_pieces size = Number 16 (λ e. e.0) ∷ Byte (λ e. length e.1) ∷ Bytes size (λ e. e.1) ∷ []
+
+-- the 64 bytes of a row: its pieces, and zeros
 abbrev pub row_of : Entry → List ℕ
-row_of e = spelled 16 e.0 ++ (length e.1 ∷ (e.1 ++ replicate (longest_value - length e.1) 0))
+row_of e = text (row_pieces (length e.1)) e (replicate (longest_value - length e.1) 0)
 
 -- rows, one behind the other
 abbrev pub rows_of : List Entry → List ℕ
