@@ -1,6 +1,6 @@
 -- One link: what is shown where a block is asked for, and what the tests of a link say of it.
 use Rattle.std.proofs.Common.{◌≡◌, ℕ, ◌-◌, ◌<◌, ◌≤◌, ◌==◌, ◌&&◌, ◌||◌, nat_le, Bool, true, false, Option, Some, None, length, refl, sym, ap, ◌∙◌, subst, arith, eqb-true, eq-eqb, ne_eqb, leb-true, le-leb}
-use Rattle.std.specs.Prelude.{Result, Ok, Err, MatchResult}
+use Rattle.std.specs.Prelude.{Result, Ok, Err}
 use Rattle.std.proofs.lemmas.Bool.Decides.{nat_tests}
 use Rattle.std.proofs.lemmas.Bool.{and_parts, and_from}
 use Rattle.df_disk.specs.Told.{Told}
@@ -11,6 +11,7 @@ use Rattle.df_layout.specs.declared.layout.Layout.{Layout}
 use Rattle.df_format.specs.declared.kind.Kind.{Kind}
 use Rattle.df_format.specs.declared.kind.Kind.TheVariants.{Trailer}
 use Rattle.df_format.specs.declared.reference.Reference.{Reference}
+use Rattle.df_checkpoint.specs.declared.links.Link.{Link}
 use Rattle.df_format.specs.declared.superblock.SuperFields.{SuperFields}
 use Rattle.df_format.specs.Message.{Message}
 use Rattle.df_format.specs.Rules.{ObeysKind, ObeysTrailer}
@@ -23,10 +24,9 @@ use Rattle.df_model.specs.Supply.{Shown, block_given, class_at, given_if}
 use Rattle.df_units.specs.Meaning.{block_of, layout_of, number_of}
 use Rattle.df_grid.specs.Grid.{GridState, IsKnownUnit}
 use Rattle.df_grid.specs.Reads.{ReadsTrailer, shown_of, trailer_alone}
-use Rattle.df_checkpoint.specs.declared.links.Link.{Link}
 use Rattle.df_checkpoint.specs.declared.fault.TrailerFault.{TrailerFault}
 use Rattle.df_checkpoint.specs.declared.fault.TrailerFault.TheVariants.{BadField}
-use Rattle.df_checkpoint.specs.Chain.{LinkAnswer, OfTold, asked, before_of, content_in, is_link}
+use Rattle.df_checkpoint.specs.Chain.{IsLinkOf, IsNoLink, LinkAnswer, OfTold, asked, before_of, content_in, is_link}
 
 either : (a b : Bool) → (a || b) ≡ true → a ≡ false → b ≡ true
 either true b is none = absurd (cc)
@@ -100,43 +100,43 @@ asked_is shown a k b is = go (shown.units (BlockPlace a)) (class_at shown (Block
 
 -- ---- the answer of a link
 
-pub link_answer : (g : GridState) (told : Option Told) (f : SuperFields) (index : ℕ) (at : Link) (u : Message) (result : Result Link TrailerFault)
-    → ReadsTrailer g.layout g.cluster told at.address (number_of at.checksum) (Ok (block_of u))
-    → IsKnownUnit Trailer g.layout g.cluster at.address (Some (number_of at.checksum)) u
-    → MatchResult result (λ before. (passes g.layout f index u ≡ true) × (before ≡ before_of u)) (λ fault. (passes g.layout f index u ≡ false) × (fault ≡ BadField TrailerChain at.address))
-    → (sh : Shape) → sh.layout ≡ layout_of g.layout → OfTold g told (λ shown. LinkAnswer sh shown (content_in f) index at result)
-link_answer g None f index at u result reads known answers sh same = tt
-link_answer g (Some t) f index at u (Ok before) reads known answers sh same =
-    let link = link_is g.layout f index u sh same answers.0 in
-    let obeys : ObeysTrailer u.header = subst (λ (k : Kind). ObeysKind k u.header) known.of_kind known.is.sealed.rules.kind in
-    record {
-      block = block_of u;
-      is = sym reads;
-      link = link;
-      address = ap (λ (l : Link). l.address) answers.1;
-      checksum = ap (λ (l : Link). number_of l.checksum) answers.1;
-      first = λ zeros. ap (λ (l : Link). l.address) answers.1 ∙ obeys.request.1 (link.place ∙ zeros);
-    }
-link_answer g (Some t) f index at u (Err e) reads known answers sh same =
-    subst (λ (x : TrailerFault). LinkAnswer sh (shown_of g.layout g.cluster t.shown) (content_in f) index at (Err x)) (sym answers.1) (
-      refl,
-      refl,
-      record {
-        block = block_of u;
-        is = sym reads;
-        broken = λ link. let yes = link_passes g.layout f index u sh same link in let no = answers.0 in cc;
-      },
-    )
+-- what the tests say of it
+pub tests_are : (layout : Layout) (f : SuperFields) (index : ℕ) (u : Message) → passes layout f index u ≡ true → IsLinkOf layout f index u
+tests_are layout f index u is = λ sh same. link_is layout f index u sh same is
 
--- the same, of a copy of the layout, and of the reference that the grid was asked for
-pub link_answers : (g : GridState) (told : Option Told) (f : SuperFields) (index : ℕ) (at : Link) (u : Message) (result : Result Link TrailerFault) (layout : Layout) (r : Reference)
-    → layout ≡ g.layout → r ≡ record { address = at.address; checksum = at.checksum }
-    → ReadsTrailer g.layout g.cluster told r.address (number_of r.checksum) (Ok (block_of u))
-    → IsKnownUnit Trailer g.layout g.cluster r.address (Some (number_of r.checksum)) u
-    → MatchResult result (λ before. (passes layout f index u ≡ true) × (before ≡ before_of u)) (λ fault. (passes layout f index u ≡ false) × (fault ≡ BadField TrailerChain at.address))
-    → (sh : Shape) → sh.layout ≡ layout_of g.layout → OfTold g told (λ shown. LinkAnswer sh shown (content_in f) index at result)
-link_answers g told f index at u result layout r here refers reads known answers =
-    link_answer g told f index at u result
-    (subst (λ (x : Reference). ReadsTrailer g.layout g.cluster told x.address (number_of x.checksum) (Ok (block_of u))) refers reads)
-    (subst (λ (x : Reference). IsKnownUnit Trailer g.layout g.cluster x.address (Some (number_of x.checksum)) u) refers known)
-    (subst (λ (l : Layout). MatchResult result (λ before. (passes l f index u ≡ true) × (before ≡ before_of u)) (λ fault. (passes l f index u ≡ false) × (fault ≡ BadField TrailerChain at.address))) here answers)
+pub tests_fail : (layout : Layout) (f : SuperFields) (index : ℕ) (u : Message) → passes layout f index u ≡ false → IsNoLink layout f index u
+tests_fail layout f index u is = λ sh same link. let yes = link_passes layout f index u sh same link in cc
+
+module _ (g : GridState) (told : Option Told) (f : SuperFields) (index : ℕ) (at : Link) (u : Message) (layout : Layout) (of_grid : layout ≡ g.layout) (r : Reference) (refers : r ≡ record { address = at.address; checksum = at.checksum }) (reads_it : ReadsTrailer g.layout g.cluster told r.address (number_of r.checksum) (Ok (block_of u))) (sh : Shape)
+    (same : sh.layout ≡ layout_of g.layout) where
+  reads : ReadsTrailer g.layout g.cluster told at.address (number_of at.checksum) (Ok (block_of u))
+  reads = subst (λ (x : Reference). ReadsTrailer g.layout g.cluster told x.address (number_of x.checksum) (Ok (block_of u))) refers reads_it
+
+  own : sh.layout ≡ layout_of layout
+  own = same ∙ ap (λ (l : Layout). layout_of l) (sym of_grid)
+
+  -- the block that is shown is the link
+  pub link_taken : (before : Link) → IsKnownUnit Trailer g.layout g.cluster r.address (Some (number_of r.checksum)) u → IsLinkOf layout f index u → before ≡ before_of u → OfTold g told (λ shown. LinkAnswer sh shown (content_in f) index at (Ok before))
+  link_taken before known link is = by told reads
+    where
+      by : (told : Option Told) → ReadsTrailer g.layout g.cluster told at.address (number_of at.checksum) (Ok (block_of u)) → OfTold g told (λ shown. LinkAnswer sh shown (content_in f) index at (Ok before))
+      by None reads = tt
+      by (Some t) reads =
+          let here = link sh own in
+          let obeys : ObeysTrailer u.header = subst (λ (k : Kind). ObeysKind k u.header) known.of_kind known.is.sealed.rules.kind in
+          record {
+            block = block_of u;
+            is = sym reads;
+            link = here;
+            address = ap (λ (l : Link). l.address) is;
+            checksum = ap (λ (l : Link). number_of l.checksum) is;
+            first = λ zeros. ap (λ (l : Link). l.address) is ∙ obeys.request.1 (here.place ∙ zeros);
+          }
+
+  -- and this one isn't
+  pub link_broken : IsNoLink layout f index u → OfTold g told (λ shown. LinkAnswer sh shown (content_in f) index at (Err (BadField TrailerChain at.address)))
+  link_broken none = by told reads
+    where
+      by : (told : Option Told) → ReadsTrailer g.layout g.cluster told at.address (number_of at.checksum) (Ok (block_of u)) → OfTold g told (λ shown. LinkAnswer sh shown (content_in f) index at (Err (BadField TrailerChain at.address)))
+      by None reads = tt
+      by (Some t) reads = (refl, refl, record { block = block_of u; is = sym reads; broken = none sh own })

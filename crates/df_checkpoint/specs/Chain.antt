@@ -14,8 +14,12 @@ use Rattle.df_theory.specs.Units.{Block, Content}
 use Rattle.df_theory.specs.Shape.{Shape}
 use Rattle.df_theory.specs.Trailer.{piece_size}
 use Rattle.df_theory.specs.Opens.{AreLinks, Arrives, IsLink, ReadsTo}
+use Rattle.df_format.specs.Own.{place_in}
+use Rattle.df_layout.specs.declared.places.Zone.TheVariants.{Grid}
+use Rattle.df_model.specs.declared.errors.OpenError.{OpenError}
+use Rattle.df_model.specs.declared.errors.OpenError.TheVariants as opens
 use Rattle.df_model.specs.Supply.{Shown, block_at}
-use Rattle.df_units.specs.Meaning.{content_of, number_of}
+use Rattle.df_units.specs.Meaning.{block_of, content_of, layout_of, number_of}
 use Rattle.df_grid.specs.Grid.{GridState, HasAddress}
 use Rattle.df_grid.specs.Reads.{shown_of, trailer_alone}
 use Rattle.df_checkpoint.specs.declared.links.Link.{Link}
@@ -40,6 +44,12 @@ abbrev pub is_trailer_fault : TrailerFault → Bool
 is_trailer_fault DiskFault = true
 is_trailer_fault fault = false
 
+-- why a file isn't opened whose trailer is refused so: a block of the chain that isn't shown is named by its place in the grid
+abbrev pub error_of : TrailerFault → OpenError
+error_of (Damaged address class) = opens.Damaged (place_in Grid address) class
+error_of (BadField field value) = opens.BadField field value
+error_of DiskFault = opens.DiskFault
+
 -- ---- one link
 
 -- the tests of a link: sequence, index, size, and a block of the grid before it, but for the first one
@@ -50,6 +60,13 @@ is_link layout f index h size =
 -- the reference that a block has to the one before
 abbrev pub before_of : Message → Link
 before_of u = record { address = u.header.request; checksum = u.header.parent }
+
+-- a trailer block of a file of the layout is the link with this index of the superblock's chain, as the theory has it; or it isn't
+abbrev pub IsLinkOf : Layout → SuperFields → ℕ → Message → Type 0
+IsLinkOf layout f index u = (sh : Shape) → sh.layout ≡ layout_of layout → IsLink sh (content_in f) index (block_of u)
+
+abbrev pub IsNoLink : Layout → SuperFields → ℕ → Message → Type 0
+IsNoLink layout f index u = (sh : Shape) → sh.layout ≡ layout_of layout → IsLink sh (content_in f) index (block_of u) → ⊥
 
 -- the block that is asked for is shown, is a link, and has this reference
 pub record IsTaken (sh : Shape) (shown : Shown) (c : Content) (index : ℕ) (at before : Link) : Type 0 where

@@ -11,8 +11,8 @@ use df_format::SuperFields;
 use df_grid::Grid;
 use df_layout::LINKS;
 
-// Whether an address is one of those that were read.
-fn is_among(blocks: &[Link], address: u64) -> bool
+/// Whether an address is one of those of the references.
+pub fn is_among(blocks: &[Link], address: u64) -> bool
     ensures { result ≡ is_among address blocks.now }
 {
     blocks.iter().any(|link| link.address == address)

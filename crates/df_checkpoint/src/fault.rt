@@ -1,9 +1,10 @@
 // Why a checkpoint's trailer isn't read.
 ghost use Rattle.std.specs.Prelude.{◌≡◌};
-ghost use Rattle.df_checkpoint.specs.Chain.{is_trailer_fault};
+ghost use Rattle.df_checkpoint.specs.Chain.{error_of, is_trailer_fault};
 
 use df_base::BlamesDisk;
-use df_layout::{Class, Field};
+use df_layout::{Class, Field, Place, Zone};
+use df_model::OpenError;
 
 /// Why a trailer is refused: the first reason in the order of an open.
 #[derive(Clone, Copy, Debug, PartialEq, Eq)]
@@ -24,5 +25,24 @@ impl BlamesDisk for TrailerFault {
         ensures { result ≡ is_trailer_fault self.now }
     {
         *self == TrailerFault::DiskFault
+    }
+}
+
+impl TrailerFault {
+    /// Why the file isn't opened: a block of the chain that isn't shown is named by its place in the grid.
+    pub fn refusal(self) -> OpenError
+        ensures { result ≡ error_of self }
+    {
+        match self {
+            TrailerFault::Damaged { address, class } => OpenError::Damaged {
+                place: Place {
+                    zone: Zone::Grid,
+                    index: address,
+                },
+                class,
+            },
+            TrailerFault::BadField { field, value } => OpenError::BadField { field, value },
+            TrailerFault::DiskFault => OpenError::DiskFault,
+        }
     }
 }

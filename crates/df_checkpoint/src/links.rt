@@ -1,7 +1,7 @@
 // One link of the chain: the block that is asked for, and the reference that it has to the one before.
-ghost use Rattle.std.specs.Prelude.{◌≡◌, ◌-◌, ◌<◌, length, true, false, IfOk, MatchResult};
+ghost use Rattle.std.specs.Prelude.{◌≡◌, ◌-◌, ◌<◌, ◌≤◌, length, IfNone, IfOk, IfSome};
 ghost use Rattle.df_checkpoint.specs.Below.{IsBlamed, TrailerChain, Shape, piece_size, layout_of, AreFieldsOf, HasAddress};
-ghost use Rattle.df_checkpoint.specs.Chain.{LinkAnswer, OfTold, before_of, content_in, is_link, is_trailer_fault};
+ghost use Rattle.df_checkpoint.specs.Chain.{IsLinkOf, IsNoLink, LinkAnswer, OfTold, before_of, content_in, is_link, is_trailer_fault};
 
 use crate::TrailerFault;
 use df_base::{Check, HEADER};
@@ -13,9 +13,9 @@ use df_layout::{Field, Layout};
 
 /// Where a block of the chain stands, and the checksum that its header has to have; address 0 ends the chain.
 #[derive(Clone, Copy, Debug, PartialEq, Eq, Default)]
-pub(crate) struct Link {
-    pub(crate) address: u64,
-    pub(crate) checksum: Check,
+pub struct Link {
+    pub address: u64,
+    pub checksum: Check,
 }
 
 impl Link {
@@ -64,29 +64,29 @@ pub(crate) fn broken(address: u64) -> TrailerFault
     }
 }
 
-// The reference that a block has to the one before, where it is the link with this index.
-fn before_in(
-    unit: &Sound<Trailer>,
+/// The reference that a trailer block has to the one before it in the chain, where it is the link with this index: of the superblock's
+/// sequence, of that index, as long as that piece of the text, and but for the first one behind a block of the grid. None where it isn't.
+pub fn link_before(
     layout: &Layout,
     content: &SuperFields,
-    address: u64,
     index: u64,
-) -> Result<Link, TrailerFault>
+    unit: &Sound<Trailer>,
+) -> Option<Link>
     requires { index < 70 }
-    ensures ok { MatchResult result (λ before. (is_link layout.now content.now index unit.now.unit.header (length unit.now.unit.body) ≡ true) × (before ≡ before_of unit.now.unit))
-        (λ fault. (is_link layout.now content.now index unit.now.unit.header (length unit.now.unit.body) ≡ false) × (fault ≡ TrailerFault.BadField TrailerChain address)) }
+    ensures link { IfSome result (λ before. IsLinkOf layout.now content.now index unit.now.unit × (before ≡ before_of unit.now.unit)) }
+    ensures inside { IfSome result (λ before. 0 < index → (1 ≤ before.address) × (before.address ≤ layout.now.blocks)) }
+    ensures none { IfNone result (IsNoLink layout.now content.now index unit.now.unit) }
 {
     let header = unit.header();
     let size = unit.body().len() as u64;
     if is_link(layout, content, index, header, size) {
         let checksum = header.parent;
-        Ok(Link {
+        return Some(Link {
             address: header.request,
             checksum,
-        })
-    } else {
-        Err(broken(address))
+        });
     }
+    None
 }
 
 /// The reference before the link with this index, which is asked for at a reference; 0 before the first one.
@@ -108,7 +108,10 @@ pub(crate) fn read_link<D: Disk>(
 {
     let layout = grid.layout();
     match grid.show_trailer(disk, at.reference()) {
-        Ok(Ok(unit)) => before_in(unit, &layout, content, at.address, index),
+        Ok(Ok(unit)) => match link_before(&layout, content, index, unit) {
+            Some(before) => Ok(before),
+            None => Err(broken(at.address)),
+        },
         Ok(Err(class)) => Err(TrailerFault::Damaged {
             address: at.address,
             class,

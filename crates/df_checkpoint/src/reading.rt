@@ -18,8 +18,8 @@ use df_grid::{Grid, chains_have_room};
 use df_layout::{LINKS, Layout};
 use df_trailer::Reader;
 
-// How many blocks a trailer of the superblock's size has.
-fn block_count(layout: &Layout, content: &SuperFields) -> u64
+/// How many blocks the trailer has that a superblock names; none where it names none.
+pub fn block_count(layout: &Layout, content: &SuperFields) -> u64
     ensures { IsCount (layout.now.block_size - 256) content.now.trailer_size result }
 {
     content

@@ -1,7 +1,5 @@
 // What is tested before the target is touched: the source is at rest, and the layout has room for its sessions and its blocks.
 ghost use Rattle.std.specs.Prelude.{◌≡◌, ◌<◌, ◌≤◌, ◌^◌, false, true, length, IfErr, IfOk};
-ghost use Rattle.df_trailer.specs.Spelling.{text_size};
-ghost use Rattle.df_units.specs.Meaning.{layout_of};
 ghost use Rattle.df_opening.specs.Below.{memory};
 ghost use Rattle.df_copy.specs.Planning.{IsPlan, IsTested};
 ghost use Rattle.df_copy.specs.Tests.{is_at_rest, needed, references};
@@ -10,6 +8,7 @@ use crate::ending::Ending;
 use df_base::HEADER;
 use df_layout::Layout;
 use df_replica::Replica;
+use df_trailer::trailer_size;
 
 /// How long the copy's trailer is to be: bytes of its text, and blocks. Both are 0 where the source has none.
 #[derive(Clone, Copy)]
@@ -64,17 +63,6 @@ fn count_references(replica: &Replica) -> u64
     count
 }
 
-// Bytes of the text of a trailer of the layout, with a root of so many bytes, so many sessions and so many referenced blocks: also where the layout has fewer.
-fn size_of_text(layout: &Layout, root: u64, sessions: u64, references: u64) -> u64
-    requires root { root ≤ 1024 }
-    requires sessions { sessions ≤ 64 }
-    requires references { references ≤ 16384 }
-    ensures value { result ≡ text_size (layout_of layout.now) root sessions references }
-    ensures below { result ≤ 2 ^ 32 }
-{
-    4 + root + 4 + 32 * sessions + u64::from(layout.blocks.div_ceil(8)) + 16 * references
-}
-
 // How long the copy's trailer is to be.
 fn plan_trailer(replica: &Replica, layout: &Layout, count: u64) -> Plan
     requires sessions { length replica.now.table.sessions ≤ layout.now.clients }
@@ -87,7 +75,7 @@ fn plan_trailer(replica: &Replica, layout: &Layout, count: u64) -> Plan
     if replica.fields().trailer_address != 0 {
         let root = replica.root().len() as u64;
         let sessions = replica.summary().sessions;
-        size = size_of_text(layout, root, sessions, count);
+        size = trailer_size(layout, root, sessions, count);
     }
     let room = u64::from(layout.block_size) - HEADER as u64;
     Plan {

@@ -13,3 +13,4 @@ mod writes;
 
 pub use captured::chains_have_room;
 pub use grid::Grid;
+pub use reads::known_at;

@@ -25,8 +25,8 @@ pub(crate) fn grid_place(address: u64) -> Place
     }
 }
 
-// The block with this checksum, at an address.
-fn known_at(layout: &Layout, cluster: u128, address: u64, checksum: Check) -> Identity
+/// The block with this checksum, at an address.
+pub fn known_at(layout: &Layout, cluster: u128, address: u64, checksum: Check) -> Identity
     ensures identity { result ≡ at_address layout.now cluster address checksum }
     ensures check { IsCheck checksum }
 {

@@ -30,7 +30,7 @@ pub fn put_place(line: &mut Line, place: Place)
 }
 
 /// Puts a class at the end of the line.
-pub(crate) fn put_class(line: &mut Line, class: Class)
+pub fn put_class(line: &mut Line, class: Class)
     requires { length line.old.items + 64 ≤ 640 }
     ensures put { line.new.items ≡ line.old.items ++ class_text class }
     ensures room { length line.new.items ≤ length line.old.items + 64 }

@@ -1,5 +1,5 @@
 -- One link of the chain, as a step of the walk.
-use Rattle.std.proofs.Common.{◌≡◌, ℕ, ◌+◌, ◌-◌, ◌<◌, ◌==◌, true, false, List, [], ◌∷◌, ◌++◌, length, Some, refl, sym, ◌∙◌, ap, subst, arith, inl, inr}
+use Rattle.std.proofs.Common.{◌≡◌, ℕ, ◌+◌, ◌-◌, ◌<◌, ◌==◌, ◌||◌, Bool, true, false, List, [], ◌∷◌, ◌++◌, length, map, Some, refl, sym, ◌∙◌, ap, subst, arith, inl, inr}
 use Rattle.std.proofs.lemmas.List.{length-map, map-append}
 use Rattle.std.proofs.lemmas.Option.{same_Some}
 use Rattle.std.specs.Prelude.{Result, Ok, Err, IfOk}
@@ -7,7 +7,7 @@ use Rattle.std.specs.List.{list_any}
 use Rattle.df_disk.specs.Told.{Told}
 use Rattle.df_layout.specs.declared.fields.Field.TheVariants.{TrailerChain}
 use Rattle.df_format.specs.declared.kind.Kind.TheVariants.{Trailer}
-use Rattle.df_format.specs.declared.reference.Reference.{Reference}
+use Rattle.df_checkpoint.specs.declared.links.Link.{Link}
 use Rattle.df_format.specs.Message.{Message}
 use Rattle.df_format.specs.Spelling.{IsCheck}
 use Rattle.df_buffers.specs.declared.identity.Identity.{Identity}
@@ -20,6 +20,7 @@ use Rattle.df_theory.proofs.Laws.{arrives_more, links_more}
 use Rattle.df_units.specs.Meaning.{block_of, number_of}
 use Rattle.df_units.specs.Wanted.{IsOfKind, checksum_of}
 use Rattle.df_grid.specs.Reads.{at_address, shown_of}
+use Rattle.df_checkpoint.specs.Chain.{is_among}
 use Rattle.df_opening.specs.Below.{shape}
 use Rattle.df_mirror.specs.declared.chain.Walk.{Walk}
 use Rattle.df_mirror.specs.declared.ending.Ending.{Ending}
@@ -34,6 +35,11 @@ use Rattle.df_mirror.proofs.Chains.{among, arrives_there, asked_shown, chain_spa
 use Rattle.df_mirror.proofs.Frames.{other_place}
 use Rattle.df_mirror.proofs.Joined.{came_with, kind_at, none_came}
 use Rattle.df_mirror.proofs.Turns.{MendsDue, due_mended, of_one}
+
+-- the references have an address where their addresses do
+among_map : (a : ℕ) (refs : List Link) → is_among a refs ≡ list_any (λ other. other == a) (map (λ r. r.address) refs)
+among_map a [] = refl
+among_map a (r ∷ rs) = ap (λ (b : Bool). (r.address == a) || b) (among_map a rs)
 
 -- the block of the trailer that an image shows
 pub record IsThere (image : Units) (a k : ℕ) (u : Message) : Type 0 where
@@ -52,7 +58,7 @@ it_is_there b a check t u is =
 
 module _ (b : Superblock) (n index : ℕ) (walk : Walk) (t o : Told) (counts : IsCount (b.file.layout.block_size - 256) b.content.trailer_size n) (size : n ≡ length walk.read.items + (index + 1)) (walked : HasWalked b (units_of b t.shown) n walk) where
   pub counted : n ≡ length walked.chain + (index + 1)
-  counted = size ∙ ap (λ (m : ℕ). m + (index + 1)) (ap length walked.addresses ∙ length-map walked.chain (λ x. x.0))
+  counted = size ∙ ap (λ (m : ℕ). m + (index + 1)) (sym (length-map walk.read.items (λ r. r.address)) ∙ ap length walked.addresses ∙ length-map walked.chain (λ x. x.0))
 
   some_more : length walked.chain < n
   some_more = omega (arith, counted)
@@ -60,19 +66,23 @@ module _ (b : Superblock) (n index : ℕ) (walk : Walk) (t o : Told) (counts : I
   abbrev Its : ReadsTo (shape b.file) (units_of b t.shown) (content_of b) walk.at.address (number_of walk.at.checksum)
   Its = record { count = n; read = walked.chain; counts = counts; arrives = walked.arrives; links = walked.links; more = some_more }
 
+  -- an address is one of those that were read where it is one of the chain's
+  among_walked : (read : List Link) → read ≡ walk.read.items → is_among walk.at.address read ≡ list_any (λ other. other == walk.at.address) (map (λ x. x.0) walked.chain)
+  among_walked read same = ap (is_among walk.at.address) same ∙ among_map walk.at.address walk.read.items ∙ ap (λ (l : List ℕ). list_any (λ other. other == walk.at.address) l) walked.addresses
+
   -- the chain comes to an address again
-  pub link_again : (read : List ℕ) → read ≡ walk.read.items → list_any (λ other. other == walk.at.address) read ≡ true → (old : Outside) (e : Ending) (Shows : Units → Type 0) → Tell t o old → e ≡ broken_at walk.at.address → Mended b (AreOfKind Trailer) t o old old (Err e) Shows
+  pub link_again : (read : List Link) → read ≡ walk.read.items → is_among walk.at.address read ≡ true → (old : Outside) (e : Ending) (Shows : Units → Type 0) → Tell t o old → e ≡ broken_at walk.at.address → Mended b (AreOfKind Trailer) t o old old (Err e) Shows
   link_again read same some old e Shows tell is =
-      let there = among walked.chain walk.at.address (subst (λ (l : List ℕ). list_any (λ other. other == walk.at.address) l ≡ true) (same ∙ walked.addresses) some) in
+      let there = among walked.chain walk.at.address (sym (among_walked read same) ∙ some) in
       let again : ComesAgain (shape b.file) (units_of b t.shown) (content_of b) walk.at.address = record { sum = number_of walk.at.checksum; reads = Its; block = there.0; chained = there.1 } in
       subst (λ (x : Ending). Mended b (AreOfKind Trailer) t o old old (Err x) Shows) (sym is) (record {
         answers = none_came b.file (content_of b) (AreOfKind Trailer) tt t o old.first old.written old.written tell.first refl (λ ms m. RefusesTrailer b.file m.shown (content_of b) (BadField TrailerChain walk.at.address)) (inr (refl, again));
         shown = λ u is. tt;
       })
 
-  module _ (read : List ℕ) (same_read : read ≡ walk.read.items) (fresh : list_any (λ other. other == walk.at.address) read ≡ false) where
+  module _ (read : List Link) (same_read : read ≡ walk.read.items) (fresh : is_among walk.at.address read ≡ false) where
     apart : (e : ℕ) (x : Block) → InChain e x walked.chain → e ≡ walk.at.address → ⊥
-    apart e x at = not_among walked.chain walk.at.address e x (subst (λ (l : List ℕ). list_any (λ other. other == walk.at.address) l ≡ false) (same_read ∙ walked.addresses) fresh) at
+    apart e x at = not_among walked.chain walk.at.address e x (sym (among_walked read same_read) ∙ fresh) at
 
     link_due : IsDue (shape b.file) (units_of b t.shown) (content_of b) Trailer (BlockPlace walk.at.address) (number_of walk.at.checksum)
     link_due = record {
@@ -110,8 +120,8 @@ module _ (b : Superblock) (n index : ℕ) (walk : Walk) (t o : Told) (counts : I
               let on = arrives_more (units_of b m.shown) walked.chain d (content_of b).trailer (content_of b).trailer_checksum walk.at.address (number_of walk.at.checksum) arrives above refl there.sum there.kind there.shown in
               record {
                 chain = walked.chain ++ d ∷ [];
-                addresses = goes.2 ∙ ap (λ (l : List ℕ). l ++ walk.at.address ∷ []) walked.addresses ∙ sym (map-append (λ x. x.0) walked.chain (d ∷ []));
-                arrives = subst (λ (r : Reference). Arrives (units_of b m.shown) (walked.chain ++ d ∷ []) (content_of b).trailer (content_of b).trailer_checksum r.address (number_of r.checksum)) (sym goes.1) on;
+                addresses = ap (λ (l : List Link). map (λ r. r.address) l) goes.2 ∙ map-append (λ r. r.address) walk.read.items (walk.at ∷ []) ∙ ap (λ (l : List ℕ). l ++ walk.at.address ∷ []) walked.addresses ∙ sym (map-append (λ x. x.0) walked.chain (d ∷ []));
+                arrives = subst (λ (r : Link). Arrives (units_of b m.shown) (walked.chain ++ d ∷ []) (content_of b).trailer (content_of b).trailer_checksum r.address (number_of r.checksum)) (sym goes.1) on;
                 links = links_more (shape b.file) (content_of b) n index walked.chain d walked.links counted goes.0;
               }
 

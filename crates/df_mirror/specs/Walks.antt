@@ -4,7 +4,7 @@ use Rattle.df_base.specs.Image.{Image}
 use Rattle.df_disk.specs.Told.{Told}
 use Rattle.df_format.specs.declared.kind.Kind.TheVariants.{Block as AsBlock, Prepare, Reply}
 use Rattle.df_format.specs.declared.header.Header.{Header}
-use Rattle.df_format.specs.declared.reference.Reference.{Reference}
+use Rattle.df_checkpoint.specs.declared.links.Link.{Link}
 use Rattle.df_format.specs.Message as format
 use Rattle.df_layout.specs.declared.damage.Class.{Class}
 use Rattle.df_layout.specs.declared.fields.Field.TheVariants.{TrailerChain}
@@ -20,7 +20,7 @@ use Rattle.df_sessions.specs.Table.{Table}
 use Rattle.df_journal.specs.Scan.{Scan}
 use Rattle.df_journal.specs.Shows.{TellsRings}
 use Rattle.df_grid.specs.Grid.{GridState}
-use Rattle.df_checkpoint.specs.Chain.{content_in}
+use Rattle.df_checkpoint.specs.Chain.{before_of, content_in}
 use Rattle.df_opening.specs.Below.{shape}
 use Rattle.df_mirror.specs.declared.chain.Walk.{Walk}
 use Rattle.df_mirror.specs.declared.ending.Ending.{Ending}
@@ -52,7 +52,7 @@ IsInside b a = (1 ≤ a) × (a ≤ b.file.layout.blocks)
 -- of n blocks that are wanted the last ones are shown as the chain asks for them, and this one is wanted next
 pub record HasWalked (b : Superblock) (image : Units) (n : ℕ) (walk : Walk) : Type 0 where
   pub chain : List (ℕ × Block)
-  pub addresses : walk.read.items ≡ map (λ x. x.0) chain
+  pub addresses : map (λ r. r.address) walk.read.items ≡ map (λ x. x.0) chain
   pub arrives : Arrives image chain (content_of b).trailer (content_of b).trailer_checksum walk.at.address (number_of walk.at.checksum)
   pub links : AreLinks (shape b.file) (content_of b) n chain
 
@@ -60,13 +60,9 @@ pub record HasWalked (b : Superblock) (image : Units) (n : ℕ) (walk : Walk) : 
 abbrev pub broken_at : ℕ → Ending
 broken_at address = Unopened (BadField TrailerChain address)
 
--- the reference that a block has to the one before
-abbrev pub before_of : format.Message → Reference
-before_of u = record { address = u.header.request; checksum = u.header.parent }
-
 -- the block is the link with this index, and the walk goes on to the block that it names; or it isn't
-abbrev pub GoesOn : Superblock → (at : Reference) → (read : List ℕ) → ℕ → format.Message → Result Walk Ending → Type 0
-GoesOn b at read index u (Ok walk) = IsLink (shape b.file) (content_of b) index (block_of u) × (walk.at ≡ before_of u) × (walk.read.items ≡ read ++ at.address ∷ [])
+abbrev pub GoesOn : Superblock → (at : Link) → (read : List Link) → ℕ → format.Message → Result Walk Ending → Type 0
+GoesOn b at read index u (Ok walk) = IsLink (shape b.file) (content_of b) index (block_of u) × (walk.at ≡ before_of u) × (walk.read.items ≡ read ++ at ∷ [])
 GoesOn b at read index u (Err e) = (e ≡ broken_at at.address) × (IsLink (shape b.file) (content_of b) index (block_of u) → ⊥)
 
 -- the walk goes on, where the link is mended

@@ -9,14 +9,13 @@ ghost use Rattle.df_mirror.specs.Statuses.{AreBlamed};
 ghost use Rattle.df_mirror.specs.Taking.{count_in};
 ghost use Rattle.df_mirror.specs.Walks.{HasText, Mended, ShowsBlocks, units_of};
 
-use crate::chain::block_at;
 use crate::ending::Ending;
 use crate::superblock::Superblock;
 use crate::unit::mend_unit;
 use df_base::Sink;
 use df_buffers::{Block, Raw};
 use df_disk::Disk;
-use df_grid::Grid;
+use df_grid::{Grid, known_at};
 
 // Mends the block at an address, if one is referenced there. The room comes back.
 fn mend_at<A: Disk, B: Disk, W: Sink>(
@@ -39,7 +38,7 @@ fn mend_at<A: Disk, B: Disk, W: Sink>(
     let address = before + 1;
     match grid.live(address) {
         Some(checksum) => {
-            let wanted = block_at(base, address, checksum);
+            let wanted = known_at(&base.file.layout, base.file.cluster, address, checksum);
             match mend_unit(first, second, sink, room, &wanted) {
                 Ok((unit, more)) => Ok((unit.loosen(), more)),
                 Err(ending) => Err(ending),

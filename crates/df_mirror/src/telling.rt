@@ -1,37 +1,19 @@
 // What a mending prints: a line for each unit, how many there were, or why it ends.
-ghost use Rattle.std.specs.Prelude.{◌≡◌, ◌≤◌, ◌+◌, ◌++◌, length};
+ghost use Rattle.std.specs.Prelude.{◌≡◌};
 ghost use Rattle.df_base.specs.Causes.{HasCause};
 ghost use Rattle.df_inspect.specs.Prints.{Prints};
-ghost use Rattle.df_script_model.specs.Texts.{class_text};
 ghost use Rattle.df_mirror.specs.Outside.{Blames, Writes, ended};
 ghost use Rattle.df_mirror.specs.Texts.{count_text, mended_text, neither_text};
 
 use crate::status::Status;
 use arrayvec::ArrayVec;
 use df_base::{Failed, Sink};
-use df_inspect::{Line, number_line, put, put_place, write_line};
+use df_inspect::{Line, number_line, put, put_class, put_place, write_line};
 use df_layout::{Class, Place};
 use df_telling::end_line;
 
 /// The line that says which words have a meaning.
 pub const USAGE: &[u8] = b"usage: filemirror FIRST SECOND\n";
-
-// Puts a class at the end of the line.
-fn put_class(line: &mut Line, class: Class)
-    requires { length line.old.items + 64 ≤ 640 }
-    ensures put { line.new.items ≡ line.old.items ++ class_text class }
-    ensures room { length line.new.items ≤ length line.old.items + 64 }
-{
-    match class {
-        Class::Elsewhere(place) => {
-            put(line, "Elsewhere ");
-            put_place(line, place);
-        }
-        Class::Blank => put(line, "Blank"),
-        Class::Garbled => put(line, "Garbled"),
-        Class::Stale => put(line, "Stale"),
-    }
-}
 
 /// Prints that the unit at a place was written.
 pub(crate) fn print_mended<W: Sink>(sink: &mut W, place: Place) -> Result<(), Failed>

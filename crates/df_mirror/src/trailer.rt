@@ -17,7 +17,7 @@ use arrayvec::ArrayVec;
 use df_checkpoint::{TrailerFault, pending, read_chain};
 use df_disk::Disk;
 use df_grid::Grid;
-use df_layout::{Field, Place, Zone};
+use df_layout::Field;
 use df_model::OpenError;
 use df_rooms::{GridRooms, TrailerRooms};
 use df_sessions::{Session, SessionTable};
@@ -34,18 +34,12 @@ pub(crate) struct Text {
 fn ending_of(fault: TrailerFault) -> Ending
     ensures { result ≡ ending_of fault }
 {
-    let error = match fault {
-        TrailerFault::DiskFault => return Ending::First,
-        TrailerFault::BadField { field, value } => OpenError::BadField { field, value },
-        TrailerFault::Damaged { address, class } => {
-            let place = Place {
-                zone: Zone::Grid,
-                index: address,
-            };
-            OpenError::Damaged { place, class }
-        }
-    };
-    Ending::Unopened { error }
+    match fault {
+        TrailerFault::DiskFault => Ending::First,
+        _ => Ending::Unopened {
+            error: fault.refusal(),
+        },
+    }
 }
 
 // An op that waits for its reply, and is that of no session.

@@ -13,7 +13,7 @@ use df_disk::Disk;
 use df_format::Super;
 use df_headers::HeaderTable;
 use df_layout::{Layout, SECTOR_HEADERS};
-use df_superblock::{first_written, read_all, write_copy};
+use df_superblock::{first_written, read_all, write_copies};
 
 /// Tests whether the sectors of the copies hold zeros alone, and refuses with the first that doesn't. Nothing is written.
 pub fn test_blank<D: Disk>(disk: &mut D, room: &mut ProbeRoom) -> Result<(), FormatError>
@@ -29,17 +29,6 @@ pub fn test_blank<D: Disk>(disk: &mut D, room: &mut ProbeRoom) -> Result<(), For
         },
         Err(_) => Err(FormatError::DiskFault),
     }
-}
-
-// Writes the copies in order of number, each durable before the next one is written.
-fn write_copies<D: Disk>(disk: &mut D, room: &mut ProbeRoom, content: &Super) -> Result<(), Failed>
-    ensures events { Adds (update_events content.now) (D.told disk.old) (D.told disk.new) result }
-    ensures cause { HasCause (D.faults disk.old) (D.faults disk.new) result }
-{
-    write_copy(disk, room, content, 0)?;
-    write_copy(disk, room, content, 1)?;
-    write_copy(disk, room, content, 2)?;
-    write_copy(disk, room, content, 3)
 }
 
 /// Writes each sector of the header ring from the table, in order and without a sync: until the next one a stop may leave anything in them.

@@ -12,4 +12,4 @@ pub use blank::first_written;
 pub use copies::{read_all, write_copy};
 pub use misleading::a_start_can_mislead;
 pub use repairs::repair;
-pub use updates::{UpdateError, update};
+pub use updates::{UpdateError, update, write_copies};

@@ -33,8 +33,13 @@ impl BlamesDisk for UpdateError {
     }
 }
 
-// Writes the four copies.
-fn write_each<D: Disk>(disk: &mut D, room: &mut ProbeRoom, content: &Super) -> Result<(), Failed>
+/// Writes the copies in order of number, each durable before the next one is written. After an error some of them, from copy 0 on,
+/// may have been written.
+pub fn write_copies<D: Disk>(
+    disk: &mut D,
+    room: &mut ProbeRoom,
+    content: &Super,
+) -> Result<(), Failed>
     ensures events { Adds (update_events content.now) (D.told disk.old) (D.told disk.new) result }
     ensures cause { HasCause (D.faults disk.old) (D.faults disk.new) result }
 {
@@ -55,7 +60,7 @@ fn write_all<D: Disk>(disk: &mut D, room: &mut ProbeRoom, content: &Super) -> Re
 {
     // Its fields obey their rules.
     let _fields = content.fields();
-    write_each(disk, room, content)
+    write_copies(disk, room, content)
 }
 
 fn class_of(slot: &Slot) -> Class

@@ -16,7 +16,7 @@ returns-clause-plan c =
     let size : c.if-fields-ne0.size ≡ trailer_size c.args.layout.now (memory s) =
     elim c.if-fields-ne0.branch [
       | then-fields-ne0 w ↦
-          w.size-is ∙ w.size_of_text-size.ensures.value
+          w.size-is ∙ w.trailer_size-size.ensures.value
           ∙ text_as c.args.layout.now s (length w.root.result.now) w.summary-sessions.result.sessions c.args.count (ap (λ (l : List ℕ). length l) w.root.ensures.is) (ap (λ (n : Summary). n.sessions) w.summary-sessions.ensures) c.requires.count (λ is. w.if-fields-ne0.true (named ∙ is))
       | else-fields-ne0 w ↦ w.size-is ∙ sym (size_none c.args.layout.now s (sym named ∙ w.if-fields-ne0.false))
     ] in

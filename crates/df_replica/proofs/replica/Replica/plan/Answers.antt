@@ -21,7 +21,7 @@ returns c =
     c.live_blocks-blocks.ensures.captured ∙ ap (λ (l : Layout). ones (map is_referenced (captured_blocks (λ a. sum_at a s.blocks.live) l.blocks))) same in
     let few : live ≤ s.file.layout.blocks = omega (arith, c.live_blocks-blocks.ensures.most, ap (λ (l : Layout). l.blocks) same) in
     let table = c.len-sessions.ensures.table in
-    let size = c.trailer_size.ensures ∙ ap (λ (n : ℕ). text_size (layout_of s.file.layout) (length c.args.root.now) n live) c.len-sessions.ensures.value in
+    let size = c.trailer_size.ensures.value ∙ ap (λ (n : ℕ). text_size (layout_of s.file.layout) (length c.args.root.now) n live) c.len-sessions.ensures.value in
     let count = subst (λ (n : ℕ). IsCount (s.file.layout.block_size - 256) (text_size (layout_of s.file.layout) (length c.args.root.now) n live) c.blocks_needed.result) c.len-sessions.ensures.value c.blocks_needed.ensures.count in
     subst (λ (x : State). IsPlan x c.args.root.now (record { size = c.trailer_size.result; blocks = c.blocks_needed.result })) c.self.view_is
     (planned s c.args.root.now live c.trailer_size.result live_is size c.blocks_needed.result c.requires (omega (arith, table.within, c.self.invariant.state.places)) few count c.blocks_needed.ensures.most)
