@@ -8,7 +8,7 @@ use std::alloc::Global;
 use std::env;
 use std::io::ErrorKind;
 
-/// The words behind the program's name. Where one of them isn't UTF-8 they have no meaning, as if there were none.
+/// The words after the program's name. Where one of them isn't UTF-8 they have no meaning, as if there were none.
 pub fn words(rt: &HostRuntime) -> Result<Vec<String>, OutOfMemory> {
     let args = match env::args(rt) {
         Ok(args) => args,

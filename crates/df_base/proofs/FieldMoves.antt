@@ -7,7 +7,7 @@ use Rattle.byteorder.specs.Endian.{little_from, little_number}
 use Rattle.byteorder.specs.Numbers.{little_from-take}
 use Rattle.df_base.specs.Fields.{field_at}
 
--- what stands in a text stays where more comes behind it
+-- what stands in a text stays where more comes after it
 pub field_front : (n at : ℕ) (xs ys : List ℕ) → at + n ≤ length xs → field_at n at (xs ++ ys) ≡ field_at n at xs
 unfolding field_at
 field_front n at xs ys fits =

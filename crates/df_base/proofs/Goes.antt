@@ -94,6 +94,6 @@ at_weaker P Q implies (e ∷ es) log each = (implies log each.0, at_weaker P Q i
 pub stands : (P : Log → Type 0) (log : Log) → P log → Passed log log P
 stands P log here = record { grew = extends_self log; moments = started log P here }
 
--- an event, and what happened behind it
+-- an event, and what happened after it
 pub goes_on : (P : Log → Type 0) (e : Event) (log exit : Log) → P log → Passed (add e log) exit P → Passed log exit P
 goes_on P e log exit here later = record { grew = grown_from e log exit later.grew; moments = from_before e log exit P here later.grew later.moments }

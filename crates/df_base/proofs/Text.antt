@@ -10,15 +10,15 @@ use Rattle.df_base.specs.Text.Puts.{Done, Put, PutBytes, PutText}
 
 -- ---- where a piece stands
 
--- what stands from an offset on is a piece and what stands behind it
+-- what stands from an offset on is a piece and what stands after it
 pub piece : (at n : ℕ) (bytes front rest : List ℕ) → front ≡ take n (drop at bytes) → drop (at + n) bytes ≡ rest → drop at bytes ≡ front ++ rest
 piece at n bytes front rest is behind = sym (take-append-drop n (drop at bytes)) ∙ (λ i. sym is i ++ (drop-drop n at bytes ∙ behind) i)
 
--- what stands behind a piece
+-- what stands after a piece
 pub past : (at n : ℕ) (bytes front rest : List ℕ) → drop at bytes ≡ front ++ rest → length front ≡ n → drop (at + n) bytes ≡ rest
 past at n bytes front rest is size = sym (drop-drop n at bytes) ∙ ap (λ (l : List ℕ). drop n l) is ∙ drop_at front rest n size
 
--- a number that is written behind what stands in front
+-- a number that is written after what stands in front
 pub number_behind : (at n x : ℕ) (old new front : List ℕ) → at + n ≤ length old → new ≡ put_at n at x old → take at old ≡ front → take (at + n) new ≡ front ++ spelled n x
 number_behind at n x old new front fits is before =
     let size : length (take at old ++ spelled n x) ≡ at + n = length-append (take at old) (spelled n x) ∙ (λ i. length-take-le at old (omega arith) i + length-spelled n x i) in
@@ -107,7 +107,7 @@ pub text-append : {R : Type 0} (ps : List (Piece R)) (r : R) (one two : List ℕ
 text-append [] r one two = refl
 text-append (p ∷ ps) r one two = append_assoc (spell p r) (text ps r one) two ∙ ap (λ (l : List ℕ). spell p r ++ l) (text-append ps r one two)
 
--- what stands behind them
+-- what stands after them
 pub behind : {R : Type 0} (ps : List (Piece R)) (at : ℕ) (bytes rest : List ℕ) (r : R) → Fit ps r → drop at bytes ≡ text ps r rest → drop (at + total ps) bytes ≡ rest
 behind [] at bytes rest r fit is = ap (λ (n : ℕ). drop n bytes) (let here : at + 0 ≡ at = omega arith in here) ∙ is
 behind (p ∷ ps) at bytes rest r fit is =

@@ -27,7 +27,7 @@ spell (Byte get) r = get r ∷ []
 spell (Number n get) r = spelled n (get r)
 spell (Bytes n get) r = get r
 
--- the pieces, one behind the other, before a rest
+-- the pieces, one after the other, before a rest
 abbrev pub text : {R : Type 0} → List (Piece R) → R → List ℕ → List ℕ
 text [] r rest = rest
 text (p ∷ ps) r rest = spell p r ++ text ps r rest

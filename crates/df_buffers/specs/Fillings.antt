@@ -1,4 +1,4 @@
--- Filled rooms: rooms with a body behind the place of a header.
+-- Filled rooms: rooms with a body after the place of a header.
 use Rattle.std.specs.Prelude.{◌+◌, ◌≤◌, ℕ, List, take, drop}
 use Rattle.df_layout.specs.declared.layout.Layout.{Layout}
 use Rattle.df_layout.specs.declared.places.Zone.{Zone}

@@ -8,7 +8,7 @@ use df_format::{Header, seal_unit};
 use df_layout::Layout;
 use std::marker::{Model, PhantomData};
 
-/// A room with a body behind the place of a header that isn't made yet. Contracts see the layout and the body.
+/// A room with a body after the place of a header that isn't made yet. Contracts see the layout and the body.
 #[derive(Drop)]
 pub struct Filled<K: UnitKind> {
     pub(crate) layout: Layout,
@@ -27,7 +27,7 @@ impl<K: UnitKind> Model for Filled<K> {
     ghost invariant = { λ s. IsFilled K.ZONE s.layout s.count s.bytes.items };
 }
 
-// Copies a body behind the place of a header.
+// Copies a body after the place of a header.
 fn put_body(bytes: &mut [u8], body: &[u8])
     requires { 256 + length body.now ≤ length bytes.old }
     ensures body { take (length body.now) (drop 256 bytes.new) ≡ body.now }
@@ -37,7 +37,7 @@ fn put_body(bytes: &mut [u8], body: &[u8])
 }
 
 impl<K: UnitKind> Raw<K> {
-    /// Puts a body into the room, behind the place of its header.
+    /// Puts a body into the room, after the place of its header.
     pub fn fill(self, body: &[u8]) -> Filled<K>
         requires { 256 + length body.now ≤ greatest_size self.layout K.ZONE }
         ensures { result ≡ record { layout = self.layout; body = body.now } }
@@ -66,7 +66,7 @@ impl<K: UnitKind> Filled<K> {
     }
 
     /// Makes a unit of a header and the body that is in the room: it sets the header's size and checksums from the body, writes the
-    /// header before it, and zeros behind it up to the last whole sector.
+    /// header before it, and zeros after it up to the last whole sector.
     pub fn seal(self, header: Header) -> Sound<K>
         requires rules { ObeysRules (for_body header self.body) }
         requires kind { header.kind ≡ K.KIND }

@@ -20,7 +20,7 @@ use Rattle.df_checkpoint.specs.Adopting.{AdoptAnswer, blocks_to, chained, pair_o
 abbrev held_by : List (ℕ × ℕ) → Blocks
 held_by xs = record { live = xs; captured = []; written = []; left = []; durable = xs; chain = [] }
 
--- an entry behind a lower one
+-- an entry after a lower one
 behind : (a c s : ℕ) (o : Option ℕ) (xs : List (ℕ × ℕ)) → s < a → with_entry a c (entry s o xs) ≡ entry s o (with_entry a c xs)
 behind a c s None xs less = refl
 behind a c s (Some d) xs less =
@@ -89,7 +89,7 @@ chain_free g b rs a is none inside free apart = record {
       ∙ free;
 }
 
--- the links behind one, in the order from the last block to the first
+-- the links after one, in the order from the last block to the first
 pub record IsNext (refs : List Link) (k : ℕ) (at : Link) : Type 0 where
   pub split : drop k refs ≡ at ∷ drop (suc k) refs
   pub apart : is_among at.address (drop (suc k) refs) ≡ false

@@ -72,7 +72,7 @@ text_front zero chain = record { more = []; is = all (text_of chain) }
 text_front (suc k) [] = record { more = []; is = refl }
 text_front (suc k) (x ∷ xs) = let rest = text_front k xs in record { more = rest.more ++ x.1.body; is = ap (λ (l : List ℕ). l ++ x.1.body) rest.is ∙ append_assoc (text_of (drop k xs)) rest.more x.1.body }
 
--- the block that a reference names, and those behind it in the list
+-- the block that a reference names, and those after it in the list
 pub record IsAt (shown : Shown) (chain : List (ℕ × Block)) (k : ℕ) (at : Link) : Type 0 where
   pub block : Block
   pub is : asked shown at.address (number_of at.checksum) ≡ Ok block

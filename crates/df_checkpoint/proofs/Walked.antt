@@ -132,7 +132,7 @@ step_again g None f index refs at new before e answer again sh same = tt
 step_again g (Some t) f index refs at new before e answer again sh same = λ n counts count walked.
     absurd (not_again sh (shown_of g.layout g.cluster t.shown) (content_in f) n index refs at walked count before (answer sh same) again)
 
--- a link that is taken goes behind the others
+-- a link that is taken goes after the others
 pub step_more : (g : GridState) (told : Option Told) (f : SuperFields) (index : ℕ) (refs : List Link) (at : Link) (new : List Link) (before : Link) → Answer g told f index at (Ok before) → HasAddress g at.address → new ≡ refs ++ at ∷ [] → Step g told f index refs at new (Ok before)
 step_more g None f index refs at new before answer inside more sh same = tt
 step_more g (Some t) f index refs at new before answer inside more sh same = λ n counts count walked.

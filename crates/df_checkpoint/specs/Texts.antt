@@ -20,7 +20,7 @@ abbrev pub bad_of : Result (Unit {0}) Fault → Result (Unit {0}) TrailerFault
 bad_of (Ok x) = Ok tt
 bad_of (Err f) = Err (BadField f.field f.value)
 
--- a reader goes on with a piece: it has read the text with it, and refuses what fails in that, whatever comes behind it
+-- a reader goes on with a piece: it has read the text with it, and refuses what fails in that, whatever comes after it
 pub record Feeds (old new : Reader) (piece : List ℕ) (result : Result (Unit {0}) TrailerFault) : Type 0 where
   pub size : bytes_read new ≡ bytes_read old + length piece
   pub kept : (layout : Layout) (op : ℕ) (text : List ℕ) → HasRead layout op old text → HasRead layout op new (text ++ piece)

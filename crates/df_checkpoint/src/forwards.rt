@@ -58,7 +58,7 @@ fn feed_block<D: Disk>(
     }
 }
 
-/// The link that is so many behind the first block of the chain: the links are from the last block to the first.
+/// The link that is so many after the first block of the chain: the links are from the last block to the first.
 pub(crate) fn link_after(blocks: &[Link], done: usize) -> Link
     requires { done < length blocks.now }
     ensures { result ≡ get_or blocks.now (length blocks.now - 1 - done) result }

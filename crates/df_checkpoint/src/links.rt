@@ -65,7 +65,7 @@ pub(crate) fn broken(address: u64) -> TrailerFault
 }
 
 /// The reference that a trailer block has to the one before it in the chain, where it is the link with this index: of the superblock's
-/// sequence, of that index, as long as that piece of the text, and but for the first one behind a block of the grid. None where it isn't.
+/// sequence, of that index, as long as that piece of the text, and but for the first one after a block of the grid. None where it isn't.
 pub fn link_before(
     layout: &Layout,
     content: &SuperFields,

@@ -1,4 +1,4 @@
--- What each place shows behind steps that put units one behind the other.
+-- What each place shows after steps that put units one after the other.
 use Rattle.std.proofs.Common.{◌≡◌, inl, inr, ℕ, zero, suc, ◌+◌, ◌<◌, ◌≤◌, ◌==◌, Bool, true, false, if◌then◌else◌, List, [], ◌∷◌, ◌++◌, length, Option, Some, None, refl, ◌∙◌, ap, arith}
 use Rattle.std.specs.Prelude.{slice_get}
 use Rattle.std.proofs.lemmas.Bool.{eq-eqb, ne_eqb}
@@ -21,7 +21,7 @@ after_join (Syncs ∷ ss) ts place o = after_join ss ts place o
 
 -- ---- units at places that are counted
 
--- these units, at places one behind the other
+-- these units, at places one after the other
 abbrev pub placed : (ℕ → Place) → ℕ → List AnyUnit → List Step
 placed at a [] = []
 placed at a (x ∷ xs) = Puts (put_one (at a) x) ∷ placed at (a + 1) xs
@@ -50,7 +50,7 @@ module _ (at : ℕ → Place) (counts : (a b : ℕ) → same_place (at a) (at b)
   after_below a k [] o less = refl
   after_below a k (x ∷ xs) o less = after_below (a + 1) k xs (or_else (put_one (at a) x (at k)) o) (omega (arith, less)) ∙ missed (at a) (at k) x o (apart_at a k (λ same. omega (arith, less, same)))
 
-  -- and those behind them
+  -- and those after them
   pub after_above : (a k : ℕ) (xs : List AnyUnit) (o : Option AnyUnit) → a + length xs ≤ k → unit_after (placed at a xs) (at k) o ≡ o
   after_above a k [] o past = refl
   after_above a k (x ∷ xs) o past = after_above (a + 1) k xs (or_else (put_one (at a) x (at k)) o) (omega (arith, past)) ∙ missed (at a) (at k) x o (apart_at a k (λ same. omega (arith, past, same)))

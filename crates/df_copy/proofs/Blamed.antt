@@ -64,7 +64,7 @@ reply_spares (lookup.Damaged at class) count = refl
 reply_spares lookup.NoClient count = refl
 reply_spares (lookup.ReplyPending op) count = refl
 
--- what one call leaves and then another, behind one that is Ok
+-- what one call leaves and then another, after one that is Ok
 pub leaves_then : {T U : Type 0} {a b c : Beside} {x : U} {r : Result T Ending} → Leaves {T = U} a b (Ok x) → Leaves b c r → Leaves a c r
 leaves_then {r = Ok y} first behind = record { kept = behind.kept ∙ first.kept; same = behind.same ∙ first.same; blames_source = behind.blames_source ∙ first.blames_source; blames_target = behind.blames_target ∙ first.blames_target }
 leaves_then {c = c} {r = Err e} first behind = record {

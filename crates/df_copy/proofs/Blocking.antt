@@ -1,4 +1,4 @@
--- The blocks are copied one after the other, in order of address: what stands behind each address.
+-- The blocks are copied one after the other, in order of address: what stands after each address.
 use Rattle.std.proofs.Common.{◌≡◌, inl, inr, ℕ, suc, ◌+◌, ◌-◌, ◌<◌, ◌≤◌, Bool, true, List, [], ◌∷◌, ◌++◌, length, Option, Some, None, Result, Ok, Err, refl, sym, ◌∙◌, ap, subst, arith, append_assoc, length-append}
 use Rattle.std.specs.Prelude.{nat_lt, slice_get}
 use Rattle.std.proofs.lemmas.Bool.{false≢true}
@@ -33,7 +33,7 @@ use Rattle.df_copy.proofs.Turns.{AreWritten, at_entry, turn_on, turn_skips, turn
 abbrev pub addresses_of : State → ℕ
 addresses_of s = (memory s).layout.blocks
 
--- the live blocks behind an address
+-- the live blocks after an address
 abbrev pub behind_of : State → ℕ → List (ℕ × ℕ)
 behind_of s b = references_from (memory s) (b + 1) (addresses_of s - b)
 
@@ -80,7 +80,7 @@ module _ (layout : Layout) (s : State) (rs : List Message) (from old : Option To
       whole n = omega arith
 
   module _ (t : Target) (new : Option Told) (b : ℕ) (less : b < addresses_of s) (is : IsBlocking layout s rs t from old new b) where
-    -- what stands at the next address, and behind it
+    -- what stands at the next address, and after it
     next_is : (o : Option ℕ) → sum_at (b + 1) s.blocks.live ≡ o → behind_of s b ≡ entry (b + 1) o (behind_of s (b + 1))
     next_is o found = references_next (memory s) b less o found
 
@@ -174,7 +174,7 @@ module _ (layout : Layout) (s : State) (rs : List Message) (from old : Option To
     ends u all newer e None found copies = absurd copies
     ends u all newer e (Some sum) found copies = stopped sum found u all newer e copies
 
-  -- behind the last address all are written, and no test holds
+  -- after the last address all are written, and no test holds
   pub blocking_all : {T : Type 0} (y : T) (t : Target) (new : Option Told) (b : ℕ) → b ≡ addresses_of s → IsBlocking layout s rs t from old new b → CopiesBlocks layout s rs t from old new (Ok y)
   blocking_all y t new b past is = (is.bs, is.written.fit, sym is.count ∙ sym all, is.written.added, is.is, turns_end s.file from Fit (events_of layout) all_tests old (left_from layout s b) new is.bs is.written none)
     where

@@ -1,4 +1,4 @@
--- The addresses of a target: those of the blocks that were written are held, and the free ones stand behind them, one behind the other.
+-- The addresses of a target: those of the blocks that were written are held, and the free ones stand after them, one after the other.
 use Rattle.std.proofs.Common.{◌≡◌, inl, inr, ℕ, zero, suc, ◌+◌, ◌-◌, ◌<◌, ◌≤◌, ◌||◌, Bool, true, false, not, if◌then◌else◌, List, [], ◌∷◌, length, take, Some, None, refl, sym, ◌∙◌, ap, arith}
 use Rattle.std.specs.Prelude.{slice_get}
 use Rattle.std.specs.List.{filter, range_with_len}
@@ -20,7 +20,7 @@ numbered_before a k (u ∷ us) before =
     ap (λ (b : Bool). if b then Some (number_of u.header.checksum) else sum_at k (numbered (a + 1) us)) (ne_eqb a k (λ same. omega (arith, same, before)))
     ∙ numbered_before (a + 1) k us (omega (arith, before))
 
--- nor of one behind them
+-- nor of one after them
 pub numbered_behind : (a k : ℕ) (us : List Message) → a + length us ≤ k → sum_at k (numbered a us) ≡ None
 numbered_behind a k [] behind = refl
 numbered_behind a k (u ∷ us) behind =

@@ -24,7 +24,7 @@ numbered_push a (v ∷ us) u =
     later : (k n : ℕ) → k + 1 + n ≡ k + suc n
     later k n = omega arith
 
--- an address behind all of them goes last
+-- an address after all of them goes last
 pub with_last : (a : ℕ) (us : List Message) (k c : ℕ) → k ≡ a + length us → with_entry k c (numbered a us) ≡ numbered a us ++ (k, c) ∷ []
 with_last a [] k c is = refl
 with_last a (u ∷ us) k c is =

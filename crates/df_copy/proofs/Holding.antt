@@ -1,4 +1,4 @@
--- A target on which nothing was written holds the copy whole behind all that is written: an open finds it, nothing is to be mended, and each block that it references is shown. So does an image that shows all of that but for some copies of the superblock, to be mended.
+-- A target on which nothing was written holds the copy whole after all that is written: an open finds it, nothing is to be mended, and each block that it references is shown. So does an image that shows all of that but for some copies of the superblock, to be mended.
 use Rattle.std.proofs.Common.{◌≡◌, inl, inr, ℕ, zero, suc, ◌+◌, ◌<◌, ◌≤◌, List, [], ◌∷◌, ◌++◌, length, map, Option, Some, None, refl, sym, ◌∙◌, ap, subst, arith}
 use Rattle.std.specs.Prelude.{slice_get, slice_index}
 use Rattle.std.proofs.lemmas.Bool.{cases_lt}
@@ -152,11 +152,11 @@ module _ (layout : Layout) (s : State) (rs bs : List Message) (image : Units) (v
       row_placed (block_rows layout cluster) (length us + 1) ts (trailer_in_row layout s rs bs is.writable) ∙ ap (λ (k : ℕ). placed BlockPlace (k + 1) trailer) (sym (length-map us as_block)) in
       λ i. ((all_puts puts ++ (one i ++ two i)) ++ three i) ++ (Syncs ∷ update_steps (put_copies f))
 
-  -- behind all steps, where nothing was shown
+  -- after all steps, where nothing was shown
   pub shown_after : (place : Place) → unit_after (copy_steps layout s rs bs) place None ≡ shown place
   shown_after place = ap (λ (ss : List Step). unit_after ss place None) steps_are
 
-  -- behind all that is written, where nothing was
+  -- after all that is written, where nothing was
   pub place_shows : (start : Image) → ((sector : ℕ) → start sector ≡ blank sector) → (place : Place) → unit_at layout cluster (image_after (copy_events layout s rs bs) start) place ≡ shown place
   place_shows start empty place =
       let both = nothing_shown layout cluster start empty in

@@ -1,4 +1,4 @@
--- What an image shows behind the steps of a copy, place by place, where it showed nothing before.
+-- What an image shows after the steps of a copy, place by place, where it showed nothing before.
 use Rattle.std.proofs.Common.{◌≡◌, ◌⊎◌, inl, inr, ℕ, ◌+◌, ◌<◌, ◌≤◌, false, List, [], ◌∷◌, ◌++◌, length, Option, Some, None, refl, sym, ◌∙◌, ap, arith}
 use Rattle.std.specs.Prelude.{slice_get}
 use Rattle.df_format.specs.declared.superblock.SuperFields.{SuperFields}
@@ -49,7 +49,7 @@ module _ (puts : List Units) (reserved : AllReserved puts) (replies blocks trail
   abbrev trailer_row : List Step
   trailer_row = placed BlockPlace (length blocks + 1) trailer
 
-  -- the ring, replies, blocks, the trailer, and the superblock behind a sync
+  -- the ring, replies, blocks, the trailer, and the superblock after a sync
   abbrev pub row_steps : List Step
   row_steps = ((all_puts puts ++ (reply_row ++ block_row)) ++ trailer_row) ++ update
 

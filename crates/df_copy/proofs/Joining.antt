@@ -1,4 +1,4 @@
--- The parts of a copy, one behind the other: what is written in all, and which refusal it is.
+-- The parts of a copy, one after the other: what is written in all, and which refusal it is.
 use Rattle.std.proofs.Common.{◌≡◌, ◌⊎◌, inl, inr, ℕ, List, [], ◌∷◌, ◌++◌, length, Option, Some, None, Result, Ok, Err, refl, sym, ◌∙◌, ap, subst, append_assoc}
 use Rattle.std.specs.Prelude.{IfErr}
 use Rattle.std.proofs.lemmas.List.{append-nil}
@@ -92,7 +92,7 @@ units_join {T = T} s kept t mid n from same old written new x r state told keeps
     let is : IsTarget t.layout s.file.cluster rs [] mid = record { layout_is = keeps.layout_is; grid = keeps.grid ∙ begun.grid; checks = first.4; copied = keeps.copied ∙ begun.copied } in
     units_go T s t n from old written rs first.1 first.2 first.3 first.5 new r (onward rs is)
 
--- ---- the ring before them, and the trailer and the superblock behind
+-- ---- the ring before them, and the trailer and the superblock after
 
 pub over_told : (told : Option Told) (P Q : Image → Type 0) → OverTold told P → ((image : Image) → P image → Q image) → OverTold told Q
 over_told None P Q is f = tt
@@ -106,7 +106,7 @@ module _ (T : Type 0) (layout : Layout) (s : State) (from old : Option Told) whe
   abbrev cluster : ℕ
   cluster = s.file.cluster
 
-  -- both kinds of tests, behind each other
+  -- both kinds of tests, after each other
   planned_refused : (e : Ending) → OverTold old (λ image. first_refusal (blank_tests image) ≡ None) → OverShown s.file from (λ shown. first_refusal (unit_tests layout shown (memory s)) ≡ Some e)
       → OverTold old (λ image. OverShown s.file from (λ shown. first_refusal (blank_tests image ++ unit_tests layout shown (memory s)) ≡ Some e))
   planned_refused e blank is =

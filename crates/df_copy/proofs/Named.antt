@@ -12,7 +12,7 @@ use Rattle.df_model.specs.Making.{named_places}
 use Rattle.df_copy.specs.Acts.{SetsCheck}
 use Rattle.df_copy.specs.Targets.{check_of, checks_of}
 
--- no place behind the sessions has a checksum
+-- no place after the sessions has a checksum
 pub record AreNamed (sessions : ℕ) (checks : List (List ℕ)) : Type 0 where
   pub count : length checks ≡ named_places
   pub spare : (k : ℕ) → sessions ≤ k → k < named_places → get_or checks k no_checksum ≡ no_checksum

@@ -1,4 +1,4 @@
--- Behind the open of its source a copy spares the sectors of the target's superblock until the first copy of it, and the target holds it whole where it is made.
+-- After the open of its source a copy spares the sectors of the target's superblock until the first copy of it, and the target holds it whole where it is made.
 use Rattle.std.proofs.Common.{◌≡◌, ◌⊎◌, inl, inr, ℕ, ◌<◌, ◌≤◌, ◌++◌, true, List, [], ◌∷◌, length, Option, Some, None, Result, Ok, Err, refl, sym, ◌∙◌, ap, subst, arith}
 use Rattle.std.specs.Prelude.{slice_get}
 use Rattle.std.proofs.lemmas.Bool.{cases_lt}

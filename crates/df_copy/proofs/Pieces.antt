@@ -1,4 +1,4 @@
--- A trailer's blocks, as they are written one behind the other: each is a unit at its address and names the one before it, and together they hold the text.
+-- A trailer's blocks, as they are written one after the other: each is a unit at its address and names the one before it, and together they hold the text.
 use Rattle.std.proofs.Common.{◌≡◌, ◌↔◌, Some, inl, inr, ℕ, zero, suc, ◌+◌, ◌-◌, ◌*◌, ◌^◌, ◌<◌, ◌≤◌, ◌==◌, min, List, [], ◌∷◌, ◌++◌, length, map, take, drop, refl, sym, ◌∙◌, ap, subst, arith, length-drop}
 use Rattle.std.specs.List.{range_with_len}
 use Rattle.std.proofs.lemmas.Bool.{cond-false, ne_eqb}
@@ -31,7 +31,7 @@ use Rattle.df_grid.specs.Writes.{first_address, first_sum, next_header}
 use Rattle.df_copy.specs.Targets.{behind_piece, grid_behind, next_piece, pieces_from}
 use Rattle.df_copy.proofs.Rows.{AreInRow}
 
--- a chain, from the last block to the first, with these blocks written behind it
+-- a chain, from the last block to the first, with these blocks written after it
 abbrev pub chain_with : List Message → List (ℕ × Block) → List (ℕ × Block)
 chain_with [] chain = chain
 chain_with (u ∷ us) chain = chain_with us ((u.header.op, block_of u) ∷ chain)
@@ -194,7 +194,7 @@ module _ (sequence : ℕ) (text : List ℕ) (bytes : AreBytes text) (c : Content
 
   -- ---- all of them
 
-  -- so many blocks, one behind the other
+  -- so many blocks, one after the other
   pub record ArePieces (g : GridState) (n next : ℕ) (chain : List (ℕ × Block)) : Type 0 where
     pub row : AreInRow g.layout g.cluster next (pieces_from g sequence text n)
     pub pieced : IsPieced (next + n) (grid_behind g sequence text n) (chain_with (pieces_from g sequence text n) chain)

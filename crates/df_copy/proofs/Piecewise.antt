@@ -1,4 +1,4 @@
--- A trailer is written block by block: what stands behind each of them.
+-- A trailer is written block by block: what stands after each of them.
 use Rattle.std.proofs.Common.{◌≡◌, ℕ, zero, suc, ◌+◌, ◌-◌, ◌<◌, ◌≤◌, List, [], ◌∷◌, ◌++◌, length, Option, Some, refl, sym, ◌∙◌, ap, subst, arith, append_assoc}
 use Rattle.std.specs.Prelude.{slice_get}
 use Rattle.std.specs.List.{range_with_len}
@@ -121,7 +121,7 @@ module _ (sequence : ℕ) (text : List ℕ) where
       let one = one_left g.blocks (number_of (next g).header.checksum) g.blocks.left refl in
       last_written (behind_piece g sequence text) (suc n) (omega arith) (omega (arith, inside, one))
 
-  -- and they stand one behind the other
+  -- and they stand one after the other
   pub last_address : (g : GridState) (n at : ℕ) → g.blocks.left ≡ range_with_len at n → 0 < n → address_of (last_of (written g n)) + 1 ≡ at + n
   last_address g zero at left some = absurd (omega (arith, some))
   last_address g (suc zero) at left some = let here : (next g).header.op ≡ at = ap first_of left in omega (arith, here)

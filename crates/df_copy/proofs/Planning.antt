@@ -139,11 +139,11 @@ module _ (layout : Layout) (s : State) where
 -- ---- the references, address by address
 
 module _ (m : Memory) (b : ℕ) (less : b < m.layout.blocks) where
-  -- those behind an address
+  -- those after an address
   abbrev behind : ℕ → List (ℕ × ℕ)
   behind a = references_from m (a + 1) (m.layout.blocks - a)
 
-  -- what stands at the next address, and behind it
+  -- what stands at the next address, and after it
   pub references_next : (o : Option ℕ) → sum_at (b + 1) m.blocks.live ≡ o → behind b ≡ entry (b + 1) o (behind (b + 1))
   references_next o found = ap (λ (k : ℕ). references_from m (b + 1) k) one_more ∙ ap (λ (q : Option ℕ). entry (b + 1) q (behind (b + 1))) found
     where

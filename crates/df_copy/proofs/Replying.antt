@@ -1,4 +1,4 @@
--- The replies are copied one after the other, in order of place: what stands behind each.
+-- The replies are copied one after the other, in order of place: what stands after each.
 use Rattle.std.proofs.Common.{◌≡◌, inl, inr, ℕ, suc, ◌+◌, ◌-◌, ◌<◌, ◌≤◌, Bool, List, [], ◌∷◌, ◌++◌, length, Option, Result, Ok, Err, refl, sym, ◌∙◌, ap, subst, arith}
 use Rattle.std.specs.Prelude.{nat_lt, slice_set}
 use Rattle.df_disk.specs.Told.{Told}
@@ -75,7 +75,7 @@ module _ (layout : Layout) (s : State) (from old : Option Told) where
       whole n = omega arith
 
   module _ (now : List (List ℕ)) (new : Option Told) (n : ℕ) (less : n < length (memory s).sessions) (is : IsReplying layout s now from old new n) where
-    -- the test of the next place, and those behind it
+    -- the test of the next place, and those after it
     abbrev test : Shown → Bool × Ending
     test shown = reply_test layout n (reply_at shown (reply_sum (memory s) n) n)
 
@@ -109,7 +109,7 @@ module _ (layout : Layout) (s : State) (from old : Option Told) where
     ends behind all newer e stops =
         turn_stops s.file from Fit events all_tests old (left_from layout s n) new is.rs is.written test (left_from layout s (n + 1)) next (FitsReply layout s from n) (reply_events layout) push (events_push (reply_events layout) is.rs) newer e stops
 
-  -- behind the last place all are written, and no test holds
+  -- after the last place all are written, and no test holds
   pub replying_all : {T : Type 0} (x : T) (now : List (List ℕ)) (new : Option Told) (n : ℕ) → n ≡ length s.table.sessions → IsReplying layout s now from old new n → CopiesReplies layout s now from old new (Ok x)
   replying_all x now new n all is = (is.rs, is.written.fit, is.count ∙ all, is.written.added, is.checks, turns_end s.file from Fit events all_tests old (left_from layout s n) new is.rs is.written none)
     where

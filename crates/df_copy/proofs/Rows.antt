@@ -1,4 +1,4 @@
--- Units that are written one behind the other: each is put into its place, and then each place shows its own.
+-- Units that are written one after the other: each is put into its place, and then each place shows its own.
 use Rattle.std.proofs.Common.{◌≡◌, ℕ, zero, suc, ◌+◌, List, [], ◌∷◌, ◌++◌, length, map, Some, refl, sym, ◌∙◌, ap, subst, arith}
 use Rattle.std.specs.Prelude.{slice_get}
 use Rattle.std.proofs.lemmas.Option.{same_Some}
@@ -25,7 +25,7 @@ use Rattle.df_copy.proofs.Afters.{placed}
 
 -- ---- units of a zone
 
--- units, each valid at the place of the zone that it names, which are one behind the other from this one on
+-- units, each valid at the place of the zone that it names, which are one after the other from this one on
 abbrev pub AreRow : Zone → (Message → ℕ) → Layout → (cluster from : ℕ) → List Message → Type 0
 AreRow zone named layout cluster from [] = Unit {0}
 AreRow zone named layout cluster from (u ∷ us) = (named u ≡ from) × IsUnit layout cluster (place_in zone from) u × AreRow zone named layout cluster (from + 1) us
@@ -98,7 +98,7 @@ module _ (layout : Layout) (cluster : ℕ) where
   abbrev pub reply_rows : Row layout cluster
   reply_rows = record { zone = ClientReplies; named = λ u. u.header.slot; events = reply_events layout; steps = reply_steps; place = ReplyPlace; theirs = as_reply; are_steps = reply_is_steps; are_puts = λ u. refl }
 
-  -- blocks, each valid at its address, which are one behind the other from this one on; and replies, each at its place
+  -- blocks, each valid at its address, which are one after the other from this one on; and replies, each at its place
   abbrev pub AreInRow : (from : ℕ) → List Message → Type 0
   AreInRow from us = AreRow Grid (λ u. u.header.op) layout cluster from us
 

@@ -41,7 +41,7 @@ block = record { checksum = 31; kind = 1; sequence = 1; index = 0; before = 0; b
 abbrev trailer : ℕ → Block
 trailer sum = record { checksum = sum; kind = 0; sequence = 2; index = 0; before = 0; before_checksum = 0; boot = 1; body = 0 ∷ [] }
 
--- the superblock of a file at rest behind op 1, by its checksum, its layout, its boot, and its trailer's address and checksum
+-- the superblock of a file at rest after op 1, by its checksum, its layout, its boot, and its trailer's address and checksum
 abbrev content : (sum : ℕ) → Layout → (boot trailer trailer_sum : ℕ) → Content
 content sum l boot address trailer_sum = record {
   checksum = sum;

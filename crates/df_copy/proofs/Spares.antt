@@ -1,4 +1,4 @@
--- Up to the write of the first copy the sectors of the superblock are as they were: all that a copy writes before it stands behind them.
+-- Up to the write of the first copy the sectors of the superblock are as they were: all that a copy writes before it stands after them.
 use Rattle.std.proofs.Common.{◌≡◌, ◌⊎◌, inl, inr, ℕ, ◌+◌, ◌*◌, ◌<◌, ◌≤◌, ◌||◌, Bool, false, List, [], ◌∷◌, ◌++◌, Option, Some, refl, sym, ◌∙◌, ap, subst, arith, append_assoc, append-nil}
 use Rattle.std.proofs.lemmas.Bool.{and_left, lt-leb}
 use Rattle.df_base.specs.Image.{covers}
@@ -28,7 +28,7 @@ use Rattle.df_copy.specs.Units.{all_events, moved_from, reply_events}
 
 -- ---- events that write nothing there
 
--- each write begins behind the four copies
+-- each write begins after the four copies
 abbrev pub SpareSuper : List Event → Type 0
 SpareSuper [] = Unit {0}
 SpareSuper ((Write at bytes) ∷ es) = (4 ≤ at) × SpareSuper es

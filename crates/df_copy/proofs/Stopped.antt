@@ -41,7 +41,7 @@ use Rattle.df_copy.proofs.Untouched.{IsUntouched, all_split, log_on, no_copy, no
 use Rattle.df_copy.proofs.Usables.{IsNamed, superblock_are_steps}
 use Rattle.df_copy.proofs.Written.{front_are_steps}
 
--- what an image shows behind events
+-- what an image shows after events
 now_behind : (es : List Event) (log : Log) → now (adds es log) ≡ image_after es (now log)
 now_behind [] log = refl
 now_behind (e ∷ es) log = now_behind es (add e log)

@@ -1,4 +1,4 @@
--- Units of the source are copied one behind the other, replies or blocks: what stands behind each turn, and how what ends one of them ends the copy.
+-- Units of the source are copied one after the other, replies or blocks: what stands after each turn, and how what ends one of them ends the copy.
 use Rattle.std.proofs.Common.{◌≡◌, ℕ, ◌≤◌, Bool, true, if◌then◌else◌, List, [], ◌∷◌, ◌++◌, Option, Some, None, Ok, refl, sym, ◌∙◌, ap, subst}
 use Rattle.std.specs.Prelude.{nat_lt}
 use Rattle.std.proofs.lemmas.Bool.{le-ltb}
@@ -46,11 +46,11 @@ module _ (file : DataFile) (from : Option Told) (Fit : List Message → Type 0) 
     pub turn_skips : (rest : Shown → List (Bool × Ending)) (newer : Option Told) → ((shown : Shown) → left shown ≡ rest shown) → newer ≡ new → AreWritten file from Fit events tests rest old newer us
     turn_skips rest newer next same = record { fit = is.fit; added = same ∙ is.added; decide = over_by file from (Decide left) (Decide rest) is.decide (λ shown decide. decide ∙ ap (λ (l : List (Bool × Ending)). first_refusal l) (next shown)) }
 
-    -- behind the last no test holds
+    -- after the last no test holds
     pub turns_end : ((shown : Shown) → left shown ≡ []) → OverShown file from (λ shown. first_refusal (tests shown) ≡ None)
     turns_end none = over_by file from (Decide left) (λ shown. first_refusal (tests shown) ≡ None) is.decide (λ shown decide. decide ∙ ap (λ (l : List (Bool × Ending)). first_refusal l) (none shown))
 
-    -- the test of the next unit, those behind it, and what it adds
+    -- the test of the next unit, those after it, and what it adds
     module _ (test : Shown → Bool × Ending) (rest : Shown → List (Bool × Ending)) (next : (shown : Shown) → left shown ≡ test shown ∷ rest shown)
         (Fits : Message → Type 0) (one : Message → List Event) (push : (u : Message) → Fits u → Fit (us ++ u ∷ [])) (joins : (u : Message) → events (us ++ u ∷ []) ≡ events us ++ one u) where
       by_next : (shown : Shown) → Decide left shown → first_refusal (tests shown) ≡ first_refusal (test shown ∷ rest shown)

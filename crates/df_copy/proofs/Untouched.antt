@@ -50,7 +50,7 @@ untouched_sync log is = record { firm = λ n inside. refl; shown = is.shown; dur
 pub untouched_begun : (o : Told) → IsEmpty o.shown → IsUntouched (begun o).log
 untouched_begun o empty = record { firm = λ n inside. refl; shown = λ n inside. empty n; durable = ((λ n inside. empty n), tt) }
 
--- it stays so by writes behind them
+-- it stays so by writes after them
 pub untouched_on : (es : List Event) (log : Log) → SpareSuper es → IsUntouched log → IsUntouched (adds es log)
 untouched_on [] log spare is = is
 untouched_on ((Write at bytes) ∷ es) log spare is = untouched_on es (add (Write at bytes) log) spare.1 (untouched_write at bytes log spare.0 is)
@@ -96,7 +96,7 @@ module _ (layout : Layout) (file : DataFile) (source : Image) (v : View) where
     subst AreSplit (sym (settled_law (format_of layout file.cluster) log)) (all_split layout file.cluster (settled log) is.durable),
   )
 
-  -- what is told behind these events, and the log of it
+  -- what is told after these events, and the log of it
   told_log : (es : List Event) (t : Told) → (told_after es t).log ≡ adds es t.log
   told_log [] t = refl
   told_log (e ∷ es) t = told_log es (did e t)
@@ -125,7 +125,7 @@ module _ (layout : Layout) (file : DataFile) (source : Image) (v : View) where
 
 -- ---- logs
 
--- behind writes of whole sectors a log is one
+-- after writes of whole sectors a log is one
 pub log_on : (f : Format) (es : List Event) (ss : List Step) (log : Log) → IsLog log → AreSteps f es ss → IsLog (adds es log)
 log_on f [] [] log whole are = whole
 log_on f ((Write at bytes) ∷ es) ((Puts put) ∷ ss) log whole are = log_on f es ss (add (Write at bytes) log) (record { start = whole.start; events = (are.0.piece, whole.events) }) are.1

@@ -1,4 +1,4 @@
--- What is written of a target, in the words of the theory: the header ring, replies and blocks that were read, and the trailer behind them.
+-- What is written of a target, in the words of the theory: the header ring, replies and blocks that were read, and the trailer after them.
 use Rattle.std.proofs.Common.{◌≡◌, ℕ, suc, ◌+◌, ◌-◌, ◌*◌, ◌<◌, ◌≤◌, take, true, List, [], ◌∷◌, ◌++◌, length, Option, Some, refl, ◌∙◌, ap, subst, arith}
 use Rattle.std.specs.Prelude.{slice_get}
 use Rattle.std.specs.List.{range_with_len}
@@ -109,7 +109,7 @@ module _ (layout : Layout) (s : State) (told : Option Told) where
 
 -- ---- all that is written
 
--- what may be written: units that stand in the target, and room for the trailer behind them
+-- what may be written: units that stand in the target, and room for the trailer after them
 pub record IsWritable (layout : Layout) (s : State) (rs bs : List Message) : Type 0 where
   pub live : s.live ≡ true
   pub state : IsState s

@@ -31,7 +31,7 @@ use Rattle.df_copy.specs.Units.{AreBlocks, AreReplies, IsBlockAt, IsReplyAt, Ove
 
 -- ---- what is asked and left
 
--- a source that may be copied: calls may be made on it, no prepare is behind its checkpoint and none waits for its reply, and the layout has a place for each of its sessions
+-- a source that may be copied: calls may be made on it, no prepare is after its checkpoint and none waits for its reply, and the layout has a place for each of its sessions
 pub record IsReady (layout : Layout) (s : State) : Type 0 where
   pub live : s.live ≡ true
   pub rest : is_at_rest (memory s) ≡ true
@@ -60,7 +60,7 @@ pub record Leaves {T : Type 0} (before now : Beside) (result : Result T Ending) 
 abbrev pub StopsAt : DataFile → (from : Option Told) → (Fits : Message → Type 0) → (events : Message → List Event) → (test : Shown → Bool × Ending) → (old new : Option Told) → Ending → Type 0
 StopsAt file from Fits events test old new e = ByEnding ((u : Message) × Fits u × AddsPart (events u) old new) (new ≡ old) (λ x. OverShown file from (λ shown. test shown ≡ (true, x)) × (new ≡ old)) e
 
--- In their order: the first of them are written, or some part of that where the target's disk fails; and the source's disk fails behind them, or the first test that holds ends the copy.
+-- In their order: the first of them are written, or some part of that where the target's disk fails; and the source's disk fails after them, or the first test that holds ends the copy.
 abbrev pub StopsBehind : {X : Type 0} → DataFile → (from : Option Told) → (events : X → List Event) → (tests : Shown → List (Bool × Ending)) → (old new : Option Told) → Ending → Type 0
 StopsBehind {X = X} file from events tests old new e =
     ByEnding ((x : X) × AddsPart (events x) old new) ((x : X) × (new ≡ after_all (events x) old)) (λ y. OverShown file from (λ shown. first_refusal (tests shown) ≡ Some y) × (x : X) × (new ≡ after_all (events x) old)) e
@@ -108,7 +108,7 @@ pub record FitReplies (layout : Layout) (s : State) (told : Option Told) (us : L
   pub are : AreReplies s told us
   pub fit : (k : ℕ) (u : Message) → slice_get us k ≡ Some u → 256 + length u.body ≤ layout.message_size
 
--- those of all places, and no test holds; or of the first of them, where one of the two disks fails, or a test ends the copy behind them
+-- those of all places, and no test holds; or of the first of them, where one of the two disks fails, or a test ends the copy after them
 abbrev pub CopiesReplies : {T : Type 0} → Layout → State → (checks : List (List ℕ)) → (from old new : Option Told) → Result T Ending → Type 0
 CopiesReplies layout s checks from old new (Ok x) =
     (rs : List Message) × FitReplies layout s from rs × (length rs ≡ length s.table.sessions) × (new ≡ after_all (all_events (reply_events layout) rs) old) × (checks ≡ checks_of rs)
@@ -168,7 +168,7 @@ pub record FitBlocks (layout : Layout) (s : State) (told : Option Told) (us : Li
   pub are : AreBlocks s told us
   pub fit : (i : ℕ) (u : Message) → slice_get us i ≡ Some u → 256 + length u.body ≤ layout.block_size
 
--- all of them, and no test holds; or the first of them, where one of the two disks fails, or a test ends the copy behind them
+-- all of them, and no test holds; or the first of them, where one of the two disks fails, or a test ends the copy after them
 abbrev pub CopiesBlocks : {T : Type 0} → Layout → State → List Message → Target → (from old new : Option Told) → Result T Ending → Type 0
 CopiesBlocks layout s rs n from old new (Ok x) =
     (bs : List Message) × FitBlocks layout s from bs × (length bs ≡ length (references (memory s))) × (new ≡ after_all (all_events (made_events layout) (moved_from 1 bs)) old) × IsTarget layout s.file.cluster rs bs n
@@ -184,7 +184,7 @@ IsCopied layout s t = (rs : List Message) × (bs : List Message) × IsTarget lay
 
 -- ---- the trailer
 
--- replies and blocks were written, and the trailer behind them, of which the grid names the last block
+-- replies and blocks were written, and the trailer after them, of which the grid names the last block
 pub record IsWritten (layout : Layout) (s : State) (replies blocks : List Message) (t : Target) : Type 0 where
   pub layout_is : t.layout ≡ layout
   pub last : last_of t.grid.blocks.left t.grid.blocks.written ≡ pair_of (last_block (trailer_of layout s (moved_from 1 blocks)))

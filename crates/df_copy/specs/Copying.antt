@@ -1,4 +1,4 @@
--- The whole of a copy, behind the open of its source: what is written of the target, and which refusal it is.
+-- The whole of a copy, after the open of its source: what is written of the target, and which refusal it is.
 use Rattle.std.specs.Prelude.{◌≡◌, ◌⊎◌, ◌++◌, ℕ, List, [], length, Option, Some, None, Result, Ok, Err}
 use Rattle.df_base.specs.Image.{Image}
 use Rattle.df_base.specs.Log.{Event}
@@ -77,7 +77,7 @@ CopiesUnits s t n from old new (Ok x) =
     × OverShown s.file from (λ shown. first_refusal (unit_tests t.layout shown (memory s)) ≡ None)
 CopiesUnits s t n from old new (Err e) = StopsBehind {X = Copied t.layout s from} s.file from (λ c. units_written t.layout c.replies c.blocks) (λ shown. unit_tests t.layout shown (memory s)) old new e
 
--- the trailer, and the superblock behind a sync
+-- the trailer, and the superblock after a sync
 abbrev pub Finishes : {T : Type 0} → Layout → State → (replies blocks : List Message) → (old new : Option Told) → Result T Ending → Type 0
 Finishes layout s replies blocks old new result = Adds (all_events (made_events layout) (trailer_of layout s (moved_from 1 blocks)) ++ superblock_events layout s replies blocks) old new result
 

@@ -57,7 +57,7 @@ pub record RefusedFor (Why : OpenError → Type 0) (told : Option Told) (old new
 abbrev pub RefusesSuperblock : Told → Outside → Outside → Status → Type 0
 RefusesSuperblock t old new status = RefusedFor (λ e. Refuses t.shown e) old.first old new status
 
--- it is refused behind the barrier of its open, and nothing is written to it
+-- it is refused after the barrier of its open, and nothing is written to it
 abbrev pub RefusesFile : (own : Layout) → Told → Outside → Outside → Status → Type 0
 RefusesFile own t old new status = RefusedFor (λ e. Surveys own t.shown (Err e)) (Some (did Sync t)) old new status
 
@@ -94,7 +94,7 @@ pub record SparesCopies (o : Told) (new : Option Told) : Type 0 where
   pub begins : (superblock ≡ []) ⊎ BeginsCopies superblock
   pub spared : EachMoment o.log (adds front o.log) (KeepsCopies o.log)
 
--- the view of a source behind its open, which found this one
+-- the view of a source after its open, which found this one
 abbrev pub source_view : State → Told → View → View
 source_view s t view = kept (begun_state s.file t view s.fields)
 

@@ -30,7 +30,7 @@ use Rattle.df_copy.specs.Units.{all_events, moved_from, reply_events}
 
 -- ---- the grid
 
--- blocks one behind the other, from this address on, each with its checksum
+-- blocks one after the other, from this address on, each with its checksum
 abbrev pub numbered : ℕ → List Message → List (ℕ × ℕ)
 numbered address [] = []
 numbered address (u ∷ us) = (address, number_of u.header.checksum) ∷ numbered (address + 1) us
@@ -48,7 +48,7 @@ abbrev pub check_of : Option Message → List ℕ
 check_of None = no_checksum
 check_of (Some u) = u.header.checksum
 
--- the checksums of replies, by place, and zeros behind them
+-- the checksums of replies, by place, and zeros after them
 abbrev pub checks_of : List Message → List (List ℕ)
 checks_of us = map (λ k. check_of (slice_get us k)) (range_with_len 0 named_places)
 
@@ -97,18 +97,18 @@ text_with layout s us = spell (layout_of layout) (captured_parts s.root s.table.
 abbrev pub sequence_of : State → ℕ
 sequence_of s = max s.fields.sequence 2
 
--- the grid as the trailer is begun: its blocks are of the source's boot, and stand behind the others
+-- the grid as the trailer is begun: its blocks are of the source's boot, and stand after the others
 abbrev pub begun_grid : GridState → (boot blocks : ℕ) → GridState
 begun_grid g boot blocks = with_blocks (with_boot g boot) (blocks_captured g.blocks (take blocks (free_of g)))
 
--- the next block of a trailer, over its piece of the text, and the grid behind it
+-- the next block of a trailer, over its piece of the text, and the grid after it
 abbrev pub next_piece : GridState → (sequence : ℕ) → List ℕ → Message
 next_piece g sequence text = next_unit g sequence (piece_of (g.layout.block_size - 256) (length g.blocks.written) text)
 
 abbrev pub behind_piece : GridState → (sequence : ℕ) → List ℕ → GridState
 behind_piece g sequence text = with_blocks g (next_written g.blocks (number_of (next_piece g sequence text).header.checksum))
 
--- so many blocks, one behind the other
+-- so many blocks, one after the other
 abbrev pub pieces_from : GridState → (sequence : ℕ) → List ℕ → ℕ → List Message
 pieces_from g sequence text zero = []
 pieces_from g sequence text (suc n) = next_piece g sequence text ∷ pieces_from (behind_piece g sequence text) sequence text n
@@ -117,7 +117,7 @@ abbrev pub grid_behind : GridState → (sequence : ℕ) → List ℕ → ℕ →
 grid_behind g sequence text zero = g
 grid_behind g sequence text (suc n) = grid_behind (behind_piece g sequence text) sequence text n
 
--- the trailer behind these blocks: none where the source has none
+-- the trailer after these blocks: none where the source has none
 abbrev pub trailer_of : Layout → State → List Message → List Message
 trailer_of layout s us = pieces_from (begun_grid (grid_with layout s.file.cluster us) s.fields.boot (trailer_blocks layout (memory s))) (sequence_of s) (text_with layout s us) (trailer_blocks layout (memory s))
 

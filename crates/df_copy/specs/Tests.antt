@@ -20,7 +20,7 @@ use Rattle.df_copy.specs.declared.ending.Ending.TheVariants.{BlockTooLong, Damag
 
 -- ---- the source, by what is kept in memory of it
 
--- no prepare is behind its checkpoint, and none waits for its reply
+-- no prepare is after its checkpoint, and none waits for its reply
 abbrev pub is_at_rest : Memory → Bool
 is_at_rest m = (m.content.op == m.head) && (m.head == m.replies)
 

@@ -28,7 +28,7 @@ pub record IsBegunGrid (blocks : ℕ) (g : GridState) : Type 0 where
 abbrev pub text_in : GridState → Capture → List ℕ
 text_in g capture = checkpoint.text_in g capture
 
--- the trailer is written behind these replies and blocks, or a part of it where the disk failed
+-- the trailer is written after these replies and blocks, or a part of it where the disk failed
 pub record AddsTrailer {T : Type 0} (s : State) (rs bs : List Message) (t n : Target) (old new : Option Told) (result : Result T Ending) : Type 0 where
   pub events : Adds (all_events (made_events t.layout) (trailer_of t.layout s (moved_from 1 bs))) old new result
   pub written : OnOk result (IsWritten t.layout s rs bs n)

@@ -50,7 +50,7 @@ pub record AreBlocks (s : State) (told : Option Told) (us : List Message) : Type
 abbrev pub moved : ℕ → Message → Message
 moved address u = made (record u.header { op = address }) u.body
 
--- one behind the other, from this address on
+-- one after the other, from this address on
 abbrev pub moved_from : ℕ → List Message → List Message
 moved_from address [] = []
 moved_from address (u ∷ us) = moved address u ∷ moved_from (address + 1) us
@@ -59,7 +59,7 @@ moved_from address (u ∷ us) = moved address u ∷ moved_from (address + 1) us
 abbrev pub reply_events : Layout → Message → List Event
 reply_events layout u = Write (span_of layout (place_in ClientReplies u.header.slot)).first (sectors_of u) ∷ []
 
--- the writes of units, one behind the other
+-- the writes of units, one after the other
 abbrev pub all_events : (Message → List Event) → List Message → List Event
 all_events events [] = []
 all_events events (u ∷ us) = events u ++ all_events events us

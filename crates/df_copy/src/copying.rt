@@ -1,4 +1,4 @@
-// The copy itself, behind the open of the source: the tests, the header ring, replies, blocks and trailer, and the superblock once all of that is durable.
+// The copy itself, after the open of the source: the tests, the header ring, replies, blocks and trailer, and the superblock once all of that is durable.
 ghost use Rattle.std.specs.Prelude.{◌≡◌, ◌<◌, ◌≤◌, List, [], true, length, IfErr, OnOk};
 ghost use Rattle.df_base.specs.Causes.{HasCause, IsBlamed};
 ghost use Rattle.df_disk.specs.Adds.{Adds};

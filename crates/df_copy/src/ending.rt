@@ -8,7 +8,7 @@ pub enum Ending {
     Source,
     /// The target's disk failed.
     Target,
-    /// The source has prepares behind its checkpoint, or some that wait for their replies: its checkpoint's op, its head and its number of replies aren't one number.
+    /// The source has prepares after its checkpoint, or some that wait for their replies: its checkpoint's op, its head and its number of replies aren't one number.
     NotAtRest {
         checkpoint_op: u64,
         head: u64,

@@ -17,7 +17,7 @@ pub struct Plan {
     pub blocks: u64,
 }
 
-// Whether nothing stands behind the source's checkpoint and nothing waits for its reply.
+// Whether nothing stands after the source's checkpoint and nothing waits for its reply.
 fn test_rest(replica: &Replica) -> Result<(), Ending>
     ensures ok { IfOk result (λ _. is_at_rest (memory replica.now) ≡ true) }
     ensures err { IfErr result (λ e. (is_at_rest (memory replica.now) ≡ false) × (e ≡ Ending.NotAtRest replica.now.fields.op replica.now.head replica.now.replies)) }

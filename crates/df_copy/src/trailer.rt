@@ -1,4 +1,4 @@
-// The trailer: what the source's says, with the new addresses and checksums, in blocks behind the copied ones.
+// The trailer: what the source's says, with the new addresses and checksums, in blocks after the copied ones.
 ghost use Rattle.std.specs.Prelude.{◌≡◌, ◌<◌, ◌≤◌, ◌-◌, ◌^◌, List, true, length, IfErr, OnOk};
 ghost use Rattle.df_base.specs.Causes.{HasCause, IsBlamed};
 ghost use Rattle.df_disk.specs.Adds.{Adds};

@@ -1,4 +1,4 @@
--- A disk that may be hurt, seen from behind the barrier of an open: its log rests on the view, its history began with the empty image, and what is shown was settled.
+-- A disk that may be hurt, seen from after the barrier of an open: its log rests on the view, its history began with the empty image, and what is shown was settled.
 use Rattle.std.proofs.Common.{◌≡◌, inl, inr, ℕ, ◌<◌, List, ◌∷◌, Some, sym, ◌∙◌, ap, subst, arith}
 use Rattle.df_base.specs.Image.{Image}
 use Rattle.df_base.specs.Log as logs
@@ -29,7 +29,7 @@ use Rattle.df_damage.proofs.Pasts.{AreAmong, among_images, from_blank, settled_b
 use Rattle.df_damage.proofs.Sectors.{in_zone, same_copies}
 
 module _ {version : ℕ} (file : DataFile) (view : View) (t : Told) (may : MayBeHurtAs version file view t) where
-  -- the log of units behind the barrier, and what is shown
+  -- the log of units after the barrier, and what is shown
   abbrev pub log : UnitLog
   log = units_log (format_of file.layout file.cluster) (logs.add Sync t.log)
 

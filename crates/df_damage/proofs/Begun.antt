@@ -71,7 +71,7 @@ leaves_the_same events t image honest still =
     let then = alike_after events t (begun t) start in
     (left_alike (told_after events t).log (told_after events (begun t)).log image then, left_alike (told_after events (begun t)).log (told_after events t).log image (alike_back (told_after events t).log (told_after events (begun t)).log then))
 
--- ---- behind a barrier
+-- ---- after a barrier
 
 wet_add : (e : Event) (a b : Log) → ((sector : ℕ) → loose a sector ≡ loose b sector) → (sector : ℕ) → loose (add e a) sector ≡ loose (add e b) sector
 wet_add (Write at bytes) a b same sector = ap (λ (x : Bool). covers at bytes sector || x) (same sector)

@@ -1,4 +1,4 @@
--- What an open finds behind damage before any number of opens, and how a history of sectors goes on.
+-- What an open finds after damage before any number of opens, and how a history of sectors goes on.
 use Rattle.std.proofs.Common.{◌≡◌, inr, List, [], ◌∷◌, ◌++◌, refl, sym, ◌∙◌, ap, subst}
 use Rattle.df_base.specs.Image.{Image, changed, written}
 use Rattle.df_base.specs.Log as logs
@@ -103,7 +103,7 @@ lived_layout file log older image may layout shown = own_layout file log older i
 
 -- ---- a later moment of a log of sectors is one of its log of units
 
--- the events of units that some events are, behind others
+-- the events of units that some events are, after others
 new_units : (f : Format) (start : Image) (old new : List Event) → (us : List UnitEvent) × (units_of f start (new ++ old) ≡ us ++ units_of f start old)
 new_units f start old [] = ([], refl)
 new_units f start old ((Write at bytes) ∷ new) =

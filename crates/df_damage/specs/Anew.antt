@@ -42,7 +42,7 @@ BegunIsHonest = (t : Told) → IsHonest (begun t)
 abbrev pub HonestStays : Type 0
 HonestStays = (events : List Event) (t : Told) → IsHonest t → IsHonest (told_after events t)
 
--- a barrier shows nothing new: what is begun behind it is what was begun before it
+-- a barrier shows nothing new: what is begun after it is what was begun before it
 abbrev pub BarrierBegins : Type 0
 BarrierBegins = (t : Told) → begun (did Sync t) ≡ begun t
 
@@ -67,7 +67,7 @@ PartIsEvents = (events : List Event) (t n : Told) → AddsPart events (Some t) (
 abbrev pub LeavesTheSame : Type 0
 LeavesTheSame = (events : List Event) (t : Told) (image : Image) → IsHonest t → IsStill t.log → IsLeft (told_after events t).log image ↔ IsLeft (told_after events (begun t)).log image
 
--- Behind a barrier a stop changes by the one log what it may change by the other, and then both show the same: so the next open has its base, too.
+-- After a barrier a stop changes by the one log what it may change by the other, and then both show the same: so the next open has its base, too.
 abbrev pub StopsAlike : Type 0
 StopsAlike =
     (events : List Event) (t b : Told) (changes : List (ℕ × List ℕ)) → b.shown ≡ t.shown → AreLoose (told_after events (did Sync t)).log.events changes

@@ -14,7 +14,7 @@ use Rattle.df_units.specs.Format.{format_of}
 use Rattle.df_recovery.specs.Below.{DataFile, shape}
 use Rattle.df_damage.specs.Versions.{IsKnown}
 
--- the file is of the version that an open asks for, the log of the disk is safe and began with an empty disk, and this view is found in what it leaves; what is shown is any image, so long as no unit of it came about by chance, seen from behind the barrier of an open
+-- the file is of the version that an open asks for, the log of the disk is safe and began with an empty disk, and this view is found in what it leaves; what is shown is any image, so long as no unit of it came about by chance, seen from after the barrier of an open
 pub record MayBeHurtAs (version : ℕ) (file : DataFile) (view : View) (t : Told) : Type 0 where
   pub known : IsKnown version
   pub version_is : file.version ≡ version

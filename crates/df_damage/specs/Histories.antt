@@ -36,7 +36,7 @@ units_logs file (log ∷ logs) = units_in file log ∷ units_logs file logs
 abbrev pub HasLived : DataFile → List Log → Type 0
 HasLived file logs = IsLived (shape file) (units_logs file logs)
 
--- What a disk shows behind these logs, at the barrier of an open, is what a next log may start with: no unit came about by chance, and at most two superblock copies are hurt, none where the four weren't equal. What else is
+-- What a disk shows after these logs, at the barrier of an open, is what a next log may start with: no unit came about by chance, and at most two superblock copies are hurt, none where the four weren't equal. What else is
 -- hurt doesn't matter.
 pub record MayReopen (file : DataFile) (log : Log) (logs : List Log) (image : Image) : Type 0 where
   pub version : file.version ≡ 2
@@ -51,11 +51,11 @@ pub record IsLivedDisk (file : DataFile) (logs : List Log) (log : Log) : Type 0 
   pub synced : HasLived file (add Sync log ∷ logs)
   pub stopped : (changes : List (ℕ × List ℕ)) → AreLoose log.events changes → NoChanceOf (format_of file.layout file.cluster) log (changed changes (now log)) → HasLived file (add (Stop changes) log ∷ logs)
 
--- the log was begun anew behind these, and its boot was raised since
+-- the log was begun anew after these, and its boot was raised since
 abbrev pub HasRaised : DataFile → (log before : Log) → List Log → Type 0
 HasRaised file log before logs = IsAwakened (shape file) (units_in file log) (units_in file before) (units_logs file logs)
 
--- What follows behind the barrier of an open keeps the history lived at each moment, and at the end the boot of the newest log is raised.
+-- What follows after the barrier of an open keeps the history lived at each moment, and at the end the boot of the newest log is raised.
 pub record LivesOn (file : DataFile) (before : Log) (older : List Log) (entry exit : Log) : Type 0 where
   pub moments : EachMoment entry exit (IsLivedDisk file (before ∷ older))
   pub raised : HasRaised file exit before older
@@ -75,7 +75,7 @@ pub record FindsSince (file : DataFile) (log : Log) (logs : List Log) (image : I
   pub since : WasHadSince file (add Sync log ∷ logs) found
   pub begins : MayBegin file found image
 
--- so it is of each state that an open finds behind a history
+-- so it is of each state that an open finds after a history
 abbrev pub FoundWasSince : Type 0
 FoundWasSince = (file : DataFile) (log : Log) (logs : List Log) (image : Image) (s : State) → MayReopen file log logs image → IsOpenedAs 2 file.layout image s → FindsSince file log logs image s
 
@@ -104,13 +104,13 @@ BegunGoesOn =
     (file : DataFile) (view : View) (log : Log) (logs : List Log) (image : Image) → MayReopen file log logs image → IsFound (shape file) (unit_at file.layout file.cluster image) view
     → IsLivedDisk file (add Sync log ∷ logs) (record { start = image; events = [] })
 
--- it goes on behind an open that raised the boot: it is lived wherever the newest log is safe, whatever was done in between
+-- it goes on after an open that raised the boot: it is lived wherever the newest log is safe, whatever was done in between
 abbrev pub RaisedGoesOn : Type 0
 RaisedGoesOn =
     (file : DataFile) (log later before : Log) (logs : List Log) → HasRaised file log before logs → HasLived file (before ∷ logs) → Extends later log → IsSafeDisk (format_of file.layout file.cluster) (shape file) later
     → IsLivedDisk file (before ∷ logs) later
 
--- and it goes on behind a stop at any moment at which the newest log was safe, wherever that fell: within an open, too
+-- and it goes on after a stop at any moment at which the newest log was safe, wherever that fell: within an open, too
 abbrev pub StoppedGoesOn : Type 0
 StoppedGoesOn =
     (file : DataFile) (view : View) (log before : Log) (logs : List Log) (changes : List (ℕ × List ℕ)) → IsSafeDisk (format_of file.layout file.cluster) (shape file) log → IsLivedDisk file (before ∷ logs) log → AreLoose log.events changes

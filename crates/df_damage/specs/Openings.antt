@@ -56,7 +56,7 @@ HeadersTell =
     (version : ℕ) (file : DataFile) (view : View) (t : Told) (s : State) → MayBeHurtAs version file view t → IsUnhurtZone file.layout t WalHeaders → (is : IsOpenedAs version file.layout t.shown s)
     → HasEachHeader file t is.view × (IsUnhurtZone file.layout t Superblock → (is.view.checkpoint ≡ view.checkpoint))
 
--- where the log leaves nothing to mend, too, as behind each finished session, a state that is found has every prepare of the tail
+-- where the log leaves nothing to mend, too, as after each finished session, a state that is found has every prepare of the tail
 abbrev pub WholeTailIsFound : Type 0
 WholeTailIsFound =
     (version : ℕ) (file : DataFile) (view : View) (t : Told) (s : State) → MayBeHurtAs version file view t → IsWhole (shape file) (unit_at file.layout file.cluster (now t.log)) view → IsUnhurtZone file.layout t WalHeaders → IsUnhurtZone file.layout t Superblock

@@ -34,7 +34,7 @@ pub record WasWritten (file : DataFile) (log : Log) (view : View) : Type 0 where
 abbrev pub HadIsWritten : Type 0
 HadIsWritten = (file : DataFile) (log later : Log) (view : View) → WasHad file log view → Extends later log → WasWritten file later view
 
--- and so with the one that an open finds on a disk that may be hurt, however the log went on behind its barrier
+-- and so with the one that an open finds on a disk that may be hurt, however the log went on after its barrier
 abbrev pub OpenedIsWritten : Type 0
 OpenedIsWritten =
     (version : ℕ) (file : DataFile) (view : View) (t : Told) (s : State) (later : Log) → MayBeHurtAs version file view t → (is : IsOpenedAs version file.layout t.shown s) → Extends later (add Sync t.log) → WasWritten s.file later is.view

@@ -26,7 +26,7 @@ part_passes P (e ∷ es) t (Some u) each (inr is) = goes_on P e t.log u.log each
 pub passes : {T E : Type 0} → (P : Log → Type 0) (es : List Event) (t : Told) (new : Option Told) (result : Result T E) → AtEach P t.log es → Adds es (Some t) new result → PassedTo t new P
 passes P es t new result each is = part_passes P es t new each (adds_part es (Some t) new result is)
 
--- some of these events, and the others behind them
+-- some of these events, and the others after them
 pub part_then : (es fs : List Event) (old new : Option Told) → AddsPart es old new → AddsPart (es ++ fs) old new
 part_then [] [] old new is = is
 part_then [] (f ∷ fs) old new is = inl is
@@ -46,7 +46,7 @@ pub after_append : (es fs : List Event) (old : Option Told) → after_all (es ++
 after_append [] fs old = refl
 after_append (e ∷ es) fs old = after_append es fs (after e old)
 
--- events, and a call that adds others behind them
+-- events, and a call that adds others after them
 pub adds_then : {T E : Type 0} → (es fs : List Event) (old mid new : Option Told) (result : Result T E) → mid ≡ after_all es old → Adds fs mid new result → Adds (es ++ fs) old new result
 adds_then es fs old mid new (Ok x) is adds = adds ∙ ap (after_all fs) is ∙ sym (after_append es fs old)
 adds_then es fs old mid new (Err e) is adds = all_then es fs old mid new is adds

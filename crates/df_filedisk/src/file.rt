@@ -18,7 +18,7 @@ use std::rt::Files;
 
 /// A disk over one file, which is opened for reading and writing on first use, and made where there
 /// is none. It never stands in for a standard stream that is closed: where that isn't sure, nothing is opened and the call
-/// fails. A read behind the end of the file gives zeros. `sync` asks the operating system to make
+/// fails. A read after the end of the file gives zeros. `sync` asks the operating system to make
 /// the data durable, with what is needed to read it again; the first sync of a file that was made
 /// also syncs its folder. Each call that fails counts as one fault, and none is tried again.
 /// Contracts see the disk as its count of faults, which stops at `u64::MAX`.

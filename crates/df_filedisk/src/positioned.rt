@@ -1,5 +1,5 @@
 // Reads and writes of whole buffers at an offset of a file, one system call where it does all. No
-// offset lies behind the last of 2^40 sectors of 4096 bytes.
+// offset lies after the last of 2^40 sectors of 4096 bytes.
 ghost use Rattle.std.specs.Prelude.{◌+◌, ◌≤◌, ◌^◌, length};
 ghost use Rattle.std.specs.Io.{ReadsAtMost};
 
@@ -23,7 +23,7 @@ fn read_some<F: FileExt>(file: &F, into: &mut [u8], offset: u64) -> io::Result<u
     Err(ErrorKind::Interrupted.into())
 }
 
-/// Fills the buffer from an offset in bytes on, with zeros behind the end of the file.
+/// Fills the buffer from an offset in bytes on, with zeros after the end of the file.
 pub fn read_whole<F: FileExt>(file: &F, into: &mut [u8], offset: u64) -> io::Result<()>
     requires { offset + length into.old ≤ 2 ^ 52 }
 {

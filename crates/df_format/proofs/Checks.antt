@@ -1,4 +1,4 @@
--- Checksums one behind the other: their bytes, how they are read again, and what stands where none of them is named.
+-- Checksums one after the other: their bytes, how they are read again, and what stands where none of them is named.
 use Rattle.std.proofs.Common.{◌≡◌, ◌<◌, ◌≤◌, ◌+◌, ◌-◌, ◌*◌, ℕ, zero, suc, List, [], ◌∷◌, ◌++◌, length, take, drop, replicate, get_or, refl, sym, ◌∙◌, ap, arith, append_assoc, length-append}
 use Rattle.std.specs.Prelude.{All}
 use Rattle.std.proofs.lemmas.List.{take_at, take-replicate, drop-replicate, take-append-drop, drop-drop, length-take-le, length-drop, length-replicate, get_or-replicate, replicate-append-replicate, ext_get_or, append-nil}

@@ -1,4 +1,4 @@
--- Parts of a copy's sector: what a write of a number leaves behind it, and which bytes are all zero.
+-- Parts of a copy's sector: what a write of a number leaves after it, and which bytes are all zero.
 use Rattle.std.proofs.Common.{inl, inr, ◌≡◌, ◌≤◌, ◌+◌, ◌-◌, ◌==◌, ◌&&◌, ℕ, zero, suc, Bool, not, List, [], ◌∷◌, ◌++◌, length, take, drop, replicate, Option, Some, None, cond, refl, sym, ◌∙◌, ap, arith, append_assoc, length-append}
 use Rattle.std.specs.Prelude.{nat_lt, position, option_map}
 use Rattle.std.specs.List.{list_all, prefix_len}
@@ -17,18 +17,18 @@ all_zero [] (suc n) size = absurd (omega arith)
 all_zero (x ∷ xs) zero size = absurd (omega arith)
 all_zero (x ∷ xs) (suc n) size = ap (λ (b : Bool). (x == 0) && b) (all_zero xs n (omega arith))
 
--- what stands further behind is the same too
+-- what stands further after is the same too
 pub further : (at n : ℕ) (one two : List ℕ) → drop at one ≡ drop at two → drop (at + n) one ≡ drop (at + n) two
 further at n one two same = sym (drop-drop n at one) ∙ ap (λ (l : List ℕ). drop n l) same ∙ drop-drop n at two
 
--- a number that is written leaves what stands behind it
+-- a number that is written leaves what stands after it
 pub number_rest : (at n x : ℕ) (old new : List ℕ) → at + n ≤ length old → new ≡ put_at n at x old → drop (at + n) new ≡ drop (at + n) old
 number_rest at n x old new fits is =
     let size : length (take at old ++ spelled n x) ≡ at + n = length-append (take at old) (spelled n x) ∙ (λ i. length-take-le at old (omega arith) i + length-spelled n x i) in
     ap (λ (l : List ℕ). drop (at + n) l) (is ∙ sym (append_assoc (take at old) (spelled n x) (drop (at + n) old)))
     ∙ drop_at (take at old ++ spelled n x) (drop (at + n) old) (at + n) size
 
--- a list is its front and what stands behind it
+-- a list is its front and what stands after it
 pub joined : (at : ℕ) (bytes front rest : List ℕ) → take at bytes ≡ front → drop at bytes ≡ rest → bytes ≡ front ++ rest
 joined at bytes front rest before behind = sym (take-append-drop at bytes) ∙ (λ i. before i ++ behind i)
 
@@ -47,7 +47,7 @@ no_other n =
     let size : length zeros ≡ n = length-replicate {A = ℕ} n 0 in
     cond-false (nat_lt (zeros_in zeros) (length zeros)) (Some (zeros_in zeros)) None (le-ltb (zeros_in zeros) (length zeros) (omega (arith, zeros_in-zeros n, size)))
 
--- one byte: zero, and so are those behind it
+-- one byte: zero, and so are those after it
 zeros_behind : (x : ℕ) (xs : List ℕ) → length (x ∷ xs) ≤ zeros_in (x ∷ xs) → (x ≡ 0) × (length xs ≤ zeros_in xs)
 zeros_behind x xs is = elim (cases_eq x 0) [
   | inl none ↦

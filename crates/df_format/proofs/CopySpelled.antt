@@ -90,7 +90,7 @@ module _ (number : ℕ) (f : SuperFields) (small : number < 4) (fits : FitsSuper
   zero_all : f.version ≢ 2 → nonzero_between 160 4096 sector ≡ None
   zero_all other = nothing_between 160 4096 3936 sector (ap (λ (l : List ℕ). take 3936 l) (f160 ∙ named_zeros f fits (names other)) ∙ take_all 3936 (replicate 3936 0) (omega (arith, length-replicate {A = ℕ} 3936 0)))
 
-  -- and version 2 between and behind what it names
+  -- and version 2 between and after what it names
   nothing : first_nonzero_of f.version sector ≡ None
   nothing = elim (cases_eq f.version 2) [
     | inl second ↦

@@ -1,4 +1,4 @@
--- The first test that fails, of some tests and further ones behind them.
+-- The first test that fails, of some tests and further ones after them.
 use Rattle.std.proofs.Common.{◌≡◌, inl, inr, List, [], ◌∷◌, ◌++◌, Some, None, refl, sym, ◌∙◌, ap}
 use Rattle.std.specs.Prelude.{Result, IsErr, IsErrAnd}
 use Rattle.std.specs.Result.{result_err}

@@ -37,7 +37,7 @@ further a b xs ys order same =
     let there : a + (b - a) ≡ b = omega arith in
     ap (λ (n : ℕ). drop n xs) (sym there) ∙ sym (drop-drop (b - a) a xs) ∙ ap (λ (l : List ℕ). drop (b - a) l) same ∙ drop-drop (b - a) a ys ∙ ap (λ (n : ℕ). drop n ys) there
 
--- a body behind the place of a header stays there when the header is written
+-- a body after the place of a header stays there when the header is written
 pub body_behind : (count : ℕ) (old new : List ℕ) → drop 256 new ≡ drop 256 old → take (256 + count) new ≡ take 256 new ++ take count (drop 256 old)
 body_behind count old new rest = take-add 256 count new ∙ ap (λ (l : List ℕ). take 256 new ++ take count l) rest
 
@@ -47,7 +47,7 @@ body_put body old new room front =
     let size : length (take 256 old) ≡ 256 = length-take-le 256 old room in
     sym (drop-take 256 (length body) new) ∙ ap (drop 256) front ∙ drop_at (take 256 old) body 256 size
 
--- header, body and zeros, one behind the other
+-- header, body and zeros, one after the other
 pub sectors_made : (p : Message) (s1 s2 s3 : List ℕ) (end : ℕ) → take 256 s1 ≡ spelling p.header → take (256 + length p.body) s2 ≡ take 256 s1 ++ p.body
     → take end s3 ≡ take (256 + length p.body) s2 ++ replicate (end - (256 + length p.body)) 0 → end ≡ sectors_end (256 + length p.body) → take end s3 ≡ sectors_of p
 unfolding sectors_of

@@ -63,7 +63,7 @@ written_begins at bytes image n fits =
     let all = written_from at bytes image 0 n (omega arith) in
     (all.0, ap (λ (s : ℕ). bytes_at (written at bytes image) s n) (sym here) ∙ all.1)
 
--- a write covers no sector in front of it or behind it
+-- a write covers no sector in front of it or after it
 pub uncovered_below : (at : ℕ) (bytes : List ℕ) (sector : ℕ) → sector < at → covers at bytes sector ≡ false
 unfolding covers
 uncovered_below at bytes sector order = and_left _ _ (lt-leb at sector order)

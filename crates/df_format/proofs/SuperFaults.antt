@@ -19,7 +19,7 @@ Clears fault P = (fault ≡ None → P) × (P → fault ≡ None)
 cleared : {P Q : Type 0} (fault : Option SuperFault) → Clears fault P → (P → Q) → (Q → P) → Clears fault Q
 cleared fault is to from = (λ none. to (is.0 none), λ holds. is.1 (from holds))
 
--- one test and those behind it
+-- one test and those after it
 passed : (b : Bool) (fault : SuperFault) (later : Option SuperFault) → cond b later (Some fault) ≡ None → (b ≡ true) × (later ≡ None)
 passed true fault later is = (refl, is)
 passed false fault later is = absurd (cc)

@@ -173,7 +173,7 @@ sector_shown layout cluster image index slot bytes size same =
     ap (λ (l : List ℕ). unit_in layout cluster place (part_in WalHeaders slot l)) there
     ∙ ap (λ (l : List ℕ). unit_in layout cluster place l) (part_of_front slot bytes begun.0 size)
 
--- sealed headers one behind the other
+-- sealed headers one after the other
 abbrev AreSealed : List Header → Type 0
 AreSealed headers = (i : ℕ) (h : Header) → slice_get headers i ≡ Some h → IsSealed h
 

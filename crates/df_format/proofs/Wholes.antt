@@ -106,7 +106,7 @@ body_follows layout cluster place bytes u other valid = sym (unit_found layout c
 pub ring_has_no_body : RingHasNoBody
 ring_has_no_body layout cluster place bytes u ring valid = sym (unit_found layout cluster place bytes u valid).body ∙ ap (λ (z : Zone). body_in z u.header.size bytes) ring
 
--- what stands behind the header is the body, and a rest
+-- what stands after the header is the body, and a rest
 body_rest : (zone : Zone) (size : ℕ) (bytes : List ℕ) → (rest : List ℕ) × (drop 256 bytes ≡ body_in zone size bytes ++ rest)
 body_rest WalHeaders size bytes = (drop 256 bytes, refl)
 body_rest _ size bytes = (drop (size - 256) (drop 256 bytes), sym (take-append-drop (size - 256) (drop 256 bytes)))

@@ -17,11 +17,11 @@ abbrev pub nonzero_between : ℕ → ℕ → List ℕ → Option ℕ
 nonzero_between at end bytes = option_map (λ i. at + i) (position (λ b. not (b == 0)) (take (end - at) (drop at bytes)))
 
 -- the offset of the first byte that isn't zero where the version has no fields: in version 2 between the checksum of the head's
--- prepare and those of the replies, and behind these; in any other behind the boot
+-- prepare and those of the replies, and after these; in any other after the boot
 abbrev pub first_nonzero_of : ℕ → List ℕ → Option ℕ
 first_nonzero_of version bytes = if version == 2 then option_or (nonzero_between 176 192 bytes) (nonzero_between 1216 4096 bytes) else nonzero_between 160 4096 bytes
 
--- so many checksums, one behind the other from an offset on
+-- so many checksums, one after the other from an offset on
 unfoldable pub checks_at : ℕ → ℕ → List ℕ → List (List ℕ)
 checks_at zero at bytes = []
 checks_at (suc n) at bytes = take 16 (drop at bytes) ∷ checks_at n (at + 16) bytes
@@ -50,15 +50,15 @@ super_fields_of bytes = record {
   first_nonzero = first_nonzero_of (field_at 4 32 bytes) bytes;
 }
 
--- the checksum is that of all behind the number and its zeros
+-- the checksum is that of all after the number and its zeros
 abbrev pub has_checksum : List ℕ → Bool
 has_checksum bytes = bytes_eq (take 16 bytes) (check_of (drop 32 bytes))
 
--- the bytes behind the number are zero
+-- the bytes after the number are zero
 abbrev pub has_zeros : List ℕ → Bool
 has_zeros bytes = bytes_eq (take 12 (drop 20 bytes)) (replicate 12 0)
 
--- the checksum is right, the number is that of a copy, and the bytes behind it are zero
+-- the checksum is right, the number is that of a copy, and the bytes after it are zero
 unfoldable pub is_copy : List ℕ → Bool
 is_copy bytes = has_checksum bytes && nat_lt (field_at 4 16 bytes) 4 && has_zeros bytes
 

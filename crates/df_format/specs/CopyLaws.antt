@@ -22,7 +22,7 @@ CopiesHaveOneSpelling =
     (bytes : List ℕ) (copy : SuperCopy) → IsSector bytes → copy.fields.first_nonzero ≡ None
     → (copy_in bytes ≡ Some copy) ↔ (IsWritten copy × (bytes ≡ copy_bytes copy.number copy.fields))
 
--- behind its boot a copy that names nothing ends in zeros
+-- after its boot a copy that names nothing ends in zeros
 abbrev pub NamelessEndsInZeros : Type 0
 NamelessEndsInZeros = (f : SuperFields) → FitsSuper f → NamesNone f → named_bytes f ≡ replicate 3936 0
 

@@ -140,11 +140,11 @@ has_version h = is_first h || is_second h.kind h
 abbrev pub has_numbers : Header → Bool
 has_numbers h = nat_lt 0 h.cluster && nat_le 256 h.size && is_of_kind h.kind h && has_version h
 
--- the bytes behind the fields are zero
+-- the bytes after the fields are zero
 abbrev pub ends_in_zeros : List ℕ → Bool
 ends_in_zeros bytes = bytes_eq (take 108 (drop 148 bytes)) (replicate 108 0)
 
--- the checksum is right, and zeros stand behind the fields
+-- the checksum is right, and zeros stand after the fields
 unfoldable pub is_spelled : List ℕ → Bool
 is_spelled bytes = bytes_eq (take 16 bytes) (check_of (take 240 (drop 16 bytes))) && ends_in_zeros bytes
 

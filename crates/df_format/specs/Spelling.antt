@@ -20,7 +20,7 @@ code_of Block = 4
 code_of Trailer = 5
 
 -- bytes 122 to 256 of a header: its version, the boot in which it was made, the group that it was appended with, and zeros; in
--- version 1, which has neither boots nor groups, all behind the version is zero
+-- version 1, which has neither boots nor groups, all after the version is zero
 abbrev pub tail : List (Piece Header)
 tail = Number 2 (λ h. h.version) ∷ Number 8 (λ h. h.boot) ∷ Number 8 (λ h. h.group) ∷ Number 8 (λ h. h.group_last) ∷ zeros 108 ∷ []
 

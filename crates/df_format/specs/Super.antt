@@ -70,12 +70,12 @@ fields =
 unfoldable pub fields_bytes : SuperFields → List ℕ
 fields_bytes f = text fields f []
 
--- checksums, one behind the other
+-- checksums, one after the other
 unfoldable pub checks_bytes : List (List ℕ) → List ℕ
 checks_bytes [] = []
 checks_bytes (check ∷ checks) = check ++ checks_bytes checks
 
--- bytes 160 to 4096: what version 2 names, with zeros between and behind; all zeros in version 1, which names nothing
+-- bytes 160 to 4096: what version 2 names, with zeros between and after; all zeros in version 1, which names nothing
 abbrev pub named : List (Piece SuperFields)
 named = Bytes 16 (λ f. f.head_checksum) ∷ zeros 16 ∷ Bytes 1024 (λ f. checks_bytes f.reply_checksums) ∷ zeros 2880 ∷ []
 

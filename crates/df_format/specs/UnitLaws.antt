@@ -24,7 +24,7 @@ use Rattle.df_format.specs.Valid.{IsUnit, Begins, Belongs}
 abbrev pub HeadersHaveOneSpelling : Type 0
 HeadersHaveOneSpelling = (bytes : List ℕ) (h : Header) → length bytes ≡ 256 → AreBytes bytes → (header_in bytes ≡ Some h) ↔ (IsSealed h × (bytes ≡ spelling h))
 
--- behind its version a header of version 1 ends in zeros
+-- after its version a header of version 1 ends in zeros
 abbrev pub FirstVersionEndsInZeros : Type 0
 FirstVersionEndsInZeros = (h : Header) → ObeysFirst h → tail_of h ≡ spelled 2 1 ++ replicate 132 0
 
@@ -138,7 +138,7 @@ SectorIsShown =
     (layout : Layout) (cluster : ℕ) (image : Image) (index slot : ℕ) (bytes : List ℕ) → length bytes ≡ 4096 → index / 16 ≡ slot / 16
     → unit_at layout cluster (put layout (place_in WalHeaders index) bytes image) (place_in WalHeaders slot) ≡ unit_in layout cluster (place_in WalHeaders slot) (part_in WalHeaders slot bytes)
 
--- headers one behind the other
+-- headers one after the other
 abbrev pub headers_bytes : List Header → List ℕ
 headers_bytes [] = []
 headers_bytes (h ∷ hs) = spelling h ++ headers_bytes hs

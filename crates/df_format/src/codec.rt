@@ -14,7 +14,7 @@ use df_base::{
 // The end of the checksum, which covers all that follows it.
 const SUMMED: usize = 16;
 
-// Where the kind stands, and what its owner says of a block behind it.
+// Where the kind stands, and what its owner says of a block after it.
 const KIND: usize = 120;
 
 // Where the fields end; zeros follow up to the end of the header.
@@ -50,7 +50,7 @@ fn put_kind(into: &mut [u8], kind: Kind, block_kind: u8)
     put_bytes(into, KIND, &[code_of(kind), block_kind]);
 }
 
-// Writes the version with what it says of boot and group, and the zeros behind them.
+// Writes the version with what it says of boot and group, and the zeros after them.
 fn put_tail(into: &mut [u8], header: &Header)
     requires { length into.old ≡ 256 }
     ensures { into.new ≡ take 122 into.old ++ tail_of header.now }
@@ -155,7 +155,7 @@ fn kind_of(code: u8) -> Option<Kind>
     }
 }
 
-// Whether the bytes behind the fields are zero.
+// Whether the bytes after the fields are zero.
 fn ends_in_zeros(bytes: &[u8]) -> bool
     requires { length bytes.now ≡ 256 }
     ensures { result ≡ ends_in_zeros bytes.now }

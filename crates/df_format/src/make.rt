@@ -37,7 +37,7 @@ fn put_header(into: &mut [u8], header: &Header)
     encode_header(header, &mut into[..HEADER]);
 }
 
-// Writes the header before a body of this length that stands behind its place, and zeros up to the end of a sector, and gives that end.
+// Writes the header before a body of this length that stands after its place, and zeros up to the end of a sector, and gives that end.
 fn write_ends(header: &Header, count: usize, into: &mut [u8]) -> usize
     requires header { IsSealed header.now }
     requires room { sectors_end (256 + count) ≤ length into.old }
@@ -53,7 +53,7 @@ fn write_ends(header: &Header, count: usize, into: &mut [u8]) -> usize
     end
 }
 
-// The body that stands behind the place of a header.
+// The body that stands after the place of a header.
 fn body_in(bytes: &[u8], count: usize) -> &[u8]
     requires { 256 + count ≤ length bytes.now }
     ensures { result.now ≡ take count (drop 256 bytes.now) }
@@ -78,7 +78,7 @@ fn for_body(header: Header, body: &[u8]) -> Header
     }
 }
 
-/// Makes a unit of any kind of the body that stands at the front of a buffer, behind the place of a header: it sets the header's
+/// Makes a unit of any kind of the body that stands at the front of a buffer, after the place of a header: it sets the header's
 /// size and checksums, writes the header, and zeros up to the last whole sector, and leaves the rest of the buffer. The body has
 /// `count` bytes.
 pub fn seal_unit(header: Header, count: usize, into: &mut [u8]) -> Made

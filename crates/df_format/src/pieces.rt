@@ -1,4 +1,4 @@
-// Pieces that are written over a part of a buffer; what stands behind them stays.
+// Pieces that are written over a part of a buffer; what stands after them stays.
 ghost use Rattle.std.specs.Prelude.{◌≡◌, ◌+◌, ◌-◌, ◌≤◌, ◌++◌, length, take, drop, replicate};
 
 // Writes bytes from offset `at` on.

@@ -15,7 +15,7 @@ use df_layout::{Class, Place, Zone};
 // Copies of the superblock.
 const COPIES: u32 = 4;
 
-// Where the number of the copy stands, behind the checksum, and where zeros follow it.
+// Where the number of the copy stands, after the checksum, and where zeros follow it.
 const NUMBER: usize = 16;
 
 const ZEROS: usize = 20;
@@ -26,7 +26,7 @@ const COVERED: usize = 32;
 // The end of the fields that both versions have.
 const NAMED: usize = 160;
 
-// Where version 2 has the checksums of the replies, behind that of the head's prepare and zeros, and where they end.
+// Where version 2 has the checksums of the replies, after that of the head's prepare and zeros, and where they end.
 const REPLIES: usize = 192;
 
 const END: usize = 1216;
@@ -62,7 +62,7 @@ fn put_fields(into: &mut [u8], fields: &SuperFields)
     put_u64(into, 152, fields.boot);
 }
 
-// Writes the checksums of the replies, one behind the other.
+// Writes the checksums of the replies, one after the other.
 fn put_checks(into: &mut [u8], checks: &[Check; 64])
     requires { length into.old ≡ 4096 }
     ensures { take 1216 into.new ≡ take 192 into.old ++ checks_bytes checks.now }
@@ -74,7 +74,7 @@ fn put_checks(into: &mut [u8], checks: &[Check; 64])
     }
 }
 
-// Writes what version 2 names behind the fields of both versions, and the zeros between and behind it.
+// Writes what version 2 names after the fields of both versions, and the zeros between and after it.
 fn put_named(into: &mut [u8], fields: &SuperFields)
     requires { length into.old ≡ 4096 }
     ensures { into.new ≡ take 160 into.old ++ named_bytes fields.now }
@@ -94,7 +94,7 @@ fn put_covered(into: &mut [u8], fields: &SuperFields)
     put_named(into, fields);
 }
 
-// Writes what the checksum doesn't cover: itself, the number and the zeros behind it.
+// Writes what the checksum doesn't cover: itself, the number and the zeros after it.
 fn put_front(into: &mut [u8], sum: &Check, number: u8)
     requires { length into.old ≡ 4096 }
     ensures front { take 32 into.new ≡ sum.now ++ (spelled 4 number ++ replicate 12 0) }
@@ -213,7 +213,7 @@ fn is_copy(number: u32, bytes: &[u8]) -> bool
 }
 
 /// The copy of the superblock that the 4,096 bytes of a sector are, wherever it belongs; None where the checksum is
-/// wrong, the number isn't that of a copy, or a byte behind the number isn't zero. What the fields say isn't tested.
+/// wrong, the number isn't that of a copy, or a byte after the number isn't zero. What the fields say isn't tested.
 #[tactic(auto, unfolding(crate::specs::Copies::copy_in))]
 pub fn decode_copy(bytes: &[u8]) -> Option<SuperCopy>
     requires { length bytes.now ≡ 4096 }

@@ -48,7 +48,7 @@ made header body = record { header = sealed (for_body header body); body = body 
 abbrev pub version_in : ℕ → ℕ
 version_in boot = if boot == 0 then 1 else 2
 
--- the header of a trailer block at an address, behind the block with this checksum, if there is one
+-- the header of a trailer block at an address, after the block with this checksum, if there is one
 abbrev pub header_with : (cluster boot address index sequence before : ℕ) → List ℕ → Header
 header_with cluster boot address index sequence before parent = record (blank_header Trailer cluster) {
   parent = parent;

@@ -53,7 +53,7 @@ fn version_in(boot: u64) -> u16
     if boot == 0 { 1 } else { 2 }
 }
 
-// The header of a trailer block behind another one, as its maker gives it over a piece.
+// The header of a trailer block after another one, as its maker gives it over a piece.
 fn trailer_header(
     cluster: u128,
     boot: u64,

@@ -113,7 +113,7 @@ module _ (sh : Shape) (b : Checkpoint) (hs : List Header) (i : ℕ) (tail : Tail
     ];
   }
 
-  -- what fits behind all of them comes next
+  -- what fits after all of them comes next
   pub fits_next : (head : ℕ) (h : Header) (p : Message) → b.content.pin ≡ head → p.header ≡ header_of h → AreFitting sh b (all ++ p ∷ []) → FitsAt (clients sh) head at ahead h
   fits_next head h p pin same fit =
       let at_end = chain_end (clients sh) (b.content.op + 1) b.content.op_checksum 0 b.parts.sessions all p fit.chain in

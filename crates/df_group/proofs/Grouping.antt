@@ -4,7 +4,7 @@ use Rattle.df_theory.specs.Units.{Header, Message, Session}
 use Rattle.df_theory.specs.Sessions.{noted, sessions_after}
 use Rattle.df_theory.specs.Tails.{AreGroups, Chain, Fits, FitsGroup, In, last_checksum, last_mark}
 
--- behind a group that is over it doesn't matter which one it was
+-- after a group that is over it doesn't matter which one it was
 pub fits_closed : (f g l m op : ℕ) (h : Header) → l < op → m < op → FitsGroup f l op h → FitsGroup g m op h
 fits_closed f g l m op h below low (inl fits) = inl (low, fits.1, fits.2)
 fits_closed f g l m op h below low (inr fits) = absurd (omega (arith, fits.0))
@@ -13,7 +13,7 @@ groups_closed : (f g l m op : ℕ) (ps : List Message) → l < op → m < op →
 groups_closed f g l m op [] below low groups = tt
 groups_closed f g l m op (p ∷ ps) below low groups = (fits_closed f g l m op p.header below low groups.0, groups.1)
 
--- groups behind whole groups
+-- groups after whole groups
 pub groups_join : (f l op low : ℕ) (ps qs : List Message) → l < op + length ps → ((p : Message) → In p ps → p.header.group_last < op + length ps) → low < op + length ps → AreGroups f l op ps → AreGroups 0 low (op + length ps) qs → AreGroups f l op (ps ++ qs)
 groups_join f l op low [] qs ends each below groups more =
     let same : op + 0 ≡ op = omega arith in
@@ -22,7 +22,7 @@ groups_join f l op low (p ∷ ps) qs ends each below groups more =
     let same : op + suc (length ps) ≡ op + 1 + length ps = omega arith in
     (groups.0, groups_join p.header.group p.header.group_last (op + 1) low ps qs (omega (arith, each p (inl refl))) (λ q at. omega (arith, each q (inr at))) (omega arith) groups.1 (subst (λ (n : ℕ). AreGroups 0 low n qs) same more))
 
--- and what stands behind these
+-- and what stands after these
 pub groups_split : (f l op low : ℕ) (ps qs : List Message) → l < op + length ps → ((p : Message) → In p ps → p.header.group_last < op + length ps) → low < op + length ps → AreGroups f l op (ps ++ qs) → AreGroups 0 low (op + length ps) qs
 groups_split f l op low [] qs ends each below groups =
     let same : op ≡ op + 0 = omega arith in

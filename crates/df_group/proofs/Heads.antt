@@ -1,4 +1,4 @@
--- The head and what is lost behind it, told by the prepare that is reached last, and by where the last whole group ends.
+-- The head and what is lost after it, told by the prepare that is reached last, and by where the last whole group ends.
 use Rattle.std.proofs.Common.{◌≡◌, ◌↔◌, inl, inr, ℕ, ◌+◌, ◌<◌, ◌≤◌, List, [], ◌∷◌, ◌++◌, length, Option, Some, None, refl, sym, ◌∙◌, ap, subst, arith, length-append}
 use Rattle.df_theory.specs.Units.{Content, Message, Session, Units}
 use Rattle.df_theory.specs.Sessions.{noted}
@@ -36,7 +36,7 @@ same_group first last op reach (p ∷ ps) groups within inside each q at = elim 
   ]
 ]
 
--- so behind whole groups all are of the one that begins there
+-- so after whole groups all are of the one that begins there
 one_group : (top op reach : ℕ) (ps : List Message) → AreGroups 0 top op ps → op ≡ top + 1 → op + length ps ≤ reach + 1 → ((q : Message) → In q ps → reach < q.header.group_last) → (q : Message) → In q ps → q.header.group ≡ top + 1
 one_group top op reach [] groups next within each q at = absurd at
 one_group top op reach (p ∷ ps) groups next within each q at = elim groups.0 [

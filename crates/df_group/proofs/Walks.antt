@@ -19,14 +19,14 @@ use Rattle.df_group.specs.Reached.{BeginsBehind, EndsAt}
 use Rattle.df_group.proofs.Asks.{noted_is}
 use Rattle.df_group.proofs.Grouping.{fits_closed, fits_same, groups_join, groups_next, in_some, last_checksum-append}
 
--- prepares behind these, down to this end
+-- prepares after these, down to this end
 pub record ReachesTo (b : Checkpoint) (ps more : List Units.Message) (last : Tail) (sessions : List Session) : Type 0 where
   pub op : last.op ≡ b.content.op + length ps + length more
   pub checksum : number_of last.checksum ≡ last_checksum (last_checksum b.content.op_checksum ps) more
   pub mark : last.mark ≡ last_mark (last_mark 0 ps) more
   pub sessions_are : sessions_of sessions ≡ sessions_after (sessions_after b.parts.sessions ps) more
 
--- prepares that are taken and fit: whole groups, which end here, and behind them as much of a group as the walk has come to
+-- prepares that are taken and fit: whole groups, which end here, and after them as much of a group as the walk has come to
 pub record IsAhead (places : ℕ) (Taken : Units.Message → Type 0) (b : Checkpoint) (tail : Tail) (kept : List Session) (at : Position) (ahead : List Session) (passed : List Units.Message) : Type 0 where
   pub ps : List Units.Message
   pub more : List Units.Message
@@ -52,7 +52,7 @@ pub record IsWalk (places : ℕ) (Taken : Units.Message → Type 0) (b : Checkpo
   pub closed : length ahead_is.more ≡ 0 → at.group_last ≡ at.last.op
   pub opened : 0 < length ahead_is.more → at.last.op < at.group_last
 
--- behind a checkpoint with this op and checksum, without prepares
+-- after a checkpoint with this op and checksum, without prepares
 abbrev pub end_at : ℕ → List ℕ → Tail
 end_at op checksum = record { op = op; checksum = checksum; mark = 0 }
 
@@ -106,7 +106,7 @@ walk_begins places Taken b op checksum sessions begins tail at ahead tail_is at_
     (subst (λ (p : Position). IsWalk places Taken b end sessions p ahead []) (sym there)
     (subst (λ (ss : List Session). IsWalk places Taken b end sessions begin ss []) (sym ahead_is) here))
 
--- what fits by the words of the end fits behind the prepares
+-- what fits by the words of the end fits after the prepares
 pub fits_behind : (places : ℕ) (b : Checkpoint) (ps more : List Units.Message) (last : Tail) (sessions : List Session) (k : Units.Header) → ReachesTo b ps more last sessions
     → Fits places (last.op + 1) (number_of last.checksum) last.mark (sessions_of sessions) k
     ↔ Fits places (b.content.op + 1 + length ps + length more) (last_checksum (last_checksum b.content.op_checksum ps) more) (last_mark (last_mark 0 ps) more) (sessions_after (sessions_after b.parts.sessions ps) more) k

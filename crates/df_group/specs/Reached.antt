@@ -1,4 +1,4 @@
--- How far prepares go on behind a checkpoint, and where the last whole group among them ends.
+-- How far prepares go on after a checkpoint, and where the last whole group among them ends.
 use Rattle.std.specs.Prelude.{◌≡◌, ◌<◌, ◌+◌, ℕ, List, [], ◌∷◌, ◌++◌, length, map, slice_get, Some}
 use Rattle.df_format.specs.declared.header.Header.{Header}
 use Rattle.df_sessions.specs.declared.session.Session.{Session}
@@ -41,7 +41,7 @@ prepares_of hs = map (λ h. record { header = header_of h; body = [] }) hs
 abbrev pub HaveClients : List Header → Type 0
 HaveClients hs = (k : ℕ) (h : Header) → slice_get hs k ≡ Some h → 0 < h.client
 
--- how far the prepares with these headers go on behind a checkpoint: whole groups, up to the end of the tail, and behind them as much of one more group as fits
+-- how far the prepares with these headers go on after a checkpoint: whole groups, up to the end of the tail, and after them as much of one more group as fits
 pub record IsReachOf (sh : Shape) (b : Checkpoint) (hs : List Header) (reach : Reach) (sessions : List Session) : Type 0 where
   pub tail : List Message
   pub more : List Message

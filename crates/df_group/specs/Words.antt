@@ -42,7 +42,7 @@ abbrev pub IsTornAt : Content → ℕ → ℕ → Option Message → Type 0
 IsTornAt c reach top None = ⊥
 IsTornAt c reach top (Some q) = IsOpen c q × (top ≡ reach)
 
--- what is lost behind such a head, case by case: none of them is so
+-- what is lost after such a head, case by case: none of them is so
 pub record NoneLostBy (image : Units) (c : Content) (reach top : ℕ) (last : Option Message) : Type 0 where
   pub torn : IsTornAt c reach top last → ⊥
   pub header : NoHeaderAbove image c top
@@ -50,7 +50,7 @@ pub record NoneLostBy (image : Units) (c : Content) (reach top : ℕ) (last : Op
   pub superblock : c.head ≤ top
   pub reply : (k : ℕ) (r : Message) → image (ReplyPlace k) ≡ Some (ReplyUnit r) → r.header.boot ≡ c.boot → (r.header.op ≤ top) × (r.header.mark ≤ top)
 
--- so nothing is lost by these cases exactly where nothing is behind the last whole group, and the head is then the same
+-- so nothing is lost by these cases exactly where nothing is after the last whole group, and the head is then the same
 abbrev pub HeadLaw : Type 0
 HeadLaw =
     (sh : Shape) (image : Units) (b : Checkpoint) (tail more : List Message) (top : ℕ) → HaveGroups image → Walks sh image b tail more

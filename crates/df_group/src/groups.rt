@@ -16,7 +16,7 @@ pub struct Tail {
 }
 
 /// Where a walk stands: the last prepare that it came to, as far as the next one needs to know it, and the first and the last op
-/// of that one's group. Behind a checkpoint without prepares a group is over at the checkpoint's op.
+/// of that one's group. After a checkpoint without prepares a group is over at the checkpoint's op.
 #[derive(Clone, Copy, Debug, PartialEq, Eq)]
 pub struct Position {
     pub last: Tail,
@@ -24,7 +24,7 @@ pub struct Position {
     pub group_last: u64,
 }
 
-/// The end of a tail without prepares, behind a checkpoint of this op, whose prepare has this checksum.
+/// The end of a tail without prepares, after a checkpoint of this op, whose prepare has this checksum.
 pub fn empty_tail(op: u64, checksum: &Check) -> Tail
     ensures { result ≡ record { op = op; checksum = checksum.now; mark = 0 } }
 {
@@ -69,7 +69,7 @@ pub(crate) fn group_last(header: &Header) -> u64
     number_or(header.group_last, header.op)
 }
 
-/// Behind the end of a tail that is whole.
+/// After the end of a tail that is whole.
 pub fn position_behind(last: &Tail) -> Position
     ensures { result ≡ record { last = last.now; group = 0; group_last = last.now.op } }
 {

@@ -1,4 +1,4 @@
-//! Groups of prepares, over plain headers and without a disk: which prepare fits behind others, how far a list of them reaches and where
+//! Groups of prepares, over plain headers and without a disk: which prepare fits after others, how far a list of them reaches and where
 //! its last whole group ends, and what a header or a prepare above that end says of it.
 #![tactic(auto)]
 

@@ -1,4 +1,4 @@
-// How far prepares go on behind a checkpoint, each of which fits what precedes it; the tail ends where the last whole group does.
+// How far prepares go on after a checkpoint, each of which fits what precedes it; the tail ends where the last whole group does.
 ghost use Rattle.std.specs.Prelude.{◌≡◌, ◌↔◌, ◌≤◌, ◌<◌, ◌+◌, ◌^◌, length, IsTrue};
 ghost use Rattle.df_group.specs.Below.{Checkpoint, Shape};
 ghost use Rattle.df_group.specs.Fitting.{FitsAt};
@@ -49,7 +49,7 @@ fn comes_next(
     goes_on(head, at, sessions, clients, header)
 }
 
-/// How far the prepares with these headers, which are taken one after the other, go on behind a checkpoint of this op, whose prepare
+/// How far the prepares with these headers, which are taken one after the other, go on after a checkpoint of this op, whose prepare
 /// has this checksum, and whose superblock names this head. The sessions, at first the checkpoint's, become those after the tail.
 pub fn reach_of(
     op: u64,

@@ -11,7 +11,7 @@ use std::env;
 use std::io::{self, Write};
 use std::test::Fail;
 
-// The words behind the program's name.
+// The words after the program's name.
 fn words(rt: &HostRuntime) -> Result<Vec<String>, Fail> {
     let words = env::args(rt)?.skip(1).collect(rt.alloc())?;
     Ok(words)

@@ -11,7 +11,7 @@ use std::test::Fail;
 #[derive(Drop)]
 pub struct Outcome {
     pub status: Status,
-    /// Events of the disk before and behind them.
+    /// Events of the disk before and after them.
     pub events_before: u64,
     pub events: u64,
     /// Bytes of the script that weren't read.
@@ -19,7 +19,7 @@ pub struct Outcome {
     /// Growths that the disk and the sink were refused.
     pub disk_refused: u64,
     pub sink_refused: u64,
-    /// How a recovery ends behind them.
+    /// How a recovery ends after them.
     pub recovered: Status,
     pub sink: MemorySink,
 }

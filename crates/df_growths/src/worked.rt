@@ -17,7 +17,7 @@ pub const SCRIPT: &[u8] =
 // A copy of the superblock, a sector of headers, and a sector of the referenced block.
 const HURT: [u64; 3] = [1, 4, 80];
 
-// A small file behind that, with sectors that show other bytes.
+// A small file after that, with sectors that show other bytes.
 fn hurt_file(alloc: Global) -> Result<MemoryDisk, Fail> {
     let mut disk = small_file(alloc)?;
     if ended(alloc, &mut disk, &["run"], BEFORE)? != Status::Done {

@@ -1,4 +1,4 @@
--- Where the sectors of the ring lie: behind the four copies of the superblock, in every layout.
+-- Where the sectors of the ring lie: after the four copies of the superblock, in every layout.
 use Rattle.std.proofs.Common.{◌≡◌, ◌+◌, ◌*◌, ℕ, arith}
 use Rattle.df_layout.specs.declared.layout.Layout.{Layout}
 use Rattle.df_layout.specs.Spans.{sectors_before, span_of}

@@ -6,7 +6,7 @@ use df_base::Failed;
 use df_buffers::{HeaderSector, Raw};
 use df_disk::Disk;
 
-// The first sector of the ring, behind the four copies of the superblock in every layout.
+// The first sector of the ring, after the four copies of the superblock in every layout.
 const FIRST: u64 = 4;
 
 /// The number of a sector of the ring, which is counted from the ring's first one.

@@ -1,4 +1,4 @@
-// The bytes of a header sector: sixteen headers, one behind the other.
+// The bytes of a header sector: sixteen headers, one after the other.
 ghost use Rattle.std.specs.Prelude.{◌≡◌, ◌≤◌, ◌+◌, ◌++◌, [], ◌∷◌, length, take};
 ghost use Rattle.df_headers.specs.Below.{IsSealed, AreSixteen, headers_bytes};
 

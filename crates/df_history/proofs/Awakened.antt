@@ -1,4 +1,4 @@
--- A history stays lived behind the boot update of its newest log, wherever that log grew as it should.
+-- A history stays lived after the boot update of its newest log, wherever that log grew as it should.
 use Rattle.std.proofs.Common.{◌≡◌, inl, inr, ℕ, ◌<◌, ◌≤◌, List, [], ◌∷◌, ◌++◌, refl, sym, ◌∙◌, ap, subst, arith}
 use Rattle.df_theory.specs.CopyPuts.{update_steps}
 use Rattle.df_theory.specs.Units.{Units, is_some, overlay}

@@ -127,7 +127,7 @@ abbrev pub TurnSays : Turn → ℕ → View → Type 0
 TurnSays Asleep b v = boot_of v ≡ b
 TurnSays Awake b v = b < boot_of v
 
--- the images of a log behind the others, and what they lived
+-- the images of a log after the others, and what they lived
 pub record Joined (sh : Shape) (images rest : List Units) (v u : View) (s : Turn) (lives : Lives sh rest u s) (b : ℕ) : Type 0 where
   pub turn : Turn
   pub both : Lives sh (images ++ rest) v turn

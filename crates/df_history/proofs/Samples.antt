@@ -32,7 +32,7 @@ shape = shape_of 2 (λ op text. Some no_parts)
 abbrev pub content : ℕ → Content
 content b = bare 2 1 b b
 
--- and of each boot that is raised behind a prepare with this checksum
+-- and of each boot that is raised after a prepare with this checksum
 abbrev pub pinned : ℕ → ℕ → Content
 pinned sum b = record (content b) { head = 1; pin = 1; pin_checksum = sum }
 
@@ -188,14 +188,14 @@ module _ (b : ℕ) (low : b < 8) (image : Units) (holds : Holds shape image (fir
       let law = open_lived_law shape log logs image (first b) lived may places (holds_found shape image (first b) holds) (λ s. reserved) [] [] (content (b + 1)) (copies_of (content (b + 1))) opening in
       (law.0, law.1, law.3)
 
--- behind it no prepare of the new boot was settled
+-- after it no prepare of the new boot was settled
 pub clear_of : (b : ℕ) (image : Units) → ((s : ℕ) (p : Message) → image (PreparePlace s) ≡ Some (PrepareUnit p) → p.header.boot ≡ b → p.header.op ≤ 0) → IsClear (settled (after_steps (update_steps (copies_of (content b))) (record { start = image; events = [] }))) (first b)
 clear_of b image low = (low_steps b 0 (update_steps (copies_of (content b))) (record { start = image; events = [] }) (low_update b 0 (content b) (copies_of (content b))) (record {
   settled = λ s p at own. elim at [ inl here ↦ low s p here own | inr none ↦ absurd none ];
   shown = low;
 })).settled
 
--- ---- an append behind it
+-- ---- an append after it
 
 abbrev pub append_steps : Message → List Step
 append_steps p = Puts (prepare_put p) ∷ Syncs ∷ Puts (header_put p) ∷ Syncs ∷ []

@@ -22,7 +22,7 @@ use Rattle.df_history.proofs.Born.{settled_content}
 use Rattle.df_history.proofs.Founds.{found_lived_law}
 use Rattle.df_history.proofs.Joins.{one_log, Joined, TurnSays, empty_lives, from_blank, images_back, images_either, images_front, join, on_holds, settled_ends, started_lives}
 
--- ---- behind a barrier
+-- ---- after a barrier
 
 -- a log whose newest event is a sync or a stop
 pub synced_settled : (log : UnitLog) → IsSettled (add Synced log)

@@ -57,7 +57,7 @@ history_pools [] place x at = at
 history_pools (log ∷ logs) place x (inl here) = inl (pool_pools log.start log.events place x here)
 history_pools (log ∷ logs) place x (inr older) = inr (history_pools logs place x older)
 
--- ---- the op is appended anew behind the first damage
+-- ---- the op is appended anew after the first damage
 
 abbrev renewing : UnitLog
 renewing = after_steps (append_steps renewed) third

@@ -1,4 +1,4 @@
--- A log that was begun anew, from its open on: the open raises its boot, and behind that the history stays lived however the log grows.
+-- A log that was begun anew, from its open on: the open raises its boot, and after that the history stays lived however the log grows.
 use Rattle.std.specs.Prelude.{◌≡◌, ◌<◌, ℕ, List, ◌∷◌, ◌++◌}
 use Rattle.df_theory.specs.CopyPuts.{PutsCopies}
 use Rattle.df_theory.specs.Units.{Content, Header, Units}
@@ -13,7 +13,7 @@ use Rattle.df_theory.specs.MendLaws.{MayMend}
 use Rattle.df_theory.specs.Upgrades.{raise_steps}
 use Rattle.df_history.specs.Histories.{IsBegunAnew, IsLived, IsLivedMoment}
 
--- the log was begun anew behind these logs, and its boot was raised since
+-- the log was begun anew after these logs, and its boot was raised since
 pub record IsAwakened (sh : Shape) (log before : UnitLog) (logs : List UnitLog) : Type 0 where
   pub begun : IsBegunAnew sh log before logs
   pub raised : boot_of begun.view < boot_of begun.newest

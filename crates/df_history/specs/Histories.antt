@@ -34,7 +34,7 @@ pub record NoChanceOver (logs : List UnitLog) (image : Units) : Type 0 where
 
 -- ---- where a log begins anew
 
--- nothing is loose: the image as it is now is settled, and nothing is being written. So it is behind a sync, as behind the barrier of an open, and behind a stop
+-- nothing is loose: the image as it is now is settled, and nothing is being written. So it is after a sync, as after the barrier of an open, and after a stop
 pub record IsSettled (log : UnitLog) : Type 0 where
   pub older : List Units
   pub newest : settled log ≡ now log ∷ older
@@ -62,13 +62,13 @@ StaysBare sh b [] = Unit {0}
 StaysBare sh b (j ∷ []) = Unit {0}
 StaysBare sh b (j ∷ i ∷ images) = ((u v : View) → Holds sh i u → Holds sh j v → boot_of u ≡ b → IsSameBare u v) × StaysBare sh b (i ∷ images)
 
--- the images of a log that was begun anew behind these images: each has a view, next to the one before it, and shows units of the history or of its view, or what survived of it; what was settled before counts as in one log
+-- the images of a log that was begun anew after these images: each has a view, next to the one before it, and shows units of the history or of its view, or what survived of it; what was settled before counts as in one log
 abbrev pub GrowsOn : Shape → List Units → List Units → View → Type 0
 GrowsOn sh rest [] v = ⊥
 GrowsOn sh rest (image ∷ []) v = Holds sh image v
 GrowsOn sh rest (image ∷ before ∷ images) v = Holds sh image v × AllInHistory ((before ∷ images) ++ rest) image v × ((u : View) × GoesOn ((before ∷ images) ++ rest) u v × GrowsOn sh rest (before ∷ images) u)
 
--- a log that was begun anew behind these logs: it grew, and its bare view stayed until its boot was raised
+-- a log that was begun anew after these logs: it grew, and its bare view stayed until its boot was raised
 pub record IsBegunAnew (sh : Shape) (log before : UnitLog) (logs : List UnitLog) : Type 0 where
   pub start : MayStart before logs log.start
   pub view : View

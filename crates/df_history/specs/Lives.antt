@@ -16,7 +16,7 @@ pub data Turn : Type 0 where
   Asleep : Turn
   Awake : Turn
 
--- how a view follows another in one log, behind these images
+-- how a view follows another in one log, after these images
 abbrev pub Follows : List Units → View → Turn → View → Turn → Type 0
 Follows images u Awake v Awake = GoesOn images u v
 Follows images u Awake v Asleep = ⊥

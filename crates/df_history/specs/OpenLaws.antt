@@ -1,4 +1,4 @@
--- What an open gives behind damage before any number of opens, and that the history goes on.
+-- What an open gives after damage before any number of opens, and that the history goes on.
 use Rattle.std.specs.Prelude.{◌≡◌, ◌⊎◌, ◌<◌, ℕ, List, [], ◌∷◌, ◌++◌, Some, None}
 use Rattle.df_theory.specs.CopyPuts.{PutsCopies, update_steps}
 use Rattle.df_theory.specs.Units.{AnyUnit, Content, CopyPlace, CopyUnit, Header, Place, Units}

@@ -33,7 +33,7 @@ pub record HistorySampleLaw : Type 0 where
   pub rests_next : RestsOn shape third next
   pub raised : (boot_of next ≡ boot_of found + 1) × (head next ≡ head found)
 
--- and one in which a survivor is passed over: a file is made and opened, and stopped within a group of two, of which the second one alone is left. The file is opened again, and the ops of the group are written anew. Every trace of these is lost, the survivor is shown again, and an open finds what was had behind the last boot update
+-- and one in which a survivor is passed over: a file is made and opened, and stopped within a group of two, of which the second one alone is left. The file is opened again, and the ops of the group are written anew. Every trace of these is lost, the survivor is shown again, and an open finds what was had after the last boot update
 pub record PassedSampleLaw : Type 0 where
   pub shape : Shape
   pub made : UnitLog
@@ -58,7 +58,7 @@ pub record PassedSampleLaw : Type 0 where
 
 -- ---- and one that is damaged and opened three times
 
--- the log that an open begins at this image, behind its mending and its boot update
+-- the log that an open begins at this image, after its mending and its boot update
 abbrev pub opened : (d : Content) → Units → List Units → List (ℕ × Units) → PutsCopies d → UnitLog
 opened d shown headers copies puts = after_steps (mend_steps headers copies ++ update_steps puts) (record { start = shown; events = [] })
 

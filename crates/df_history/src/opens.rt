@@ -1,4 +1,4 @@
-// What an open gives behind damage before any number of opens, and that the history goes on.
+// What an open gives after damage before any number of opens, and that the history goes on.
 
 ghost use Rattle.df_history.specs.Upgraded.{StoppedUpgradeLaw, UpgradedLaw};
 ghost use Rattle.df_history.specs.Awakened.{GrownLivedLaw, RaiseLivedLaw, SafeLivedLaw};

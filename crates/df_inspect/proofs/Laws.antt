@@ -1,2 +1,2 @@
--- What the proofs above cite of this crate's: texts that were written one behind the other are written as one text.
+-- What the proofs above cite of this crate's: texts that were written one after the other are written as one text.
 pub use Rattle.df_inspect.proofs.Written.{prints_more, prints_front, prints_same}

@@ -5,7 +5,7 @@ use Rattle.df_base.specs.Streams.{Appends, AppendsPart}
 use Rattle.df_base.proofs.Laws.{appends_more, appends_part, part_of_more}
 use Rattle.df_inspect.specs.Prints.{Prints}
 
--- behind a text that was taken whole, a call prints another one
+-- after a text that was taken whole, a call prints another one
 pub prints_more : {T E : Type 0} (x y : List ℕ) (old mid new : Option (List ℕ)) (result : Result T E) → Appends old mid x → Prints y mid new result → Prints (x ++ y) old new result
 prints_more x y old mid new (Ok v) one two = record { whole = appends_more old mid new x y one two.whole; part = tt }
 prints_more x y old mid new (Err e) one two = record { whole = tt; part = appends_part old mid new x y one two.part }

@@ -4,7 +4,7 @@ use Rattle.df_format.specs.declared.header.Header.{Header}
 use Rattle.df_script_model.specs.Texts.{block_text, message_text, numbered, spaced}
 use Rattle.df_units.specs.Meaning.{block_of, message_of}
 
--- a message of the format, shown behind this word
+-- a message of the format, shown after this word
 abbrev pub shown_text : List ℕ → Header → List ℕ → List ℕ
 shown_text word header body = message_text word (message_of (record { header = header; body = body }))
 

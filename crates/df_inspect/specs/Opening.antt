@@ -35,7 +35,7 @@ field_name TrailerBits = codes "TrailerBits"
 field_name TrailerEnd = codes "TrailerEnd"
 field_name Pending = codes "Pending"
 
--- each of these classes behind a space
+-- each of these classes after a space
 abbrev pub classes_text : List Class → List ℕ
 classes_text [] = []
 classes_text (class ∷ more) = 32 ∷ (class_text class ++ classes_text more)

@@ -12,7 +12,7 @@ use Rattle.df_inspect.specs.Opening.{layout_text}
 abbrev pub row_text : List ℕ → ℕ → List ℕ
 row_text word n = line_of (numbered word n)
 
--- the texts of a list's items one behind the other, each with its place, counted from this one on
+-- the texts of a list's items one after the other, each with its place, counted from this one on
 abbrev pub each_text : {A : Type 0} → (ℕ → A → List ℕ) → ℕ → List A → List ℕ
 each_text text place [] = []
 each_text text place (x ∷ more) = text place x ++ each_text text (place + 1) more
@@ -51,7 +51,7 @@ inspection_text s root sessions mends =
 
 -- ---- what the scrubber found
 
--- a finding of the ring behind a space
+-- a finding of the ring after a space
 abbrev pub finding_text : Finding → List ℕ
 finding_text f = 32 ∷ spaced (decimal f.address) (class_text f.«class»)
 

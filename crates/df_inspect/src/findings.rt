@@ -33,7 +33,7 @@ fn print_count<W: Sink>(sink: &mut W, count: u128) -> Result<(), Failed>
     write_line(sink, &line)
 }
 
-// Each finding behind a space.
+// Each finding after a space.
 fn print_findings<W: Sink>(sink: &mut W, findings: &[Finding]) -> Result<(), Failed>
     ensures prints { Prints (each_text (λ place f. finding_text f) 0 findings.now) (W.written sink.old) (W.written sink.new) result }
     ensures cause { HasCause (W.faults sink.old) (W.faults sink.new) result }

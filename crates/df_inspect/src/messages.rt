@@ -32,7 +32,7 @@ pub fn print_reply<W: Sink>(sink: &mut W, header: &Header, body: &[u8]) -> Resul
     print_message(sink, "reply", header, body)
 }
 
-// A message behind this word.
+// A message after this word.
 fn print_message<W: Sink>(
     sink: &mut W,
     word: &str,

@@ -46,7 +46,7 @@ pub fn put_class(line: &mut Line, class: Class)
     }
 }
 
-/// Puts classes at the end of the line, each behind a space.
+/// Puts classes at the end of the line, each after a space.
 pub(crate) fn put_classes(line: &mut Line, classes: &[Class])
     requires { length line.old.items + 65 * length classes.now ≤ 640 }
     ensures put { line.new.items ≡ line.old.items ++ classes_text classes.now }

@@ -1,4 +1,4 @@
--- The device calls of a group's puts, one after the other, and of a settling behind them.
+-- The device calls of a group's puts, one after the other, and of a settling after them.
 use Rattle.std.specs.Prelude.{Result}
 use Rattle.std.proofs.Common.{◌≡◌, inl, inr, ℕ, zero, suc, ◌+◌, ◌<◌, ◌≤◌, List, [], ◌∷◌, length, drop, slice_index_or, Option, Some, sym, ◌∙◌, ap, subst, arith}
 use Rattle.std.specs.List.{slice_get}
@@ -40,7 +40,7 @@ last_held slot (x ∷ y ∷ helds) (suc k) held last at = last_held x.unit.heade
 -- ---- the puts
 
 module _ (layout : Layout) (helds : List Holding) (k : ℕ) (held : Holding) (at : slice_get helds k ≡ Some held) where
-  -- those from one on are it and those behind it
+  -- those from one on are it and those after it
   from_here : drop k helds ≡ held ∷ drop (k + 1) helds
   from_here = let one : suc k ≡ k + 1 = omega arith in drop_from k helds held at ∙ ap (λ (n : ℕ). held ∷ drop n helds) one
 
@@ -63,7 +63,7 @@ group_end layout helds k all old mid past leads =
 pub headers_end : (helds : List Holding) (k : ℕ) (table goal : List Header) → length helds ≤ k → with_headers (units_of (drop k helds)) table ≡ goal → table ≡ goal
 headers_end helds k table goal past before = sym (ap (λ (hs : List Holding). with_headers (units_of hs) table) (drop_all k helds past)) ∙ before
 
--- ---- a settling behind them
+-- ---- a settling after them
 
 pub puts_fail : (layout : Layout) (helds : List Holding) (table : List Header) (old new : Option Told) → AddsPart (group_puts layout helds) old new → AddsPart (flush_events layout helds table) old new
 puts_fail layout helds table old new part = part_then (group_puts layout helds) (settle_events layout (with_headers (units_of helds) table) (sectors_of (units_of helds))) old new part

@@ -5,7 +5,7 @@ pub use Rattle.df_journal.proofs.Moments.{append_moments, append_steps, ends_app
 pub use Rattle.df_journal.proofs.Ops.{one_op, op_of_slot}
 pub use Rattle.df_journal.proofs.Moments.{in_header_ring}
 pub use Rattle.df_group.proofs.Laws.{own_within}
--- ---- a sync behind what was told, and one element of a list after the other
+-- ---- a sync after what was told, and one element of a list after the other
 pub use Rattle.df_journal.proofs.RingWrites.{drop_all, drop_from, sync_adds}
 -- ---- a flush
 pub use Rattle.df_journal.proofs.GroupTables.{AreIn, group_kept}

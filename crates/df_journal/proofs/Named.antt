@@ -113,7 +113,7 @@ pub known_last : (n : ℕ) (image : Images) (op pin checksum parent : ℕ) (ks :
 known_last n image op pin checksum parent [] known count none = sym (none (omega arith))
 known_last n image op pin checksum parent (k ∷ ks) known count none = known_ends n image (op + 1) checksum parent (k ∷ ks) known (omega arith)
 
--- the prepare that stands behind some of them
+-- the prepare that stands after some of them
 pub known_here : (n : ℕ) (image : Images) (op checksum : ℕ) (xs : List Message) (y : Message) (ys : List Message) → AreKnown n image op checksum (xs ++ y ∷ ys) → image (PreparePlace ((op + length xs) % n)) ≡ Some (PrepareUnit y)
 known_here n image op checksum [] y ys known = let same : op + 0 ≡ op = omega arith in ap (λ (o : ℕ). image (PreparePlace (o % n))) same ∙ known.0
 known_here n image op checksum (x ∷ xs) y ys known = let same : op + suc (length xs) ≡ op + 1 + length xs = omega arith in ap (λ (o : ℕ). image (PreparePlace (o % n))) same ∙ known_here n image (op + 1) checksum xs y ys known.2

@@ -1,4 +1,4 @@
--- The device calls of a settling, sector by sector, and of a put with a settling behind it.
+-- The device calls of a settling, sector by sector, and of a put with a settling after it.
 use Rattle.std.specs.Prelude.{Result, Ok, Err, IsErr, OnOk, OnErr}
 use Rattle.std.proofs.Common.{◌≡◌, inl, ℕ, zero, suc, ◌+◌, ◌*◌, ◌/◌, ◌<◌, ◌≤◌, List, [], ◌∷◌, ◌++◌, length, drop, slice_index_or, Option, Some, refl, sym, ◌∙◌, ap, subst, arith}
 use Rattle.std.specs.List.{slice_get}
@@ -33,7 +33,7 @@ sync_adds old new (Err e) ok err = inl err
 
 -- ---- sectors
 
--- behind what is told, these events lead to where all of them lead from the start
+-- after what is told, these events lead to where all of them lead from the start
 pub record LeadsAs (all rest : List Event) (old mid : Option Told) : Type 0 where
   pub whole : after_all rest mid ≡ after_all all old
   pub part : (new : Option Told) → AddsPart rest mid new → AddsPart all old new
@@ -47,7 +47,7 @@ leads_more all es fs old mid new before turn = record {
   part = λ later part. before.part later (all_then es fs mid new later turn part);
 }
 
--- the elements from one on are it and those behind it
+-- the elements from one on are it and those after it
 pub drop_from : {X : Type 0} (k : ℕ) (xs : List X) (x : X) → slice_get xs k ≡ Some x → drop k xs ≡ x ∷ drop (suc k) xs
 drop_from k [] x at = absurd (cc)
 drop_from zero (y ∷ xs) x at = ap (λ z. z ∷ xs) (same_Some _ _ at)
@@ -59,7 +59,7 @@ drop_all (suc k) [] le = refl
 drop_all zero (x ∷ xs) le = absurd (omega (arith, le))
 drop_all (suc k) (x ∷ xs) le = drop_all k xs (omega (arith, le))
 
--- the writes from sector k on are its own and those behind it
+-- the writes from sector k on are its own and those after it
 writes_from : (layout : Layout) (table : List Header) (sectors : List ℕ) (k sector : ℕ) → slice_get sectors k ≡ Some sector
     → sector_writes layout table (drop k sectors) ≡ sector_events layout sector table ++ sector_writes layout table (drop (k + 1) sectors)
 writes_from layout table sectors k sector at =
@@ -116,7 +116,7 @@ pub settle_are_steps : (layout : Layout) (table : List Header) (sectors : List �
 settle_are_steps layout table sectors are cluster is =
     steps_join_law (format_of layout cluster) (sector_writes layout table sectors) (Sync ∷ []) (write_steps table sectors) (Syncs ∷ []) (writes_are_steps layout cluster table sectors is are) tt
 
--- ---- an append: a put, and a settling behind it
+-- ---- an append: a put, and a settling after it
 
 pub put_fails : (layout : Layout) (held : Holding) (table : List Header) (old new : Option Told) → AddsPart (put_events layout held) old new → AddsPart (journal_events layout held table) old new
 put_fails layout held table old new part = part_then (put_events layout held) (settle_events layout (with_header held.unit table) (held.unit.header.slot / 16 ∷ [])) old new part

@@ -99,7 +99,7 @@ pub record IsTakenWalk (places n : ℕ) (image : Units.Units) (b : Checkpoint) (
   pub passed : List Units.Message
   pub walk : IsWalk places (Cases.Takes n image b.content) b tail kept at ahead passed
 
--- behind the checkpoint, by what the loop begins with
+-- after the checkpoint, by what the loop begins with
 pub taken_begins : (image : Units.Units) (sh : Shape) (b : Checkpoint) (layout : Layout) (start : Start) (checksum : List ℕ) (sessions : List Session) → BeginsAt sh b layout start checksum sessions → (tail : Tail) (at : Position) (ahead : List Session)
     → tail ≡ end_at start.op checksum → at ≡ behind tail → ahead ≡ sessions → IsTakenWalk layout.clients layout.slots image b tail sessions at ahead
 taken_begins image sh b layout start checksum sessions starts tail at ahead tail_is at_is ahead_is = record {

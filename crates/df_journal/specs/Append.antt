@@ -67,7 +67,7 @@ pub record OthersStay (sh : Shape) (image : Units.Units) (v : View) (count : ℕ
   pub taken : (p : Units.Message) → In p v.tail → Takes (slots sh) image v.checkpoint.content p
   pub empty : (o : ℕ) → head v + count < o → o ≤ v.checkpoint.content.op + slots sh → IsEmpty (decided (slots sh) (boot_of v) (head v) image o)
 
--- at a moment of the append the log is good for the view before it and the one behind it, and in whatever a stop leaves, under no chance, every other slot stays taken or stays empty
+-- at a moment of the append the log is good for the view before it and the one after it, and in whatever a stop leaves, under no chance, every other slot stays taken or stays empty
 pub record Leaves (layout : Layout) (u : Message) (table : List Header) (t : Told) (may : MayAppendOn layout u table t) (log : Log.Log) : Type 0 where
   pub good : IsGoodDisk (format_of layout u.header.cluster) (shape_of layout u.header.cluster may.named may.parse) may.view (appended may.view (message_of u ∷ [])) log
   pub others : (image : Image) → IsLeft log image → NoChanceOf (format_of layout u.header.cluster) log image

@@ -9,7 +9,7 @@ use Rattle.df_units.specs.Meaning.{number_of}
 use Rattle.df_buffers.specs.declared.slots.SlotSeen.{SlotSeen}
 use Rattle.df_journal.specs.declared.table.Start.{Start}
 
--- the superblock whose names are read: it names the prepares behind its checkpoint up to the head of the scan's start, which has this checksum
+-- the superblock whose names are read: it names the prepares after its checkpoint up to the head of the scan's start, which has this checksum
 pub record NamesFrom (sh : Shape) (c : Content) (layout : Layout) (start : Start) (checksum : List ℕ) : Type 0 where
   pub slots_are : slots sh ≡ layout.slots
   pub op_is : c.op ≡ start.op

@@ -1,4 +1,4 @@
--- The tail that a table of slots shows behind a checkpoint, and how far taken prepares go on behind it.
+-- The tail that a table of slots shows after a checkpoint, and how far taken prepares go on after it.
 use Rattle.std.specs.Prelude.{◌≡◌, ◌≢◌, ◌⊎◌, ◌<◌, ◌^◌, ◌≤◌, ◌+◌, ◌%◌, ℕ, List, length, slice_get, Option, Some, None}
 use Rattle.df_layout.specs.declared.layout.Layout.{Layout}
 use Rattle.df_format.specs.declared.header.Header.{Header}
@@ -32,7 +32,7 @@ pub record BeginsAt (sh : Shape) (b : Checkpoint) (layout : Layout) (start : Sta
   pub pin_checksum : b.content.pin ≡ b.content.op → b.content.pin_checksum ≡ b.content.op_checksum
   pub sessions_are : b.parts.sessions ≡ sessions_of sessions
 
--- the tail of the image ends so, and taken prepares go on behind it up to this op
+-- the tail of the image ends so, and taken prepares go on after it up to this op
 pub record IsReached (sh : Shape) (image : Units.Units) (b : Checkpoint) (reach : Reach) (sessions : List Session) : Type 0 where
   pub tail : List Units.Message
   pub more : List Units.Message
@@ -41,13 +41,13 @@ pub record IsReached (sh : Shape) (image : Units.Units) (b : Checkpoint) (reach 
   pub ends : EndsAt b tail reach.tail sessions
   pub op_is : reach.op ≡ b.content.op + length tail + length more
 
--- of the prepares that the superblock names, the one behind this op is the first that doesn't fit
+-- of the prepares that the superblock names, the one after this op is the first that doesn't fit
 pub record StopsAt (sh : Shape) (image : Units.Units) (b : Checkpoint) (op : ℕ) : Type 0 where
   pub front : List Units.Message
   pub unfit : IsUnfit sh image b front
   pub op_is : op ≡ b.content.op + length front
 
--- where the walk ends that finds all named prepares shown: short of the last of these, or behind it
+-- where the walk ends that finds all named prepares shown: short of the last of these, or after it
 pub record FindsReach (sh : Shape) (image : Units.Units) (b : Checkpoint) (reach : Reach) (sessions : List Session) : Type 0 where
   pub stops : reach.op < b.content.pin → StopsAt sh image b reach.op
   pub reached : b.content.pin ≤ reach.op → IsReached sh image b reach sessions

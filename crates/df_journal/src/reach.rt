@@ -39,9 +39,9 @@ fn next(
     }
 }
 
-/// How far taken prepares go on behind the checkpoint that a scan started from, whose prepare has this checksum (zeros where its
+/// How far taken prepares go on after the checkpoint that a scan started from, whose prepare has this checksum (zeros where its
 /// op is 0), where each prepare that the superblock names is shown as it is named (`lacking_known`). A walk that stops short of
-/// the superblock's head has come to a named prepare that doesn't fit, the one behind `op`. The sessions, at first the
+/// the superblock's head has come to a named prepare that doesn't fit, the one after `op`. The sessions, at first the
 /// checkpoint's, become those after the tail.
 pub fn find_reach(
     layout: &Layout,

@@ -110,7 +110,7 @@ fn scan_sector<D: Disk>(
     (room, Ok(()))
 }
 
-// Scans all slots, behind the checkpoint that the table names.
+// Scans all slots, after the checkpoint that the table names.
 fn scan_all<D: Disk>(
     disk: &mut D,
     layout: &Layout,
@@ -141,7 +141,7 @@ fn scan_all<D: Disk>(
     (room, Ok(()))
 }
 
-/// Fills the table with what the two rings of a file show behind a checkpoint: one device call for each header sector and
+/// Fills the table with what the two rings of a file show after a checkpoint: one device call for each header sector and
 /// for each slot. The table and the rooms are ones of the layout; the room of prepares comes back with either result.
 /// After an error the table holds any entries.
 pub fn scan<D: Disk>(

@@ -24,7 +24,7 @@ pub struct Start {
     pub boot: u64,
 }
 
-/// What a scan saw of each slot, behind the checkpoint that it started from. Before the first scan it holds any entries.
+/// What a scan saw of each slot, after the checkpoint that it started from. Before the first scan it holds any entries.
 pub struct SlotTable {
     pub(crate) start: Start,
     pub(crate) slots: Vec<SlotSeen>,
@@ -107,7 +107,7 @@ impl SlotTable {
         self.slots[slot as usize] = seen;
     }
 
-    /// Begins anew behind a checkpoint.
+    /// Begins anew after a checkpoint.
     pub(crate) fn begin(&mut self, start: &Start)
         requires { start.now.op ≤ 2 ^ 62 }
         ensures start { self.new.start ≡ start.now }

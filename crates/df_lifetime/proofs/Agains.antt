@@ -50,7 +50,7 @@ use Rattle.df_lifetime.proofs.Openings.{answers_begun, begins_begun, keeps_begun
 abbrev pub IsSound : DataFile → List Log → Told → Type 0
 IsSound file older b = (file.version ≡ 2) × IsHonest b × IsLivedFile file older b.log
 
--- ---- behind a stop
+-- ---- after a stop
 
 -- nothing is loose, so that another one leaves the same
 stopped_file : (file : DataFile) (older : List Log) (b : Told) (changes : List (ℕ × List ℕ)) (view : View) → IsLivedFile file older b.log → AreLoose b.log.events changes → NoChanceOf (format file) b.log (changed changes (logs.now b.log))
@@ -113,7 +113,7 @@ halted : (file : DataFile) (older : List Log) (b : Told) (changes : List (ℕ ×
 halted file [] b changes view is first loose chance held safe = first_goes_on file (add (Stop changes) b.log) safe (first tt)
 halted file (before ∷ older) b changes view is first loose chance held safe = stopped_goes_on file view b.log before older changes is.safe is.lived loose chance held
 
--- ---- behind a word
+-- ---- after a word
 
 pub may_reopen : (file : DataFile) (older : List Log) (b : Told) (image : Image) → IsSound file older b → IsSpared file b.log older image → MayReopen file b.log older image
 may_reopen file older b image is spared = record { version = is.0; lived = is.2.lived.synced; whole = spared.whole; chance = spared.chance; copies = spared.copies }

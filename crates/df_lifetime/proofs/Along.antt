@@ -1,4 +1,4 @@
--- A file's log that goes along with a disk: behind the same events, at the same moments, and with the same answers by then.
+-- A file's log that goes along with a disk: after the same events, at the same moments, and with the same answers by then.
 use Rattle.std.proofs.Common.{◌≡◌, ℕ, zero, suc, List, [], ◌∷◌, ◌++◌, append_assoc, Option, Some, None, refl, sym, ◌∙◌, ap, subst}
 use Rattle.std.proofs.lemmas.List.{append_cancel_right}
 use Rattle.df_base.specs.Log.{Event, Sync, after_event}
@@ -29,7 +29,7 @@ along_on t u n b c m one two = record {
 one_along : (e : Event) (t b : Told) → b.shown ≡ t.shown → GoesAlong t (did e t) b (did e b)
 one_along e t b same = record { shown = same; events = e ∷ []; disk = refl; file = refl; start = refl; shows = ap (after_event e) same }
 
--- what both tell behind the same events
+-- what both tell after the same events
 pub after_along : (es : List Event) (t b : Told) → b.shown ≡ t.shown → GoesAlong t (told_after es t) b (told_after es b)
 after_along [] t b same = record { shown = same; events = []; disk = refl; file = refl; start = refl; shows = same }
 after_along (e ∷ es) t b same = along_on t (did e t) (told_after es (did e t)) b (did e b) (told_after es (did e b)) (one_along e t b same) (after_along es (did e t) (did e b) (ap (after_event e) same))
@@ -78,7 +78,7 @@ module _ (t p b m : Told) (part : GoesAlong t p b m) where
   had_along k u c from s r old new acts answers None calls had = returned_along k u c from s old acts answers r new calls had
   had_along k u c from s r old new acts answers (Some a) calls had = returned_along k u c from s old acts answers calls.0 calls.1 calls.2 had
 
-  -- what was answered by then as the disk tells, behind a mending, was as the log does
+  -- what was answered by then as the disk tells, after a mending, was as the log does
   pub answered_along : (k : ℕ) (mending : List Event) (c : CallsMade) → b.shown ≡ t.shown → WereAnswered k (over mending [] t) p.log c → WereAnswered k (over mending [] b) m.log c
   answered_along k mending c same had =
       had_along k (told_after mending (did Sync t)) (told_after mending (did Sync b)) (after_along (Sync ∷ mending) t b same) c.from c.to c.old c.new c.acts c.answers c.failed c.calls had

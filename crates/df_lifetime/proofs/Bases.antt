@@ -1,4 +1,4 @@
--- What is told behind a mending and behind calls, by the told log and by any base.
+-- What is told after a mending and after calls, by the told log and by any base.
 use Rattle.std.proofs.Common.{◌≡◌, List, [], Option, Some, ◌∙◌, ap}
 use Rattle.df_base.specs.Log.{Event, Sync}
 use Rattle.df_disk.specs.Adds.{after_all}
@@ -26,6 +26,6 @@ abbrev pub AnsweredOver : DataFile → Told → (mending : List Event) → Calls
 AnsweredOver f t mending c =
     (g : Grade) (v : View) (base : Told) → base.shown ≡ t.shown → MayOpen f v base → StandsFor g (unit_at f.layout f.cluster t.shown) v → KeepsAnswered f g (begun_work f t.shown v) (over mending [] base) c
 
--- what the disk tells is what the told log tells behind both
+-- what the disk tells is what the told log tells after both
 pub told_over : (mending added : List Event) (t : Told) (mended new : Option Told) → mended ≡ after_all mending (Some (did Sync t)) → new ≡ after_all added mended → new ≡ over mending added t
 told_over mending added t mended new one two = two ∙ ap (after_all added) (one ∙ added_is_told mending (did Sync t)) ∙ added_is_told added (told_after mending (did Sync t))

@@ -1,4 +1,4 @@
--- A life begins where a copy was made, or where it was stopped behind the second copy of its superblock.
+-- A life begins where a copy was made, or where it was stopped after the second copy of its superblock.
 use Rattle.std.proofs.Common.{◌≡◌, inl, inr, [], refl, sym, ◌∙◌, subst}
 use Rattle.df_base.specs.Image.{Image}
 use Rattle.df_base.specs.Log.{now}

@@ -1,4 +1,4 @@
--- What a command was answered is in the view behind it, and stays there behind later ones.
+-- What a command was answered is in the view after it, and stays there after later ones.
 use Rattle.std.proofs.Common.{◌≡◌, inl, inr, ℕ, ◌+◌, ◌≤◌, ◌==◌, not, false, List, [], ◌∷◌, ◌++◌, drop, length, length-append, Option, Some, None, refl, arith}
 use Rattle.std.proofs.lemmas.Bool.Decides.{nat_tests}
 use Rattle.df_theory.specs.Next.{MayReply, appended}

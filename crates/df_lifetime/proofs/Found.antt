@@ -31,7 +31,7 @@ use Rattle.df_lifetime.proofs.Lives.{every_life_goes_on}
 use Rattle.df_lifetime.proofs.Next.{stays}
 use Rattle.df_lifetime.proofs.Promises.{promised_on}
 
--- ---- a state that is found makes sense, behind its boot update
+-- ---- a state that is found makes sense, after its boot update
 
 begun_makes_sense : (file : DataFile) (image : Image) (view : View) → file.version ≡ 2 → IsImage image → IsFound (shape file) (unit_at file.layout file.cluster image) view → boot_of view < 2 ^ 62 → IsWork (shape file) (spelling file) (begun_work file image view)
 begun_makes_sense file image view version whole found unspent =
@@ -84,7 +84,7 @@ module _ (file : DataFile) where
         front_inputs (c.answered ++ goes.came.more) goes.came.rest
         (subst AreInputs (ap (λ (l : List Act). c.answered ++ l) goes.came.some ∙ sym (append_assoc c.answered goes.came.more goes.came.rest)) goes.inputs)
 
-    -- what is there behind the acts that came through is in the view that it came to
+    -- what is there after the acts that came through is in the view that it came to
     came_there : (done : List Act) (answers : List Answer) → AreThere (kept (work_after file start (c.answered ++ goes.came.more))) [] done answers → AreThere u [] done answers
     came_there done answers there =
         are_there (kept (work_after file start acts)) u goes.view [] done answers (subst (λ (l : List Act). AreThere (kept (work_after file start l)) [] done answers) (sym goes.came.are) there)

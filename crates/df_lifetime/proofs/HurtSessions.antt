@@ -60,14 +60,14 @@ take_inputs k acts more inputs = subst AreInputs (sym (front_and_rest k acts mor
 -- ---- the next open
 
 module _ (file : DataFile) (g : Grade) (w : Work) (work : IsWork (shape file) (spelling file) w) (version : file.version ≡ 2) where
-  -- what was answered is in the view behind it
+  -- what was answered is in the view after it
   answers_there : (acts : List Act) (answers : List Answer) (more rest : List Act) → answers ≡ answers_of file w acts → AreInputs (acts ++ (more ++ rest)) → AreThere (kept (work_after file w (acts ++ more))) (promised_in w) acts answers
   answers_there acts answers more rest are inputs =
       subst (λ (l : List Answer). AreThere (kept (work_after file w (acts ++ more))) (promised_in w) acts l) (sym are)
       (front_there file acts more w work (front_inputs file (acts ++ more) rest (subst AreInputs (sym (append_assoc acts more rest)) inputs)))
 
   module _ (acts : List Act) (answers : List Answer) (are : answers ≡ answers_of file w acts) (perhaps : List Act) (inputs : AreInputs (acts ++ perhaps)) where
-    -- behind no stop
+    -- after no stop
     next_now : (more rest : List Act) (n : Told) → perhaps ≡ more ++ rest → IsSafeDisk (format file) (shape file) n.log → IsHonest n → NoChanceOf (format file) n.log (now n.log) → HasView file g (work_after file w (acts ++ more)) (now n.log)
         → NextFinds file g w acts answers perhaps n
     next_now more rest n some safe honest chance has =
@@ -83,7 +83,7 @@ module _ (file : DataFile) (g : Grade) (w : Work) (work : IsWork (shape file) (s
           stands = subst (λ (image : Image). StandsFor g (unit_at file.layout file.cluster image) view) shows both.3;
         }
 
-    -- behind one
+    -- after one
     next_stopped : (m : Told) (changes : List (ℕ × List ℕ)) → IsMidway file g (work_after file w acts) perhaps m.log → IsHonest m → AreLoose m.log.events changes → NoChanceOf (format file) m.log (changed changes (now m.log))
         → NextFinds file g w acts answers perhaps (did (Stop changes) m)
     next_stopped m changes mid honest loose chance =

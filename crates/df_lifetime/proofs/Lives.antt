@@ -184,7 +184,7 @@ module _ (file : DataFile) (first : View) (chapters : List Chapter) (b : Told) (
   stops_comes layout new n to (inr (inl all)) = sync_comes n (one_told new (did Sync t) n all to)
   stops_comes layout new n to (inr (inr mends)) = mends_comes layout new n to mends
 
-  -- it was refused behind the barrier, as one of another layout is
+  -- it was refused after the barrier, as one of another layout is
   refused_comes : (layout : Layout) (old new : Outside) (status : Status) (n : Told) → new.told ≡ Some n → RefusesFile layout t old new status → Comes file first chapters None t n b
   refused_comes layout old new status n to refuses = sync_comes n (one_told new.told (did Sync t) n refuses.barrier to)
 
@@ -248,7 +248,7 @@ module _ (file : DataFile) (first : View) (chapters : List Chapter) (b : Told) (
 
   -- up to a moment these did
   module _ (c : CallsMade) (mending : List Event) (unspent : boot_of view < 2 ^ 62) (inputs : AreInputs (c.acts ++ list_of c.failed)) (keeps : KeepsFile file Whole start b c.acts c.answers c.failed (over mending (events_made c) b)) where
-    -- what the disk and the log tell behind the mending, and at the end
+    -- what the disk and the log tell after the mending, and at the end
     abbrev opened : Told
     opened = told_after mending (did Sync b)
 
@@ -350,7 +350,7 @@ module _ (file : DataFile) (first : View) (chapters : List Chapter) (b : Told) (
   -- ---- a word
 
   module _ (layout : Layout) (old new : Outside) (status : Status) (n : Told) (to : new.told ≡ Some n) where
-    -- calls behind an open and what it mended
+    -- calls after an open and what it mended
     calls_come : (replica : Replica) (c : CallsMade) (mending : Mends replica.file (Some (did Sync t)) c.old) → replica.file ≡ file → boot_of view < 2 ^ 62 → new.told ≡ after_all (events_made c) c.old
         → KeepsOver replica.file t c.acts c.answers c.failed mending.events (events_made c) → AnsweredOver replica.file t mending.events c → Comes file first chapters (Some c) t n b
     calls_come replica c mending one unspent adds keeps acknowledged =
@@ -439,7 +439,7 @@ module _ (file : DataFile) (first : View) (chapters : List Chapter) (t : Told) (
   rests : RestsOn (shape file) (units_log (format file) (did (Stop changes) t).log) there.view
   rests = disk_stop_law (format file) (shape file) there.view t.log changes safe loose chance there.held
 
-  -- behind it nothing is loose, so that another one leaves the same
+  -- after it nothing is loose, so that another one leaves the same
   only : (image : Image) → IsLeft (did (Stop changes) t).log image → changed changes (now t.log) ≡ image
   only image left i sector = sym (left.kept sector refl) i
 

@@ -160,7 +160,7 @@ module _ (sh : Shape) (spell : Parts → List ℕ) (w : Work) (given : Given) wh
   counted_one Scrub = check_counts (supplied_verdict given) (to_check m)
   counted_one Recent = refl
 
--- behind calls they are what the answers make of them
+-- after calls they are what the answers make of them
 pub calls_count : (s u : Replica) (old new : Option Told) (acts : List Act) (answers : List Answer) (w : Work) → AreCalls s old acts answers u new → Keeps Firm s w None → numbers_in (memory u) ≡ after_answers answers (numbers_in (memory s))
 calls_count s u old new [] [] w calls k = ap (λ (x : Replica). numbers_in (memory x)) calls.0
 calls_count s u old new [] (x ∷ answers) w calls k = absurd calls

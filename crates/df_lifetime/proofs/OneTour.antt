@@ -109,7 +109,7 @@ module _ (layout : Layout) (runs : Twice layout (OnFile layout (ScrubsFile layou
 
 -- ---- what a mending left
 
--- two images that agree, each behind its mending
+-- two images that agree, each after its mending
 spared_agree : (file : DataFile) (a b before after : Image) → SparesReads file a before → SparesReads file b after → AgreeShown file.layout (shown_of file a) (shown_of file b) → AgreeShown file.layout (shown_of file before) (shown_of file after)
 spared_agree file a b before after one other agree = record {
   units = record {

@@ -1,4 +1,4 @@
--- A file in order: as it was made or taken, as it is opened, and behind a barrier.
+-- A file in order: as it was made or taken, as it is opened, and after a barrier.
 use Rattle.std.proofs.Common.{◌≡◌, ℕ, List, [], Some, None, refl, sym, ◌∙◌, ap, subst}
 use Rattle.df_base.specs.Image.{Image}
 use Rattle.df_base.specs.Log.{IsLeft, IsLog, Log, Sync, add, now}
@@ -82,7 +82,7 @@ module _ (file : DataFile) (first : View) (chapters : List Chapter) where
     pub goes_on : MayBeOpened file first chapters t
     goes_on = record { view = here.view; had = here.had; may = may; stands = stands_shown }
 
-    -- behind the barrier a stop leaves what is shown
+    -- after the barrier a stop leaves what is shown
     only : (image : Image) → IsLeft (add Sync t.log) image → now t.log ≡ image
     only image left i sector = sym (left.kept sector refl) i
 

@@ -1,4 +1,4 @@
--- What is staged behind an answer is what the answers so far say of it.
+-- What is staged after an answer is what the answers so far say of it.
 use Rattle.std.proofs.Common.{◌≡◌, ℕ, ◌+◌, ◌-◌, ◌≤◌, true, false, nat_lt, List, [], ◌∷◌, ◌++◌, length, Option, Some, None, refl, sym, ◌∙◌, ap, arith, length-drop}
 use Rattle.std.proofs.lemmas.Bool.Decides.{nat_tests}
 use Rattle.df_theory.specs.Shape.{Shape}

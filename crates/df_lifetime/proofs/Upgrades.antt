@@ -88,7 +88,7 @@ module _ (t : Told) (s : Replica) (view : View) (old : IsOld s.file view t.shown
       begins = begins_history t s view old opened n.shown there reads found clean_there;
     }
 
-  -- behind a stop
+  -- after a stop
   module _ (clean : IsClean (unit_at s.file.layout s.file.cluster t.shown) view) (bare : IsSameBare (as_version 2 view) (upgraded view (base_fields s))) where
     stays_either : (log : Log) → log.start ≡ t.shown → StaysBare s.file view (base_fields s) log → (image : Image) → IsLeft log image → NoChanceOf (format s.file) log image → IsEither s.file view image
     stays_either log starts stays image left chance = elim (stays.left image left chance) [
@@ -162,25 +162,25 @@ module _ (file : DataFile) (view : View) (t n : Told) (status : Status) (old : I
       (ends_upgraded t s view own (own_rooms there.0 t s (all.opened old.whole)) all.writes.events n (told_is all.writes.events all.writes.told) (all.anew view own.whole own.found own.distinct) all.writes.spares
       (subst (λ (f : DataFile). AreDistinct (unit_at f.layout f.cluster n.shown)) (sym one) distinct))
 
-  -- ---- behind a stop
+  -- ---- after a stop
 
   module _ (clean : IsClean (unit_at file.layout file.cluster t.shown) view) (p m : Told) (until : Extends n.log p.log) (along : GoesAlong (did Sync t) p (begun t) m) where
     abbrev IsKeptBy : Log → Type 0
     IsKeptBy log = (image : Image) → IsLeft log image → NoChanceOf (format file) log image → IsEither file view image
 
-    -- it was no moment behind the barrier
+    -- it was no moment after the barrier
     too_long : n ≡ t → ⊥
     too_long same =
         let events : t.log.events ≡ until.0 ++ (along.events ++ Sync ∷ t.log.events) = ap (λ (x : Told). x.log.events) (sym same) ∙ until.1 ∙ ap (λ (l : List Event). until.0 ++ l) along.disk in
         omega (arith, ap length events, length-append until.0 (along.events ++ Sync ∷ t.log.events), length-append along.events (Sync ∷ t.log.events))
 
-    -- at each moment behind it
+    -- at each moment after it
     by_moments : (es : List Event) → told_after es (did Sync t) ≡ n → EachMoment (begun t).log (told_after es (begun t)).log IsKeptBy → IsKeptBy m.log
     by_moments es is each =
         let all : GoesAlong (did Sync t) n (begun t) (told_after es (begun t)) = subst (λ (x : Told). GoesAlong (did Sync t) x (begun t) (told_after es (begun t))) is (after_along es (did Sync t) (begun t) refl) in
         each m.log (moment_along (did Sync t) p n (begun t) m (told_after es (begun t)) all along until)
 
-    -- nothing was done behind it
+    -- nothing was done after it
     by_barrier : did Sync t ≡ n → IsKeptBy m.log
     by_barrier is =
         by_moments [] is (started (begun t).log IsKeptBy (λ image left chance. subst (IsEither file view) (λ i sector. sym (left.kept sector refl) i) (inl (old, clean))))

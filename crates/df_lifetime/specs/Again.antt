@@ -31,13 +31,13 @@ use Rattle.df_lifetime.specs.Hurt.{KeepsOn, began_with}
 use Rattle.df_lifetime.specs.Life.{AreMade, Chapter, Extent, GoesAlong, Life, OtherWord, ShowsFile, Word}
 use Rattle.df_lifetime.specs.Upgraded.{IsUpgraded}
 
--- What a disk shows behind these logs of a file, whatever was done to its sectors: no unit came about by chance, and at most two superblock copies are hurt, none where the four weren't equal.
+-- What a disk shows after these logs of a file, whatever was done to its sectors: no unit came about by chance, and at most two superblock copies are hurt, none where the four weren't equal.
 pub record IsSpared (file : DataFile) (log : Log) (older : List Log) (image : Image) : Type 0 where
   pub whole : IsImage image
   pub chance : NoChanceOver (units_logs file (add Sync log ∷ older)) (unit_at file.layout file.cluster image)
   pub copies : MayHurtCopies (unit_at file.layout file.cluster (now log)) (unit_at file.layout file.cluster image)
 
--- The life of a file so far: which file it is, its logs behind which each next one was begun, the newest first, and what the newest of all tells.
+-- The life of a file so far: which file it is, its logs after which each next one was begun, the newest first, and what the newest of all tells.
 pub data Again : DataFile → List Log → Told → Type 0 where
   -- a life without damage, on a disk that was empty at first, or held what an upgrade or a copy leaves
   Once : (file : DataFile) (first : View) (b : Told) (chapters : List Chapter) (life : Life file first b chapters) → BeginsHistory (shape file) (unit_at file.layout file.cluster (began_with file first b chapters life)) → Again file [] b
@@ -72,7 +72,7 @@ abbrev pub LifeBeginsAnew : Type 0
 LifeBeginsAnew =
     (file : DataFile) (older : List Log) (b t : Told) (s : Replica) → Again file older b → (spared : IsSpared file b.log older t.shown) → (finds : FindsSince file b.log older t.shown s) → Stands (unit_at file.layout file.cluster t.shown) finds.found → Life file finds.found (begun t) []
 
--- Each session keeps its file from there on, by the log that is begun anew at its open: the next open goes on from there with all that was answered, behind its end or behind a stop at any moment, as long as nothing more is hurt.
+-- Each session keeps its file from there on, by the log that is begun anew at its open: the next open goes on from there with all that was answered, after its end or after a stop at any moment, as long as nothing more is hurt.
 -- At the lower grade nothing more is asked of what it found; at the higher one each block stands that this references, and stays.
 pub record KeepsSince (file : DataFile) (log : Log) (older : List Log) (t : Told) (found : FoundFile file.layout t) (c : CallsMade) : Type 0 where
   pub finds : FindsSince file log older t.shown found.found

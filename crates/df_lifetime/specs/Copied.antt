@@ -23,7 +23,7 @@ use Rattle.df_copy.specs.declared.status.Status.{Status}
 use Rattle.df_lifetime.specs.Again.{Again}
 use Rattle.df_lifetime.specs.Life.{GoesAlong, Life, MayTake}
 
--- a copy, whatever it came to: of a source that told this at first and that behind its open, in which a view was found, on a target that told this before it and that after it
+-- a copy, whatever it came to: of a source that told this at first and that after its open, in which a view was found, on a target that told this before it and that after it
 pub record CopyRun (layout : Layout) (t read o n : Told) : Type 0 where
   pub old : Outside
   pub new : Outside
@@ -60,7 +60,7 @@ MadeIsCopied =
     (layout : Layout) (t read o n : Told) (run : CopyRun layout t read o n) → run.copies.result ≡ Ok tt → IsEmpty (now o.log) → IsHonest n → AreDistinct (unit_at layout (file_of run).cluster n.shown)
     → IsCopied layout (file_of run) read.shown (view_of run) n.shown
 
--- And whatever it came to, a stop at any moment leaves that, or an image in which no two copies of the superblock agree; the second no more once an image is durable in which two do, as it is behind the sync of the second copy.
+-- And whatever it came to, a stop at any moment leaves that, or an image in which no two copies of the superblock agree; the second no more once an image is durable in which two do, as it is after the sync of the second copy.
 abbrev pub StoppedIsCopied : Type 0
 StoppedIsCopied =
     (layout : Layout) (t read o n p m : Told) (run : CopyRun layout t read o n) (image : Image) → IsEmpty o.shown → Extends n.log p.log → GoesAlong o p (begun o) m → IsLeft m.log image

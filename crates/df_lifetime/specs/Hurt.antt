@@ -34,7 +34,7 @@ use Rattle.df_lifetime.specs.Life.{Chapter, Life, MayHave, ShowsFile}
 use Rattle.df_lifetime.specs.There.{promised_in}
 use Rattle.df_lifetime.specs.Life.Life.{Begun, Ended, Made, Opened, Ran, Spared, Stopped, Taken}
 
--- The next open finds the view after all of these acts, which were answered so, and perhaps some of those behind them, from the first of these on: the file may be opened by
+-- The next open finds the view after all of these acts, which were answered so, and perhaps some of those after them, from the first of these on: the file may be opened by
 -- this log, what was answered is there, and at the higher grade so is each block that is referenced.
 pub record NextFinds (file : DataFile) (g : Grade) (w : Work) (acts : List Act) (answers : List Answer) (perhaps : List Act) (t : Told) : Type 0 where
   pub more : List Act
@@ -53,8 +53,8 @@ abbrev pub AreAnswered : ℕ → List Event → Told → Log → CallsMade → T
 AreAnswered zero mending base log c = Unit {0}
 AreAnswered (suc k) mending base log c = WereAnswered (suc k) (over mending [] base) log c
 
--- What a session keeps by a base, behind this mending of its open and from this state of the machine on: what `run` promises of a disk that may be opened. The disk shows at
--- the end what the base tells, and so the next open goes on from there, or behind a stop at any moment, with all that was answered by then.
+-- What a session keeps by a base, after this mending of its open and from this state of the machine on: what `run` promises of a disk that may be opened. The disk shows at
+-- the end what the base tells, and so the next open goes on from there, or after a stop at any moment, with all that was answered by then.
 pub record KeepsOn (file : DataFile) (g : Grade) (w : Work) (base : Told) (mending : List Event) (c : CallsMade) : Type 0 where
   pub keeps : KeepsFile file g w base c.acts c.answers c.failed (over mending (events_made c) base)
   pub acknowledged : KeepsAnswered file g w (over mending [] base) c
@@ -117,7 +117,7 @@ began_with _ _ _ _ (Spared file first b m t p n chapters word life chance until 
 began_with _ _ _ _ (Stopped file first b chapters changes life loose chance) = began_with file first b chapters life
 
 -- A life that began with the empty disk may be hurt: whatever the disk shows at any time of it, no unit of it by chance, is what the promises over hurt disks speak of, with a view
--- that the file may have come to. One that began with a file that was there, as behind an upgrade, began with no empty disk, and nothing is said of it here: those promises look back to what
+-- that the file may have come to. One that began with a file that was there, as after an upgrade, began with no empty disk, and nothing is said of it here: those promises look back to what
 -- the log began with, and the file of version 1 is no state of the log.
 abbrev pub LifeMayBeHurt : Type 0
 LifeMayBeHurt =

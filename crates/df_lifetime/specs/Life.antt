@@ -42,7 +42,7 @@ use Rattle.df_top.specs.declared.status.Status.TheVariants.{Done, Memory}
 
 -- ---- what a session leaves of a file
 
--- a session as far as it is known: the image that it opened, the acts that were surely answered, with their answers, and those behind them of which some may
+-- a session as far as it is known: the image that it opened, the acts that were surely answered, with their answers, and those after them of which some may
 -- have come through
 pub record Chapter : Type 0 where
   pub shown : Image
@@ -57,7 +57,7 @@ pub record CameThrough (c : Chapter) (acts : List Act) : Type 0 where
   pub are : acts ≡ c.answered ++ more
   pub some : c.perhaps ≡ more ++ rest
 
--- the session found view v in its image, and boots were left to raise it; from the state behind the boot update on the machine answered as it did, and came to view u by the acts that came through
+-- the session found view v in its image, and boots were left to raise it; from the state after the boot update on the machine answered as it did, and came to view u by the acts that came through
 pub record GoesBy (file : DataFile) (c : Chapter) (acts : List Act) (v u : View) : Type 0 where
   pub whole : IsImage c.shown
   pub found : IsFound (shape file) (unit_at file.layout file.cluster c.shown) v
@@ -90,7 +90,7 @@ pub data Extent : Type 0 where
   ToAMoment : (answered : ℕ) → Extent
 
 -- A session over this image that made these calls. At its end all that was answered is known to be there; at a moment all that was answered by then is, and any
--- of the calls behind that may be.
+-- of the calls after that may be.
 abbrev pub chapter_of : Extent → Image → CallsMade → Chapter
 chapter_of ToItsEnd shown c = record { shown = shown; answered = c.acts; answers = c.answers; perhaps = list_of c.failed }
 chapter_of (ToAMoment k) shown c = record { shown = shown; answered = take k c.acts; answers = take k c.answers; perhaps = drop k c.acts ++ list_of c.failed }
@@ -231,7 +231,7 @@ pub data Life : DataFile → (first : View) → Told → List Chapter → Type 0
       → HaveAnswers answered p.log (calls_made t n word) → Life file first m (sessions_in (ToAMoment answered) t n word ++ chapters)
   -- or the word `format` was run over it again, or the word `upgrade`, to its end, whatever its status, or up to a moment
   Spared : (file : DataFile) (first : View) (b m t p n : Told) (chapters : List Chapter) → OtherWord t n → Life file first b chapters → NoChanceOf (format file) b.log (now b.log) → Extends n.log p.log → GoesAlong t p b m → IsHonest m → Life file first m chapters
-  -- or the machine stopped, behind the end of a word or at the moment of which one is told, and left any bytes in the sectors that were loose
+  -- or the machine stopped, after the end of a word or at the moment of which one is told, and left any bytes in the sectors that were loose
   Stopped : (file : DataFile) (first : View) (b : Told) (chapters : List Chapter) (changes : List (ℕ × List ℕ)) → Life file first b chapters → AreLoose b.log.events changes → NoChanceOf (format file) b.log (changed changes (now b.log))
       → Life file first (did (Stop changes) b) chapters
 

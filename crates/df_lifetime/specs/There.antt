@@ -37,7 +37,7 @@ promised_from op (r ∷ rs) = record { op = op; client = r.client; request = r.r
 abbrev pub promised_in : Work → List Promised
 promised_in w = promised_from (head w.view + 1) w.staged
 
--- those that are staged behind an answer, where these were before it
+-- those that are staged after an answer, where these were before it
 abbrev pub promised_by : List Promised → Command → Answer → List Promised
 promised_by rs (Stage client request body) (ToStage (Ok op)) = rs ++ record { op = op; client = client; request = request; body = body } ∷ []
 promised_by rs Flush (ToFlush (Ok count)) = []

@@ -1,7 +1,7 @@
 // What is found after damage before any number of opens: laws, each the clause of a function that does nothing.
 ghost use Rattle.df_lifetime.specs.Again.{EveryLifeIsLived, EveryOpenFindsSince, LifeBeginsAnew, OtherWordsLeaveIt, RunsKeepSince, ScriptsKeepSince, UpgradedMayBeDamaged};
 
-/// Whatever sessions, stops and damage a file has had, while two superblock copies were spared before each open, and all four behind
+/// Whatever sessions, stops and damage a file has had, while two superblock copies were spared before each open, and all four after
 /// an update that was stopped: an open that finds a state finds one that the file had since the last open that raised its boot. From
 /// there on each session keeps what it answers, and the next open finds it as long as nothing more is hurt; and where each block stands
 /// that is referenced, a life begins anew.

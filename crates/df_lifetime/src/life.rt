@@ -18,7 +18,7 @@ pub fn sessions_compose()
 {}
 
 /// A life begins, too, where a file of version 1 was upgraded, with the view that this had, but for the boot: where `upgrade` ended Done,
-/// and wherever it was stopped behind its barrier. Or the stop left the file of version 1, from which the word may be run again: so there
+/// and wherever it was stopped after its barrier. Or the stop left the file of version 1, from which the word may be run again: so there
 /// may be any number of stops before a life begins.
 pub fn an_upgrade_begins_a_life()
     ensures begins { UpgradedBegins }

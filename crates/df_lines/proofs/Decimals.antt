@@ -30,7 +30,7 @@ value_of_decimal n fits = (decimal_is_IsNumeral_wide n (below_wide n fits)).1
 pub one_number : (m n : ℕ) → m < 2 ^ 128 → n < 2 ^ 128 → decimal m ≡ decimal n → m ≡ n
 one_number m n m_fits n_fits same = sym (value_of_decimal m m_fits) ∙ ap (λ (l : List ℕ). digits_value_after 10 0 l) same ∙ value_of_decimal n n_fits
 
--- what stands behind the front of a spelling is a digit, and the number is as large as front and digit say
+-- what stands after the front of a spelling is a digit, and the number is as large as front and digit say
 pub next_digit : (front byte n : ℕ) (rest : List ℕ) → front < 2 ^ 128 → n < 2 ^ 128 → decimal front ++ byte ∷ rest ≡ decimal n → (digit_value byte < 10) × (front * 10 + digit_value byte ≤ n)
 next_digit front byte n rest front_fits fits is =
     let numeral = decimal_is_IsNumeral_wide n (below_wide n fits) in
@@ -44,7 +44,7 @@ next_digit front byte n rest front_fits fits is =
 digit_byte : (byte : ℕ) → digit_value byte < 10 → 48 + digit_value byte ≡ byte
 digit_byte byte small = grind arith
 
--- a digit behind the spelling of a number that isn't 0
+-- a digit after the spelling of a number that isn't 0
 pub with_digit_is : (front byte : ℕ) → 0 < front → front * 10 + digit_value byte < 2 ^ 128 → digit_value byte < 10 → decimal front ++ byte ∷ [] ≡ decimal (front * 10 + digit_value byte)
 with_digit_is front byte some fits small =
     let tens : (front * 10 + digit_value byte) / 10 ≡ front = omega arith in

@@ -3,7 +3,7 @@
 pub use Rattle.df_lines.proofs.OneMeaning.{one_said, one_text, one_script, whole_script, no_line, begins_one}
 pub use Rattle.df_lines.proofs.Meanings.{nothing_said}
 pub use Rattle.df_lines.proofs.Decimals.{one_number}
--- And of lines of another grammar: the name that a line begins with, and what the words behind it say.
+-- And of lines of another grammar: the name that a line begins with, and what the words after it say.
 pub use Rattle.df_lines.proofs.Naming.{Begun, cut_name, one_name}
 pub use Rattle.df_lines.proofs.WordsBehind.{same_rest}
 pub use Rattle.df_lines.proofs.OneMeaning.{one_word, two_words}

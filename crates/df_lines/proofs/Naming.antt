@@ -1,4 +1,4 @@
--- The name that a line begins with: the line is its name, or its name with a space and further words behind it.
+-- The name that a line begins with: the line is its name, or its name with a space and further words after it.
 use Rattle.std.proofs.Common.{◌≡◌, ◌⊎◌, inl, inr, ℕ, List, ◌∷◌, ◌++◌, length, take, sym, ap, subst, ◌∙◌, arith, length-append}
 use Rattle.std.proofs.lemmas.List.{take_all}
 use Rattle.df_lines.specs.Words.{HasNoSpace, Cuts}

@@ -21,7 +21,7 @@ one_body word a b (inl x) (inr y) = absurd (dash_is_no_hex b (ap decode_of (sym 
 one_body word a b (inr x) (inl y) = absurd (dash_is_no_hex a (ap decode_of (sym y.0) ∙ x.1))
 one_body word a b (inr x) (inr y) = let same : ◌≡◌ {A = _} (Ok a) (Ok b) = sym x.1 ∙ y.1 in cc
 
--- a number and what stands behind its space
+-- a number and what stands after its space
 number_split : (m n : ℕ) (a b : List ℕ) → m < 2 ^ 128 → n < 2 ^ 128 → decimal m ++ (32 ∷ a) ≡ decimal n ++ (32 ∷ b) → (m ≡ n) × (a ≡ b)
 number_split m n a b m_fits n_fits same =
     let parts = one_split (decimal m) a (decimal n) b (decimal_no_space m m_fits) (decimal_no_space n n_fits) same in
@@ -101,7 +101,7 @@ no_line bound budget left text rest said line same_left same_rest (inl none) =
 no_line bound budget left text rest said line same_left same_rest (inr refused) =
     refused.none said (subst (λ (n : ℕ). IsLine bound n rest said) (sym same_left) (subst (λ (t : List ℕ). IsLine bound budget t said) (sym same_rest) line))
 
--- how much a text leaves behind its lines is one
+-- how much a text leaves after its lines is one
 pub begins_one : (bound budget : ℕ) (text : List ℕ) (says : List Said) (left other : ℕ) (rest more : List ℕ) → Begins bound budget text says left rest → Begins bound budget text says other more → rest ≡ more
 begins_one bound budget text [] left other rest more one two = one.1 ∙ sym two.1
 begins_one bound budget text (said ∷ says) left other rest more one two = begins_one bound (budget - taken text) (after_line text) says left other rest more one.1 two.1

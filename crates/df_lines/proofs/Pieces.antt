@@ -15,7 +15,7 @@ taken_front buffer start end count ordered within =
     let sizes : end - start ≡ count + (end - (start + count)) = omega arith in
     sym (ap (λ (n : ℕ). drop count (take n (drop start buffer))) sizes ∙ drop-take count (end - (start + count)) (drop start buffer) ∙ ap (λ (l : List ℕ). take (end - (start + count)) l) (drop-drop count start buffer))
 
--- a read behind the bytes that are held leaves the text as it was
+-- a read after the bytes that are held leaves the text as it was
 pub read_on : (bytes buffer : List ℕ) (n k count : ℕ) (before after : Option (List ℕ)) → take n buffer ≡ bytes → k ≡ n + count → Gives before after count (drop n buffer) → unread (take k buffer) after ≡ unread bytes before
 read_on bytes buffer n k count None None held sum gives = refl
 read_on bytes buffer n k count None (Some ys) held sum gives = absurd gives

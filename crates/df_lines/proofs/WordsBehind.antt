@@ -1,4 +1,4 @@
--- The words behind a line's name.
+-- The words after a line's name.
 use Rattle.std.proofs.Common.{◌≡◌, ℕ, ◌+◌, ◌^◌, ◌<◌, ◌≤◌, List, [], ◌∷◌, ◌++◌, sym, subst, arith}
 use Rattle.std.specs.Prelude.{decimal, codes}
 use Rattle.df_lines.specs.Grammar.{AreRequest, AreSized, IsBody, Append, Block, Checkpoint, Reply, Says, Stage}

@@ -63,13 +63,13 @@ Fits (Read address) word = address < 2 ^ 64
 Fits Scrub word = ⊤
 Fits Recent word = ⊤
 
--- The words behind the name of a line that asks for a request: its client, its number, and the word of its body.
+-- The words after the name of a line that asks for a request: its client, its number, and the word of its body.
 pub record AreRequest (words : List ℕ) (client request : ℕ) (body : List ℕ) : Type 0 where
   pub word : List ℕ
   pub is : words ≡ spaced (decimal client ∷ decimal request ∷ word ∷ [])
   pub fits : (client < 2 ^ 128) × (request < 2 ^ 64) × IsBody word body
 
--- The words behind the name of a line that has a number up to this one, and a body.
+-- The words after the name of a line that has a number up to this one, and a body.
 pub record AreSized (words : List ℕ) (most n : ℕ) (body : List ℕ) : Type 0 where
   pub word : List ℕ
   pub is : words ≡ spaced (decimal n ∷ word ∷ [])

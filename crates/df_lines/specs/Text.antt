@@ -6,7 +6,7 @@ use Rattle.std.specs.List.{before_first, after_first}
 abbrev pub line_of : List ℕ → List ℕ
 line_of text = before_first (λ b. b == 10) text
 
--- the text behind its first line and the byte 10 that ends it
+-- the text after its first line and the byte 10 that ends it
 abbrev pub after_line : List ℕ → List ℕ
 after_line text = after_first (λ b. b == 10) text
 

@@ -14,7 +14,7 @@ space_in line = position is_space line
 abbrev pub HasNoSpace : List ℕ → Type 0
 HasNoSpace line = position_or_len is_space line ≡ length line
 
--- the bytes before the first space, and those behind it
+-- the bytes before the first space, and those after it
 pub record Cuts (line before after : List ℕ) : Type 0 where
   pub whole : line ≡ before ++ (32 ∷ after)
   pub front : before ≡ before_first is_space line

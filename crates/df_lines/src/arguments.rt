@@ -1,4 +1,4 @@
-// The words behind a line's name: a body, a number and a body, a request.
+// The words after a line's name: a body, a number and a body, a request.
 ghost use Rattle.std.specs.Prelude.{◌≡◌, ◌≤◌, ◌*◌, List, ℕ, length, take, IfSome, IfNone};
 ghost use Rattle.df_lines.specs.Grammar.{AreRequest, AreSized, IsBody};
 

@@ -54,7 +54,7 @@ fn first_digit(byte: u8) -> Option<u128>
     }
 }
 
-/// The number whose spelling is that of `front` with these digits behind it.
+/// The number whose spelling is that of `front` with these digits after it.
 fn number_from(front: u128, digits: &[u8]) -> Option<u128>
     requires { 0 < front }
     ensures found { IfSome result (λ n. decimal front ++ digits.now ≡ decimal n) }
@@ -68,7 +68,7 @@ fn number_from(front: u128, digits: &[u8]) -> Option<u128>
     Some(value)
 }
 
-/// The number whose spelling is that of `front` with this digit behind it.
+/// The number whose spelling is that of `front` with this digit after it.
 fn with_digit(front: u128, byte: u8) -> Option<u128>
     requires { 0 < front }
     ensures some { IfSome result (λ n. 0 < n) }

@@ -8,7 +8,7 @@ use Rattle.df_memdisk.specs.declared.shown.Struck.{Struck}
 abbrev pub first_events : ℕ → List Event → List Event
 first_events n events = reverse (take n (reverse events))
 
--- the events behind the first n
+-- the events after the first n
 abbrev pub events_since : ℕ → List Event → List Event
 events_since n events = reverse (drop n (reverse events))
 

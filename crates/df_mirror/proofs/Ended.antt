@@ -155,7 +155,7 @@ has_file b image f super same = record {
   cluster = b.fields.cluster_is;
 }
 
--- the mending of it began behind the barrier
+-- the mending of it began after the barrier
 pub mirrored_then : (b : Superblock) (t o : Told) (old mid new : Outside) (status : Status) → HasFile t.shown b.file b.content → mid.first ≡ Some (did Sync t) → mid.written ≡ old.written → (status ≡ ends.Memory → (new.first ≡ mid.first) × (new.written ≡ mid.written))
     → ((status ≡ ends.Memory → ⊥) → Mirrored b (did Sync t) o mid new status) → old.first ≡ Some t → DidNothing old new status ⊎ RefusesSuperblock t old new status ⊎ Mirrors t o old new status
 mirrored_then b t o old mid new status has barrier silent memory mirrors told = elim (memory_or status) [

@@ -70,10 +70,10 @@ module _ (file : DataFile) (c : Content) (t o n : Told) (new : Option Told) (old
       let same : n ≡ told_after (events_of file came.mends) t = sym (same_Some _ _ (sym came.after_is ∙ is)) ∙ came.does.told in
       ap (λ (m : Told). units_in file m.shown place) same ∙ stays file c o.shown t came.mends place whole came.does.are misses
 
-  -- behind a walk over units of one kind each other place is as it was
+  -- after a walk over units of one kind each other place is as it was
   pub other_kind : (kind : Kind) (count : ℕ) → Answers file c (AreOfKind kind) t o new old text (Ok count) → (IsPlaceOf kind place → ⊥) → units_in file n.shown place ≡ units_in file t.shown place
   other_kind kind count came other = came_to (AreOfKind kind) _ came (misses_kind file c o.shown t came.mends kind place came.does.are came.are_of other)
 
-  -- and so is it behind one unit
+  -- and so is it after one unit
   pub other_place : (kind : Kind) (at : Place) (count : ℕ) → Answers file c (AreAt kind at) t o new old text (Ok count) → (at ≡ place → ⊥) → units_in file n.shown place ≡ units_in file t.shown place
   other_place kind at count came other = came_to (AreAt kind at) _ came (misses_at kind at place came.mends came.are_of other)

@@ -159,7 +159,7 @@ module _ (b : Superblock) (slots : Scan) (start now : List Session) (i : ℕ) (h
       let it = seen image named tells known count in
       absurd (let both : Some it.0 ≡ None = sym it.1 ∙ none in cc)
 
--- a turn behind the op that was noted last, in the words of the loop
+-- a turn after the op that was noted last, in the words of the loop
 module _ (b : Superblock) (slots : Scan) (start now : List Session) (fields : SuperFields) (same : fields ≡ b.content) (op : ℕ) (low : fields.op ≤ op) (below : op < fields.head) (has : HasNoted b slots start now (op - fields.op)) (slot : ℕ) (is_slot : slot ≡ (op + 1) % b.file.layout.slots) where
   from_op : fields.op ≡ b.content.op
   from_op = ap (λ (f : SuperFields). f.op) same

@@ -153,7 +153,7 @@ answers_then file c Of Then All closed t o m mid new old text later a result cam
     let does : Mends file c t o (told_after (events_of file came.mends) t) old text came.mends = record { are = came.does.are; told = refl; printed = came.does.printed } in
     joined file c Of Then All closed t o came.mends came.are_of old text does a came.last new later result (subst (λ (x : Told). Answers file c Then x o new text later result) same rest)
 
--- what is told behind a walk is whole
+-- what is told after a walk is whole
 pub told_is_whole : (file : DataFile) (c : Content) (Of : List Mend → Type 0) (t o m : Told) (mid : Option Told) (old text : Option (List ℕ)) (a : ℕ) → IsImage t.shown → Answers file c Of t o mid old text (Ok a) → mid ≡ Some m → IsImage m.shown
 told_is_whole file c Of t o m mid old text a whole came is =
     let same : m ≡ told_after (events_of file came.mends) t = sym (same_Some _ _ (sym came.after_is ∙ is)) ∙ came.does.told in

@@ -52,7 +52,7 @@ then_from rank kind [] ls less are from = from_lower rank (rank_of kind) ls less
 then_from rank kind (m ∷ ms) ls less are from =
     (subst (λ (k : Kind). rank ≤ rank_of k) (sym are.0) less, subst (λ (k : Kind). AreFrom (rank_of k) (ms ++ ls)) (sym are.0) (then_from (rank_of kind) kind ms ls (omega arith) are.1 from))
 
--- so many of one kind were mended, a read comes behind them, and then those that follow in the order
+-- so many of one kind were mended, a read comes after them, and then those that follow in the order
 pub walk_then : {b : Superblock} {t o : Told} {old mid new : Outside} {told : Option Told} {a : ℕ} {Before After : Units → Type 0} (low high : ℕ) (kind : Kind) → low ≤ rank_of kind → rank_of kind ≤ high → Tell t o old → Mended b (AreOfKind kind) t o old mid (Ok a) Before → mid.second ≡ old.second
     → told ≡ mid.first → (result : Result ℕ Ending) → ((m : Told) → Tell m o (around told mid.second mid.written) → Before (units_of b m.shown) → Mended b (AreFrom high) m o (around told mid.second mid.written) new result After)
     → Mended b (AreFrom low) t o old new (more a result) After
@@ -188,7 +188,7 @@ all_shown b grid ss image now blocks log = by
     by Reply (ReplyPlace k) sum known = log.replies (ReplyPlace k) sum known
     by kind place sum known = absurd known
 
--- ---- the walks one behind the other
+-- ---- the walks one after the other
 
 -- so many blocks of the trailer were mended, and it was read, and of those that it references so many; and then the log is
 pub all_mended : {b : Superblock} {t o : Told} {old mid late new : Outside} {told : Option Told} {a k : ℕ} (grid : GridState) (ss : List Session) → Tell t o old

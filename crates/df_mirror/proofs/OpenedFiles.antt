@@ -33,7 +33,7 @@ use Rattle.df_mirror.proofs.OpenedPasts.{raised_own}
 use Rattle.df_mirror.proofs.OpenedPlaces.{IsMendedAt, known_prepare, known_reply, mends_left, no_copy, no_header, place_left}
 use Rattle.df_mirror.proofs.OpenedViews.{IsNamedSlot, IsRecordedAnew, ShowsLeft, ShowsNoNewer, ShowsOwn, left_holds}
 
--- behind mends a place shows what it did, or a unit that was mended there
+-- after mends a place shows what it did, or a unit that was mended there
 abbrev IsMendedOr : DataFile → Content → (old new : Image) → Place → Type 0
 IsMendedOr file c old new place = (units_in file new place ≡ units_in file old place) ⊎ IsMendedAt file c place (units_in file old place) (units_in file new place)
 

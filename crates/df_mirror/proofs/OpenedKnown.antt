@@ -87,7 +87,7 @@ module _ (sh : Shape) (was shown : Units) (c : Content) (places : AreOfPlaces sh
 
   -- ---- the named prepares
 
-  -- the first of a list is named by those behind it
+  -- the first of a list is named by those after it
   first_named : (k clients op mark : ℕ) (ss : List Session) (p : Message) (ps : List Message) → Chain clients (op + 1) p.header.checksum mark ss ps → k ≤ length ps → last_checksum p.header.checksum (take k ps) ≡ c.pin_checksum
       → p.header.checksum ≡ named_by c.pin_checksum (take k ps)
   first_named zero clients op mark ss p ps chain size ends = ends

@@ -192,7 +192,7 @@ own_old sh log v rises sync k x pool =
     let a = reply_agrees sh (settled log) v rises k x (pooled_settled log sync (ReplyPlace k) x pool) in
     (a.0, a.1, record { checkpoint = a.2.checkpoint; boot = a.2.boot; alone = a.2.alone })
 
--- what is no newer than each view that the log before has is no newer than the start of the log that was begun behind it
+-- what is no newer than each view that the log before has is no newer than the start of the log that was begun after it
 pub old_start : (sh : Shape) (log before : UnitLog) (logs : List UnitLog) (begun : IsBegunAnew sh log before logs) → IsLived sh (before ∷ logs) → (x : AnyUnit) → ((v : View) → Holds sh (now before) v → OldReply v x) → OldReply begun.view x
 old_start sh log before logs begun lived x each =
     let from = choice_stays_law sh before logs log.start begun.view.checkpoint.content lived begun.start begun.holds.chosen in
@@ -220,7 +220,7 @@ newest_among sh rest [] v grows = absurd grows
 newest_among sh rest (image ∷ []) v holds = (image, inl refl, holds)
 newest_among sh rest (image ∷ before ∷ images) v grows = (image, inl refl, grows.0)
 
--- where its boot was raised since it began, each reply of that boot is of its own pool, behind a sync
+-- where its boot was raised since it began, each reply of that boot is of its own pool, after a sync
 pub raised_own : (sh : Shape) (log before : UnitLog) (logs : List UnitLog) (v : View) → IsAwakened sh log before logs → IsLived sh (add Synced log ∷ before ∷ logs) → Holds sh (now log) v
     → (k : ℕ) (r : Message) → r.header.boot ≡ boot_of v → InHistoryPool (add Synced log ∷ before ∷ logs) (ReplyPlace k) (ReplyUnit r) → InPool (add Synced log) (ReplyPlace k) (ReplyUnit r)
 raised_own sh log before logs v raised lived holds k r own (inl pool) = pool

@@ -100,7 +100,7 @@ one_place layout a b sector beside in_a in_b =
       | inr (inr (inr after)) ↦ absurd (omega (arith, one.1, one.2, two.1, two.2))
     ]
 
--- each zone but the superblock begins behind its four sectors
+-- each zone but the superblock begins after its four sectors
 behind_copies : (layout : Layout) (zone : Zone) → (zone ≡ Superblock → ⊥) → 4 ≤ first_sector layout zone
 unfolding zone_sectors
 behind_copies layout Superblock beside = absurd (beside refl)
@@ -175,7 +175,7 @@ pub record IsMendedAt (file : DataFile) (c : Content) (place : Place) (old new :
   pub first : WasKnown file c place old
   pub last : WasPut file c place new
 
--- behind mends a place shows what it did, or a unit that was mended there
+-- after mends a place shows what it did, or a unit that was mended there
 pub mends_left : (file : DataFile) (c : Content) (second : Image) (t : Told) (ms : List Mend) → AreMends file c second t ms → IsImage t.shown → (place : Place)
     → (units_in file (told_after (events_of file ms) t).shown place ≡ units_in file t.shown place) ⊎ IsMendedAt file c place (units_in file t.shown place) (units_in file (told_after (events_of file ms) t).shown place)
 mends_left file c second t [] are whole place = inl refl

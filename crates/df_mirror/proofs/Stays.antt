@@ -202,7 +202,7 @@ module _ (file : DataFile) (c : Content) (second : Image) (kind : Kind) (place :
       from_before write v.log exit Shows (λ left is_left. shown_there (units_in file v.shown) (units_in file left) kind place sum (left_still file v honest still left is_left place) shown) (told_extends (Sync ∷ events_of file ms) w)
       (from_before Sync w.log exit Shows (λ left is_left. shown_there (units_in file v.shown) (units_in file left) kind place sum (left_within file c second v m honest whole are.0 still left is_left place other) shown) (told_extends (events_of file ms) n) rest)
 
--- ---- behind some mends
+-- ---- after some mends
 
 behind : (file : DataFile) (c : Content) (second : Image) (t : Told) (ms later : List Mend) → AreMends file c second t (ms ++ later) → AreMends file c second (told_after (events_of file ms) t) later
 behind file c second t [] later are = are

@@ -1,4 +1,4 @@
--- A unit whose room is blanked behind it is still that unit, and its sectors hold zeros there.
+-- A unit whose room is blanked after it is still that unit, and its sectors hold zeros there.
 use Rattle.std.proofs.lemmas.List.{length-replicate, length-take}
 use Rattle.std.proofs.lemmas.Option.{same_Some}
 use Rattle.std.proofs.Common.{◌≡◌, ◌≢◌, ℕ, zero, suc, ◌+◌, ◌-◌, ◌≤◌, List, [], ◌∷◌, ◌++◌, length, take, drop, replicate, Some, refl, sym, ◌∙◌, ap, subst, arith, length-append}
@@ -83,7 +83,7 @@ module _ (zone : Zone) (kind : Kind) (held : Holding) (stands : StandsIn kind zo
   front : take u.header.size held.bytes ≡ unit_of u
   front = ap (λ (n : ℕ). take n held.bytes) (sym long) ∙ ap (λ (l : List ℕ). take (length (unit_of u)) l) begun.spelled ∙ cut (unit_of u) begun.rest
 
-  -- blanked behind it, the room still holds it
+  -- blanked after it, the room still holds it
   pub still_there : (layout : Layout) (cluster : ℕ) (place : Place) (after : List ℕ) → IsUnit layout cluster place u → after ≡ take u.header.size held.bytes ++ replicate (length held.bytes - u.header.size) 0 → unit_in layout cluster place after ≡ Some u
   still_there layout cluster place after is blank = begun_is_shown layout cluster place after u (record { is = is; rest = _; spelled = blank ∙ ap (λ (l : List ℕ). l ++ replicate (length held.bytes - u.header.size) 0) front })
 

@@ -36,7 +36,7 @@ module _ (b : Superblock) (Of : List Mend → Type 0) (none : Of []) (t o : Told
   pub none_read : Mended b Of t o old new (Err First) Shows
   none_read = record { answers = none_failed b.file (content_of b) Of none t o new.first old.written new.written (same ∙ tell.first) silent; shown = λ u is. tt }
 
--- ---- one behind the other
+-- ---- one after the other
 
 on_more : (a : ℕ) (result : Result ℕ Ending) (P : Type 0) → OnOk result P → OnOk (more a result) P
 on_more a (Ok n) P is = is
@@ -59,7 +59,7 @@ then_mended {b = b} {Of = Of} {Then = Then} {All = All} {t = t} {o = o} {old = o
       shown = λ u is. on_more a result (After (units_of b u.shown)) (rest.shown u is);
     }
 
--- a read comes behind it
+-- a read comes after it
 pub read_behind : {b : Superblock} {Of : List Mend → Type 0} {t o : Told} {old mid new : Outside} {result : Result ℕ Ending} {Shows : Units → Type 0} → Mended b Of t o old mid result Shows → new.first ≡ mid.first → new.written ≡ mid.written → Mended b Of t o old new result Shows
 read_behind {b = b} {Of = Of} {t = t} {o = o} {old = old} {mid = mid} {new = new} {result = result} has same silent = record {
   answers = subst (λ (x : Option Told). Answers b.file (content_of b) Of t o x old.written new.written result) (sym same)

@@ -31,7 +31,7 @@ pub record IsReferenced (sh : Shape) (image : Units) (c : Content) (a sum : ℕ)
   pub says : ShowsTrailer sh image c
   pub reference : says.parts.references a ≡ Some sum
 
--- the slot of a prepare above the checkpoint that the superblock names, or that the one behind it names: all later ones up to the superblock's head are shown as they are named
+-- the slot of a prepare above the checkpoint that the superblock names, or that the one after it names: all later ones up to the superblock's head are shown as they are named
 pub record IsNamed (sh : Shape) (image : Units) (c : Content) (s sum : ℕ) : Type 0 where
   pub op : ℕ
   pub above : c.op < op

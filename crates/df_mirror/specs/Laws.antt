@@ -42,8 +42,8 @@ KeepsShown file c image other =
 abbrev pub LeavesShown : DataFile → Content → Image → Log → Type 0
 LeavesShown file c image log = (left : Image) → IsLeft log left → KeepsShown file c image left
 
--- At every moment each known unit that was shown is still shown, in what the disk shows and in whatever a stop leaves: those that are known and shown behind some of the mends are shown through all that come later. The log is any over which the disk is
--- honest and of which nothing is loose, as the one that is begun anew behind the barrier.
+-- At every moment each known unit that was shown is still shown, in what the disk shows and in whatever a stop leaves: those that are known and shown after some of the mends are shown through all that come later. The log is any over which the disk is
+-- honest and of which nothing is loose, as the one that is begun anew after the barrier.
 abbrev pub KnownStays : Type 0
 KnownStays =
     (file : DataFile) (c : Content) (second : Image) (t u : Told) (ms later : List Mend) → IsHonest t → IsStill t.log → IsImage t.shown → AreMends file c second t (ms ++ later) → u ≡ told_after (events_of file ms) t
@@ -83,7 +83,7 @@ MirroredIsOpened =
     → IsImage t.shown → IsChosen (units_in file t.shown) c → AreMends file c second (did Sync t) ms → n ≡ told_after (events_of file ms) (did Sync t) → AllShown (shape file) (units_in file n.shown) c
     → IsFound (shape file) (units_in file n.shown) view × IsNotRefused file n.shown
 
--- So it is behind each run of the program that ends as Done or Found, of the file that the first file's superblock names.
+-- So it is after each run of the program that ends as Done or Found, of the file that the first file's superblock names.
 abbrev pub MendedIsOpened : Type 0
 MendedIsOpened =
     (view : View) (t o n : Told) (logs : List Log) (old new : Outside) (status : Status) (is : Mirrors t o old new status) → Tell t o old → (status ≡ Done) ⊎ (status ≡ Found) → new.first ≡ Some n

@@ -38,11 +38,11 @@ pub record Mend : Type 0 where
   pub unit : AnyUnit
   pub bytes : List ℕ
 
--- behind so many bytes there are zeros
+-- after so many bytes there are zeros
 abbrev pub EndsInZeros : ℕ → List ℕ → Type 0
 EndsInZeros size bytes = drop size bytes ≡ replicate (length bytes - size) 0
 
--- it is known and not shown, no known unit that is shown stands at its place, the second file shows it there, its sectors bring it and touch no other place, and hold zeros behind its header and its body
+-- it is known and not shown, no known unit that is shown stands at its place, the second file shows it there, its sectors bring it and touch no other place, and hold zeros after its header and its body
 pub record IsMend (file : DataFile) (c : Content) (shown second : Image) (m : Mend) : Type 0 where
   pub known : IsKnown (shape file) (units_in file shown) c m.kind m.place (checksum_of m.unit)
   pub lacks : IsShownAs (units_in file shown) m.kind m.place (checksum_of m.unit) → ⊥

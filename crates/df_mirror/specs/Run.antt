@@ -24,12 +24,12 @@ pub record IsUndone (old new : Outside) : Type 0 where
   pub written : new.written ≡ old.written
   pub told : (new.first ≡ old.first) ⊎ (new.first ≡ after Sync old.first)
 
--- memory was wanting, or the first disk failed before or behind the barrier
+-- memory was wanting, or the first disk failed before or after the barrier
 pub record DidNothing (old new : Outside) (status : Status) : Type 0 where
   pub undone : IsUndone old new
   pub why : (status ≡ ends.Memory) ⊎ (status ≡ ends.DiskFault)
 
--- the superblock that the first file shows can't be used: its refusal is printed, behind the barrier
+-- the superblock that the first file shows can't be used: its refusal is printed, after the barrier
 pub record RefusesSuperblock (t : Told) (old new : Outside) (status : Status) : Type 0 where
   pub error : OpenError
   pub is : Refuses t.shown error
@@ -55,7 +55,7 @@ pub record Mirrored (b : Superblock) (t o : Told) (old new : Outside) (status : 
   pub shown : (count : ℕ) (n : Told) → result ≡ Ok count → new.first ≡ Some n → AllShown (shape b.file) (units_of b n.shown) (content_of b)
   pub tells : Tells result text new.written status
 
--- the superblock that the first file shows says what is known, and it is mended behind the barrier
+-- the superblock that the first file shows says what is known, and it is mended after the barrier
 pub record Mirrors (t o : Told) (old new : Outside) (status : Status) : Type 0 where
   pub base : Superblock
   pub has : HasFile t.shown base.file base.content

@@ -60,7 +60,7 @@ WritesUnit layout place held told new old text (Err e) = ⊥
 abbrev pub PutsUnit : Layout → FilePlace → Holding → Type 0
 PutsUnit layout place held = (at : Place) (x : AnyUnit) → place_of at ≡ place → unit_of at held.unit ≡ Some x → AreSteps (format_of layout held.unit.header.cluster) (unit_events layout place held) (unit_steps at x)
 
--- what is written of it holds zeros behind the unit
+-- what is written of it holds zeros after the unit
 abbrev pub IsFilled : Holding → Type 0
 IsFilled held = EndsInZeros (256 + length held.unit.body) (take (sectors_end held.unit.header.size) held.bytes)
 

@@ -44,7 +44,7 @@ fn broken(address: u64) -> Ending
     }
 }
 
-// The walk behind a block that was proved: where it is the link with this index, it goes on to the block that it names.
+// The walk after a block that was proved: where it is the link with this index, it goes on to the block that it names.
 fn go_on(
     base: &Superblock,
     at: Link,

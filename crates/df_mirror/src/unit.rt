@@ -72,7 +72,7 @@ fn blank_from(bytes: &mut [u8], from: usize)
     }
 }
 
-// The same unit, with zeros behind it: what the second file shows there no checksum covers.
+// The same unit, with zeros after it: what the second file shows there no checksum covers.
 fn fill_behind<K: UnitKind>(unit: Sound<K>, identity: &Identity) -> Sound<K>
     requires layout { unit.layout ≡ identity.now.layout }
     requires zone { identity.now.place.zone ≡ K.ZONE }

@@ -132,7 +132,7 @@ module _ (m : Memory) (client request : ℕ) (body : List ℕ) where
   abbrev number_test : Bool × AppendError
   number_test = (not (request == next_request session), append.RequestOrder (next_request session))
 
-  -- the tests behind these
+  -- the tests after these
   abbrev last : List (Bool × AppendError)
   last = (m.head - m.replies == 8, append.PipelineFull (m.head - m.replies)) ∷ (nat_lt (m.content.op + m.layout.slots) (m.head + 1), append.WalFull (m.head + 1) m.content.op) ∷ ((m.head == 2 ^ 62) || nat_lt (2 ^ 62) request, append.OpsSpent) ∷ (is_staged m, append.Staged (length m.staged)) ∷ []
 

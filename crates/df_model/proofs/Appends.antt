@@ -130,7 +130,7 @@ module _ (sh : Shape) (spell : Parts → List ℕ) (w : Work) (sum client reques
       (λ q at low. elim (in_either q v.tail (p ∷ []) at) [ inl before ↦ old.ends q before low | inr new ↦ absurd (omega (arith, ap (λ (x : Message). x.header.op) (in_single q p new), old.op_to)) ])
       (omega (arith, old.op_to, head_is))
 
-  -- nothing is staged behind it
+  -- nothing is staged after it
   staged : client < 2 ^ 128 → (rs : List Request) → rs ≡ [] → AreStaged sh (appended v (p ∷ [])) (prepares_in (memory_of sh spell (with_prepare w p)) (head (appended v (p ∷ [])) + 1) (head (appended v (p ∷ [])) + length rs) (head (appended v (p ∷ [])) + 1) (memory_of sh spell (with_prepare w p)).head_checksum rs [])
   staged fits rs none =
       let top = head (appended v (p ∷ [])) in

@@ -1,4 +1,4 @@
--- An open, behind its barrier: the mending, and the boot update behind that, in one log.
+-- An open, after its barrier: the mending, and the boot update after that, in one log.
 use Rattle.std.proofs.Common.{◌≡◌, inl, inr, ℕ, ◌<◌, ◌^◌, List, ◌++◌, sym, ◌∙◌, subst}
 use Rattle.df_theory.specs.Units.{Content, Header, Parts, Units}
 use Rattle.df_theory.specs.Shape.{Shape}

@@ -1,4 +1,4 @@
--- A log that is begun anew behind an open is kept by the state behind its boot update.
+-- A log that is begun anew after an open is kept by the state after its boot update.
 use Rattle.std.proofs.Common.{◌≡◌, inl, inr, ℕ, List, false, true, refl, ap, subst, arith}
 use Rattle.df_theory.specs.Units.{Content, Header, Parts, Units}
 use Rattle.df_theory.specs.Shape.{Shape}
@@ -24,7 +24,7 @@ use Rattle.df_model.proofs.Boots.{raised_law, stands_last}
 use Rattle.df_model.proofs.NoBlocks.{mend_no_blocks, no_blocks_both, spare_all, update_no_blocks}
 use Rattle.df_model.proofs.Runs.{found_law}
 
--- ---- what is begun behind it
+-- ---- what is begun after it
 
 module _ (sh : Shape) (spell : Parts → List ℕ) (image : Units) (v : View) (table : ℕ → Header) (headers : List Units) (copies : List (ℕ × Units)) (sum : ℕ) (puts : PutsCopies (boot_content (memory_of sh spell (opened sh image v)) sum))
     (codec : IsCodec sh spell) (two : IsVersionTwo sh v) (may : MayRaise sh v.checkpoint.content.version image v table headers copies (boot_content (memory_of sh spell (opened sh image v)) sum)) (beyond : IsCleanBeyond image v) where

@@ -39,7 +39,7 @@ behind_case : {E : Type 0} (b : Bool) (e : E) (ts us : List (Bool × E)) → (if
 behind_case true e ts us none more = absurd (cc)
 behind_case false e ts us none more = more none
 
--- where none of the first does, those behind them decide
+-- where none of the first does, those after them decide
 pub behind_decides : {E : Type 0} (ts us : List (Bool × E)) → first_refusal ts ≡ None → first_refusal (ts ++ us) ≡ first_refusal us
 behind_decides [] us none = refl
 behind_decides (t ∷ ts) us none = behind_case t.0 t.1 ts us none (λ more. behind_decides ts us more)

@@ -1,4 +1,4 @@
--- The boot update of an open: what may be raised, the state behind it, and what it does to the device.
+-- The boot update of an open: what may be raised, the state after it, and what it does to the device.
 use Rattle.std.specs.Prelude.{◌≡◌, ◌<◌, ◌≤◌, ◌^◌, ℕ, List}
 use Rattle.df_base.specs.Log.{Event, IsLog, Log}
 use Rattle.df_theory.specs.Units.{Content, Header, Parts, Units}
@@ -31,7 +31,7 @@ BootMayLaw =
     (sh : Shape) (spell : Parts → List ℕ) (image : Units) (v : View) (sum : ℕ) → IsCodec sh spell → clients sh ≤ named_places → AreOfPlaces sh image → IsFound sh image v → boot_of v < 2 ^ 62
     → MayBoot (as_version 2 v) (boot_content (memory_of sh spell (opened sh image (as_version 2 v))) sum)
 
--- the state behind a boot update makes sense. Of what is in memory the superblock alone is another one, and the bare view is the one of before
+-- the state after a boot update makes sense. Of what is in memory the superblock alone is another one, and the bare view is the one of before
 pub record Raises (sh : Shape) (spell : Parts → List ℕ) (w : Work) (d : Content) : Type 0 where
   pub may : MayBoot (kept w) d
   pub sense : IsWork sh spell (raised w d)
@@ -49,14 +49,14 @@ pub record DoesBoot (d : Content) (steps : List Step) : Type 0 where
   pub puts : PutsCopies d
   pub are : steps ≡ update_steps puts
 
--- a file behind its mending, of which nothing is loose: it is as a state has it, but for what survived above its head
+-- a file after its mending, of which nothing is loose: it is as a state has it, but for what survived above its head
 pub record IsMendedFor (sh : Shape) (spell : Parts → List ℕ) (log : UnitLog) (w : Work) : Type 0 where
   pub sense : IsWork sh spell w
   pub mended : IsMended sh log (kept w)
   pub dry : IsDry log
   pub written : ShowsWritten (now log) w
 
--- in one log: it leads from there to a file that is kept by the state behind it
+-- in one log: it leads from there to a file that is kept by the state after it
 abbrev pub BootCommandLaw : Type 0
 BootCommandLaw =
     (sh : Shape) (spell : Parts → List ℕ) (log : UnitLog) (w : Work) (sum : ℕ) (steps : List Step) → IsMendedFor sh spell log w → boot_of (kept w) < 2 ^ 62 → DoesBoot (boot_content (memory_of sh spell w) sum) steps
@@ -64,19 +64,19 @@ BootCommandLaw =
 
 -- ---- an open
 
--- an open mends, with these writes, and raises the boot behind that
+-- an open mends, with these writes, and raises the boot after that
 pub record DoesOpen (d : Content) (headers : List Units) (copies : List (ℕ × Units)) (steps : List Step) : Type 0 where
   pub puts : PutsCopies d
   pub are : steps ≡ raise_steps headers copies puts
 
--- a file behind the barrier of an open, of which nothing is loose: it may be mended, with a state
+-- a file after the barrier of an open, of which nothing is loose: it may be mended, with a state
 pub record MayOpenFor (sh : Shape) (spell : Parts → List ℕ) (log : UnitLog) (w : Work) (table : ℕ → Header) (headers : List Units) (copies : List (ℕ × Units)) : Type 0 where
   pub sense : IsWork sh spell w
   pub may : MayMend sh log (kept w) table headers copies
   pub dry : IsDry log
   pub written : ShowsWritten (now log) w
 
--- in one log: it leads from there to a file that is kept by the state behind the boot update, whatever survived of a group
+-- in one log: it leads from there to a file that is kept by the state after the boot update, whatever survived of a group
 abbrev pub OpenCommandLaw : Type 0
 OpenCommandLaw =
     (sh : Shape) (spell : Parts → List ℕ) (log : UnitLog) (w : Work) (table : ℕ → Header) (headers : List Units) (copies : List (ℕ × Units)) (sum : ℕ) (steps : List Step)
@@ -95,7 +95,7 @@ DiskOpenLaw =
     → IsFormat f → IsLog log → MayOpenFor sh spell (units_log f log) w table headers copies → boot_of (kept w) < 2 ^ 62 → DoesOpenOnDisk f (boot_content (memory_of sh spell w) sum) headers copies events
     → LeadsOnDisk f sh spell log w (raised w (boot_content (memory_of sh spell w) sum)) events × (IsBacked (units_log f log) w → BacksOnDisk f sh log w (raised w (boot_content (memory_of sh spell w) sum)) events)
 
--- whatever the copies of an image showed in which a view is found: behind a mending and the boot update, a log that is begun anew there is kept by the state behind it
+-- whatever the copies of an image showed in which a view is found: after a mending and the boot update, a log that is begun anew there is kept by the state after it
 abbrev pub RaisedKeptLaw : Type 0
 RaisedKeptLaw =
     (sh : Shape) (spell : Parts → List ℕ) (image : Units) (v : View) (table : ℕ → Header) (headers : List Units) (copies : List (ℕ × Units)) (sum : ℕ) (puts : PutsCopies (boot_content (memory_of sh spell (opened sh image v)) sum))

@@ -81,7 +81,7 @@ AppendExactLaw =
     (sh : Shape) (spell : Parts → List ℕ) (w : Work) (sum client request : ℕ) (body : List ℕ) → IsWork sh spell w → w.staged ≡ [] → 0 < client → length body ≤ message_room sh.layout → request ≤ 2 ^ 62
     → MayAppend sh (kept w) (prepare_of (memory_of sh spell w) sum client request body ∷ []) → first_refusal (append_refusals (memory_of sh spell w) client request body) ≡ None
 
--- a request is staged where it could be appended behind those that are staged
+-- a request is staged where it could be appended after those that are staged
 abbrev pub StageExactLaw : Type 0
 StageExactLaw =
     (sh : Shape) (spell : Parts → List ℕ) (w : Work) (client request : ℕ) (body : List ℕ) → IsWork sh spell w → 0 < client → length body ≤ message_room sh.layout → request ≤ 2 ^ 62

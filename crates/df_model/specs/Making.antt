@@ -12,7 +12,7 @@ first_of (x ∷ xs) = x
 
 -- ---- prepares
 
--- a request as the prepare with this op and this checksum, behind the prepare with the checksum `parent`, of the group of the ops from `first` to `last`
+-- a request as the prepare with this op and this checksum, after the prepare with the checksum `parent`, of the group of the ops from `first` to `last`
 abbrev pub prepare_in : Memory → (first last op parent sum : ℕ) → Request → Message
 prepare_in m first last op parent sum r = record {
   header = record {

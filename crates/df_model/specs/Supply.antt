@@ -186,7 +186,7 @@ shown_after codec shown m command = record { units = overlay (puts_of m (checksu
 abbrev pub boot_sum : Codec → Memory → ℕ
 boot_sum codec m = codec.content (boot_content m 0)
 
--- the state that calls begin with, behind an open that finds this one: its boot is raised, by a superblock that records the state as it is
+-- the state that calls begin with, after an open that finds this one: its boot is raised, by a superblock that records the state as it is
 abbrev pub begun_from : Shape → Codec → Work → Work
 begun_from sh codec w = raised w (boot_content (memory_of sh codec.spell w) (boot_sum codec (memory_of sh codec.spell w)))
 

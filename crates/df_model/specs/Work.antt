@@ -115,6 +115,6 @@ opened sh image v = record {
   findings = [];
 }
 
--- the state behind the boot update of that open, which writes this superblock
+-- the state after the boot update of that open, which writes this superblock
 abbrev pub raised : Work → Content → Work
 raised w d = record w { view = booted w.view d }

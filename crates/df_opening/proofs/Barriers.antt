@@ -1,4 +1,4 @@
--- Behind the barrier of an open the log rests on the view that is found.
+-- After the barrier of an open the log rests on the view that is found.
 use Rattle.std.proofs.Common.{◌≡◌, inl, inr, List, ◌∷◌, Some, refl, sym, ◌∙◌, ap, subst}
 use Rattle.df_theory.specs.Units
 use Rattle.df_theory.specs.Units.{AnyUnit, Place}
@@ -22,7 +22,7 @@ pools_before start es place x pooled (inl (inl (inr settled))) = in_pools start 
 pools_before start es place x pooled (inl (inr none)) = absurd none
 pools_before start es place x pooled (inr before) = before
 
--- and behind it no block is being written
+-- and after it no block is being written
 stands_on : (g : Grade) (log : UnitLog) (image : Units.Units) (v : View) → image ≡ now log → StandsFor g image v → StandingFor g (add Synced log) v
 stands_on Firm log image v same stands = tt
 stands_on Whole log image v same stands = record { shown = subst (λ (u : Units.Units). Stands u v) same stands; firm = λ a c is. refl }

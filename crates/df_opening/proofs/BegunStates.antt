@@ -1,4 +1,4 @@
--- The state behind the boot update of what an open finds stands for what the machine begins calls with, whatever was done to the image.
+-- The state after the boot update of what an open finds stands for what the machine begins calls with, whatever was done to the image.
 use Rattle.std.proofs.Common.{◌≡◌, ◌∙◌, ◌<◌, ◌^◌, None, ap, subst, sym}
 use Rattle.df_base.specs.Image.{IsImage}
 use Rattle.df_disk.specs.Told.{Told}

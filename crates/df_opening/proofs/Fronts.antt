@@ -21,7 +21,7 @@ pub record FrontSteps (f : Format) (part : List Event) (whole : List Step) : Typ
 pub no_front : (f : Format) (whole : List Step) → FrontSteps f [] whole
 no_front f whole = record { steps = []; are = tt; aside = λ place o none. refl }
 
--- where steps put nothing, neither does the first of them, nor do those behind it
+-- where steps put nothing, neither does the first of them, nor do those after it
 pub put_nothing : (put : Units) (ss : List Step) (place : Place) → unit_after ((Puts put) ∷ ss) place None ≡ None → (put place ≡ None) × (unit_after ss place None ≡ None)
 put_nothing put ss place none = by (put place) refl none
   where

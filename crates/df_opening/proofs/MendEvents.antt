@@ -41,7 +41,7 @@ turn_adds layout table mends k old mid new before turn =
     turn ∙ ap (after_all (wanted_writes layout table mends k)) before
     ∙ sym (after_append (sector_writes layout table (sectors_to k mends)) (wanted_writes layout table mends k) old) ∙ ap (λ (es : List Event). after_all es old) (sym (writes_more layout table mends k))
 
--- those behind it
+-- those after it
 rest_from : (p : ℕ → Bool) (k m : ℕ) → (rest : List ℕ) × (filter p (range_with_len 0 (k + m)) ≡ filter p (range_with_len 0 k) ++ rest)
 rest_from p k zero = ([], ap (λ (n : ℕ). filter p (range_with_len 0 n)) (let same : k + 0 ≡ k = omega arith in same) ∙ sym (append-nil (filter p (range_with_len 0 k))))
 rest_from p k (suc m) =
@@ -63,7 +63,7 @@ turn_fails layout table mends k n old mid new inside before part =
     (part_then (sector_writes layout table (sectors_to k mends) ++ wanted_writes layout table mends k) (sector_writes layout table rest.0) old new
     (all_then (sector_writes layout table (sectors_to k mends)) (wanted_writes layout table mends k) old mid new before part))
 
--- ---- the sync behind them
+-- ---- the sync after them
 
 pub headers_some : (layout : Layout) (table : List Header) (ks : List ℕ) → true ≡ some_of ks → header_events layout table ks ≡ sector_writes layout table ks ++ Sync ∷ []
 headers_some layout table [] some = absurd (cc)

@@ -1,4 +1,4 @@
--- A mending and a boot update put headers and copies of the superblock, and so leave each place that a call reads as it was; and behind them the four copies show the superblock that was written.
+-- A mending and a boot update put headers and copies of the superblock, and so leave each place that a call reads as it was; and after them the four copies show the superblock that was written.
 use Rattle.std.proofs.Common.{◌≡◌, ℕ, zero, suc, ◌+◌, ◌<◌, List, [], ◌∷◌, ◌++◌, Bool, true, false, Option, None, Some, refl, ◌∙◌, ap, arith}
 use Rattle.df_base.specs.Image.{Image, IsImage}
 use Rattle.df_base.specs.Log.{Event}
@@ -51,7 +51,7 @@ module _ (place : Place) where
       after_both (header_steps (sector_puts table ks)) (copy_steps (repaired f 0 members)) o
       ∙ ap (unit_after (copy_steps (repaired f 0 members)) place) (headers_aside table header ks o) ∙ copies_aside f copy members 0 o
 
-  -- the update behind it puts copies alone
+  -- the update after it puts copies alone
   pub raising_aside : (layout : Layout) (table : List Header) (mends : List Mend) (f : SuperFields) (members : List Bool) (d : SuperFields) → ((k : ℕ) → sector_put table k place ≡ None) → ((n : ℕ) (g : SuperFields) → put_copy n g place ≡ None) → (o : Option AnyUnit)
       → unit_after (raising_steps layout table mends f members d) place o ≡ o
   raising_aside layout table mends f members d header copy o =

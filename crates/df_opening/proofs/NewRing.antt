@@ -13,7 +13,7 @@ use Rattle.df_units.specs.Making.{header_writes}
 use Rattle.df_headers.specs.Ring.{in_sector, sector_events}
 use Rattle.df_opening.specs.Making.{sectors_of}
 
--- the writes of the first sectors, and those of the sectors behind them
+-- the writes of the first sectors, and those of the sectors after them
 split : (layout : Layout) (t : List Header) (s k m e : ℕ) → s + k ≡ e → header_writes layout s (sectors_of s (k + m) t) ≡ header_writes layout s (sectors_of s k t) ++ header_writes layout e (sectors_of e m t)
 split layout t s zero m e is = ap (λ (c : ℕ). header_writes layout s (sectors_of s c t)) (none m) ∙ ap (λ (n : ℕ). header_writes layout n (sectors_of n m t)) (here s e is)
   where

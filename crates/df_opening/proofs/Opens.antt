@@ -108,7 +108,7 @@ opening_aside s a =
     let update = update_steps (put_copies (boot_fields s.state)) in
     steps_join first update (BlockPlace a) None ∙ ap (unit_after update (BlockPlace a)) (mending_aside s.state.file s.state.headers s.mends s.state.fields s.chosen.members a)
 
--- so behind the barrier none is loose
+-- so after the barrier none is loose
 pub open_settles : (s : Survey) (base : Told) (w : Work) → AreSteps (format s.state.file) (opening_events s) (opening_steps s) → AreSettled s.state.file (told_after (opening_events s) (did Sync base)).log w
 open_settles s base w steps =
     let es = opening_events s in

@@ -1,4 +1,4 @@
--- What an open does behind its survey keeps the bare view in a log that is begun anew, whatever the copies showed.
+-- What an open does after its survey keeps the bare view in a log that is begun anew, whatever the copies showed.
 use Rattle.std.proofs.Common.{◌≡◌, ◌⊎◌, inl, inr, ℕ, ◌<◌, ◌≤◌, ◌^◌, List, [], ◌∷◌, length, Option, Some, None, ◌∙◌, ap, subst, arith, refl, sym}
 use Rattle.std.proofs.lemmas.Bool.{and_parts, cases_lt, ltb-true}
 use Rattle.std.proofs.lemmas.Option.{slice_get_within}
@@ -181,7 +181,7 @@ module _ (g : Grade) (view : View) (s : Survey) (base : Told) (four : length s.c
   pub anew_bare : IsSameBare view (booted view (raised_content s.state))
   anew_bare = subst (λ (c : Content). IsSameBare view (booted view c)) (sym content_is_d) raises.bare
 
-  -- ---- what is begun anew behind it
+  -- ---- what is begun anew after it
 
   end_is_log : Log.IsLog end.log
   end_is_log = (moments_both end.log (record { since = subst (λ (l : Log.Log). Extends l (begun base).log) (sym added) (adds_extends (opening_events s) (begun base).log); until = extends_self end.log })).0

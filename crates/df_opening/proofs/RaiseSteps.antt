@@ -1,4 +1,4 @@
--- What an open does behind its survey leads, in one log, to a file that is kept by the state behind the boot update.
+-- What an open does after its survey leads, in one log, to a file that is kept by the state after the boot update.
 use Rattle.std.proofs.Common.{◌≡◌, inl, ℕ, ◌+◌, ◌<◌, ◌^◌, List, ◌∷◌, length, Option, Some, refl, sym, ◌∙◌, ap, subst, arith}
 use Rattle.df_base.specs.Log as Log
 use Rattle.df_base.specs.Moments.{EachMoment, Extends, adds}
@@ -154,7 +154,7 @@ module _ (g : Grade) (view : View) (s : Survey) (base : Told) (four : length s.c
       subst (λ (c : Content). KeptFor g (shape file) (spelling file) (units_log (format file) end.log) (raised w c)) (sym content_is_d)
       (subst (λ (l : Log.Log). KeptFor g (shape file) (spelling file) (units_log (format file) l) (raised w d)) (sym added) (kept_of g on.standing))
 
-  -- the state behind it stands for the machine's
+  -- the state after it stands for the machine's
   pub opening_stands : Represents (raised_state s.state) (begun_state file base view (boot_fields s.state))
   opening_stands =
       subst (λ (c : Content). record (memory s.state) { content = c } ≡ memory_of (shape file) (spelling file) (raised w c)) (sym content_is_d)

@@ -1,4 +1,4 @@
--- The state behind a boot update makes sense, and what it writes obeys the rules of a superblock.
+-- The state after a boot update makes sense, and what it writes obeys the rules of a superblock.
 use Rattle.std.proofs.Common.{◌≡◌, ◌<◌, ◌+◌, ◌^◌, Option, Some, None, refl, arith}
 use Rattle.df_format.specs.SuperRules.{IsSuper, IsUsable, fault_of}
 use Rattle.df_format.proofs.Laws.{faults}

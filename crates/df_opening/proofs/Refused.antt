@@ -35,7 +35,7 @@ superblock_refused t (opens.LayoutDiffers a b) other tells = absurd tells
 superblock_refused t (opens.Damaged a b) other tells = absurd tells
 superblock_refused t opens.BootSpent other tells = absurd tells
 
--- events, and a mending that adds others behind them
+-- events, and a mending that adds others after them
 pub raising_then : {T : Type 0} (es fs : List Event) (old mid new : Option Told) (result : Result T MendError) → mid ≡ after_all es old → AddsRaising fs mid new result → AddsRaising (es ++ fs) old new result
 raising_then es fs old mid new (Ok x) is adds = adds ∙ ap (after_all fs) is ∙ sym (after_append es fs old)
 raising_then es fs old mid new (Err (Damaged place kind)) is adds = adds ∙ ap (after_all fs) is ∙ sym (after_append es fs old)

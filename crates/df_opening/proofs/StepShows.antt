@@ -123,7 +123,7 @@ module _ (layout : Layout) (cluster : ℕ) where
   same_sector (Sync ∷ es) ((Puts put) ∷ ss) are image sector dry = absurd are
   same_sector ((Stop cs) ∷ es) ss are image sector dry = absurd are
 
-  -- behind a sync nothing is loose but what was written since
+  -- after a sync nothing is loose but what was written since
   pub synced_first : (events : List Event) (steps : List Step) → AreSteps (format_of layout cluster) events steps → StartSynced steps → (log : Log) (sector : ℕ) → writes_to events sector ≡ false → loose (adds events log) sector ≡ false
   synced_first [] [] are starts log sector dry = absurd starts
   synced_first [] (p ∷ ss) are starts log sector dry = absurd are

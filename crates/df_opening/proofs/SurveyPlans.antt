@@ -1,4 +1,4 @@
--- What a survey hands out is planned from what the disk shows behind the barrier.
+-- What a survey hands out is planned from what the disk shows after the barrier.
 use Rattle.std.proofs.Common.{◌≡◌, ℕ, Option, Some, None, sym, ◌∙◌, ap, subst}
 use Rattle.std.specs.Prelude.{Ok}
 use Rattle.std.proofs.lemmas.Option.{same_Some}

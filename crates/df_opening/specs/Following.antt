@@ -32,7 +32,7 @@ StoppedMayOpen =
     (file : DataFile) (view : View) (t : Told) (changes : List (ℕ × List ℕ)) → file.version ≡ 2 → IsSafeDisk (format file) (shape file) t.log → IsHonest t → AreLoose t.log.events changes
     → NoChanceOf (format file) t.log (changed changes (now t.log)) → Held (shape file) ((format file).unit_at (changed changes (now t.log))) view → MayOpen file view (did (Stop changes) t)
 
--- so may a file on which the disk failed, with no stop behind it: what it shows is one of the images that a stop might have left
+-- so may a file on which the disk failed, with no stop after it: what it shows is one of the images that a stop might have left
 abbrev pub FaultedMayOpen : Type 0
 FaultedMayOpen =
     (file : DataFile) (view : View) (t : Told) → file.version ≡ 2 → IsSafeDisk (format file) (shape file) t.log → IsHonest t → NoChanceOf (format file) t.log (now t.log)

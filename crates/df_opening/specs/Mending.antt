@@ -126,7 +126,7 @@ pub record IsPlanned (file : DataFile) (table : List Header) (mends : List Mend)
   pub top_is : IsImage t.shown → (v : View) → IsFound (shape file) (unit_at file.layout file.cluster t.shown) v → head v ≡ top
   pub planned : ArePlannedFrom file.layout file.cluster scan top copies members table mends
 
--- an honest disk with a file of version 2, whose log rests on a view and has nothing loose, where no unit came about by chance: what holds of it behind the barrier of an open
+-- an honest disk with a file of version 2, whose log rests on a view and has nothing loose, where no unit came about by chance: what holds of it after the barrier of an open
 pub record RestsOnDisk (g : Grade) (file : DataFile) (view : View) (t : Told) : Type 0 where
   pub version : file.version ≡ 2
   pub is_log : IsLog t.log
@@ -143,9 +143,9 @@ PlannedMayMend =
     → length members ≡ 4 → IsPlanned file table mends f members t → RestsOnDisk g file view t
     → MayMend (shape file) (units_log (format file) t.log) view (headers_in table) (sector_puts table (sectors_of file.layout mends)) (repaired f 0 members)
 
--- ---- the boot update behind it
+-- ---- the boot update after it
 
--- the device calls of an open behind its survey: the mending, and the four copies with the next boot, a sync after each
+-- the device calls of an open after its survey: the mending, and the four copies with the next boot, a sync after each
 abbrev pub raising_events : Layout → List Header → List Mend → SuperFields → List Bool → SuperFields → List Event
 raising_events layout table mends f members d = mending_events layout table mends f members ++ update_events d
 
@@ -153,7 +153,7 @@ raising_events layout table mends f members d = mending_events layout table mend
 abbrev pub raising_steps : Layout → List Header → List Mend → SuperFields → List Bool → SuperFields → List Step
 raising_steps layout table mends f members d = raise_steps (sector_puts table (sectors_of layout mends)) (repaired f 0 members) (put_copies d)
 
--- the state behind it: the superblock records the state as it was found, units are made in the next boot, and calls may go on
+-- the state after it: the superblock records the state as it was found, units are made in the next boot, and calls may go on
 abbrev pub raised_state : State → State
 raised_state s = record s { fields = boot_fields s; boot = s.fields.boot + 1; live = true }
 
@@ -161,7 +161,7 @@ raised_state s = record s { fields = boot_fields s; boot = s.fields.boot + 1; li
 abbrev pub first_state : DataFile → Told → View → Work
 first_state file t view = opened (shape file) (unit_at file.layout file.cluster t.shown) view
 
--- the state that calls begin with: the one behind the boot update that writes this superblock
+-- the state that calls begin with: the one after the boot update that writes this superblock
 abbrev pub begun_state : DataFile → Told → View → SuperFields → Work
 begun_state file t view d = raised (first_state file t view) (content_of (content_with d))
 
@@ -189,6 +189,6 @@ pub record StaysFound (g : Grade) (file : DataFile) (view : View) (d : SuperFiel
       → (IsFound (shape file) (unit_at file.layout file.cluster image) view ⊎ IsFound (shape file) (unit_at file.layout file.cluster image) (booted view (content_of (content_with d))))
       × StandsFor g (unit_at file.layout file.cluster image) view
 
--- behind the barrier its log rests on the view
+-- after the barrier its log rests on the view
 abbrev pub BarrierRests : Type 0
 BarrierRests = (g : Grade) (file : DataFile) (view : View) (t : Told) → MayOpen file view t → StandsFor g (unit_at file.layout file.cluster t.shown) view → RestsOnDisk g file view (did Sync t)

@@ -41,7 +41,7 @@ use Rattle.df_opening.specs.Surveying.{IsMendable, TellsSurvey}
 abbrev pub ToldBy : (old new : Option Told) → Type 0
 ToldBy old new = (events : List Event) × (new ≡ after_all events old)
 
--- What an open leaves of a base, behind the barrier, the mending and the boot update: each moment since has the view that was found or the raised one, whose bare view is the same, and at the end the
+-- What an open leaves of a base, after the barrier, the mending and the boot update: each moment since has the view that was found or the raised one, whose bare view is the same, and at the end the
 -- file is tidy with that and kept for the state that calls begin with, and no block of its checkpoint is loose.
 pub record OpensOver (g : Grade) (view : View) (s : State) (base n : Told) : Type 0 where
   pub moments : EachMoment (did Sync base).log n.log (IsGoodFor g (format s.file) (shape s.file) view (kept (begun_state s.file base view s.fields)))
@@ -127,7 +127,7 @@ pub record MendsPartly (layout : Layout) (t : Told) (later : Option Told) : Type
       → StandsFor g (unit_at found.file.layout found.file.cluster t.shown) view → EachMoment (begun t).log (told_after mending.events (begun t)).log (StaysFound g found.file view (boot_fields found))
   pub lived : (log : Log) (logs : List Log) → MayReopen found.file log logs t.shown → EachMoment (did Sync (begun t)).log (told_after mending.events (did Sync (begun t))).log (IsLivedDisk found.file (add Sync log ∷ logs))
 
--- it failed in the barrier, which added a sync or nothing, or in a read behind it; or within the mending
+-- it failed in the barrier, which added a sync or nothing, or in a read after it; or within the mending
 abbrev pub StopsOpening : Layout → Told → Option Told → Type 0
 StopsOpening layout t later = (later ≡ Some t) ⊎ (later ≡ Some (did Sync t)) ⊎ MendsPartly layout t later
 
@@ -136,17 +136,17 @@ abbrev pub refusal_of : MendError → OpenError
 refusal_of (mend.Damaged place class) = opens.Damaged place class
 refusal_of mend.DiskFault = opens.DiskFault
 
--- the answer is that of what the disk shows, where it tells that: the refusal that a survey gives, or the state behind the boot update of the one that it finds
+-- the answer is that of what the disk shows, where it tells that: the refusal that a survey gives, or the state after the boot update of the one that it finds
 abbrev pub TellsOpened : Layout → Option Told → Result State OpenError → Type 0
 TellsOpened layout told (Ok s) = (found : State) × TellsSurvey layout told (Ok found) × (s ≡ raised_state found)
 TellsOpened layout told (Err e) = TellsSurvey layout told (Err e)
 
--- and of a disk that may be hurt, so: the state behind the boot update of one that the file had, or a refusal because of what is hurt
+-- and of a disk that may be hurt, so: the state after the boot update of one that the file had, or a refusal because of what is hurt
 abbrev pub TellsHurtOpened : Layout → Option Told → Result State OpenError → Type 0
 TellsHurtOpened layout told (Ok s) = (found : State) × (s ≡ raised_state found) × TellsHurt layout told (Ok found)
 TellsHurtOpened layout told (Err e) = TellsHurt layout told (Err e)
 
--- and behind damage before any number of opens, so: the state behind the boot update of one that the file had since the last of them that raised its boot
+-- and after damage before any number of opens, so: the state after the boot update of one that the file had since the last of them that raised its boot
 abbrev pub TellsLivedOpened : Layout → Option Told → Result State OpenError → Type 0
 TellsLivedOpened layout told (Ok s) = (found : State) × (s ≡ raised_state found) × TellsLived layout told (Ok found)
 TellsLivedOpened layout told (Err e) = TellsLived layout told (Err e)

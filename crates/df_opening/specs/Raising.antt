@@ -1,4 +1,4 @@
--- What an open does behind its survey: it mends, and raises the boot; and what it leaves at each moment of that, by each log on which the plan rests.
+-- What an open does after its survey: it mends, and raises the boot; and what it leaves at each moment of that, by each log on which the plan rests.
 use Rattle.std.specs.Prelude.{List, ◌∷◌}
 use Rattle.df_base.specs.Log.{Event, Log}
 use Rattle.df_base.specs.Moments.{EachMoment}

@@ -123,7 +123,7 @@ fn raise_parts<D: Disk>(disk: &mut D, parts: &mut Parts, content: Super) -> Resu
 
 /// Mends what the rooms of a surveyed file list, raises its boot, and hands out its parts, on which calls may be made: header
 /// sectors first, each needed one once, then one sync, where there was such a sector, then the copies that aren't members of the
-/// choice, each durable before the next one; and behind that the copies 0, 1, 2 and 3 of a superblock with the next boot, which
+/// choice, each durable before the next one; and after that the copies 0, 1, 2 and 3 of a superblock with the next boot, which
 /// records the state as it was found. A stop at any moment leaves that state with the boot of before or with the next one, and so
 /// does a fault, by each log on which the plan rests; by one that is begun anew at what is shown, whatever the copies showed. The
 /// rooms come back with an error.

@@ -72,7 +72,7 @@ module _ (sh : Shape) (codec : Codec) (x : Stand) where
 
   -- ---- a step is next
 
-  -- one less is left behind it
+  -- one less is left after it
   run_left : (sum : ℕ) (r : Running) (l : List ℕ) → steps_left (course_of spell (after_running sh spell w sum r l).0.running) ≡ length l
   run_left sum r [] = refl
   run_left sum r (a ∷ more) = omega arith

@@ -41,7 +41,7 @@ abbrev told_or : {E : Type 0} → Option E → Told → Told → Told
 told_or (Some e) t u = t
 told_or None t u = u
 
--- the tests of a request before that of the ring, and that behind it
+-- the tests of a request before that of the ring, and that after it
 abbrev tests_before : Shape → Told → (client request : ℕ) → List ℕ → List (Bool × AppendError)
 tests_before sh t client request body =
     let session = session_of_client client t.sessions in

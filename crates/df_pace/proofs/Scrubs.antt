@@ -75,7 +75,7 @@ module _ (sh : Shape) (codec : Codec) where
   work_bare shown w Scrub other = absurd other
   work_bare shown w Recent other = absurd other
 
-  -- what is answered, and what is shown behind it
+  -- what is answered, and what is shown after it
   both_bare : (shown : Shown) (w : Work) (c : Command) → AsksOfOthers c
       → (answer_from spell (memory_of sh spell w) (supplied codec shown (memory_of sh spell w) c) c ≡ answer_from spell (memory_of sh spell (bare w)) (supplied codec shown (memory_of sh spell (bare w)) c) c)
       × (shown_after codec shown (memory_of sh spell w) c ≡ shown_after codec shown (memory_of sh spell (bare w)) c)

@@ -26,7 +26,7 @@ module _ (sh : Shape) (codec : Codec) where
   loop_shown x [] = refl
   loop_shown x (c ∷ cs) = loop_shown (by_loop sh codec x c) cs
 
-  -- the work behind a line, and then all the rest
+  -- the work after a line, and then all the rest
   rest_work : (pace : Pace) (y : Stand) (cs : List Command) → last_work sh codec (behind sh codec pace y).shown (behind sh codec pace y).work cs ≡ last_work sh codec y.shown y.work (commands_due sh codec pace y ++ cs)
   rest_work pace y cs =
       let due = commands_due sh codec pace y in

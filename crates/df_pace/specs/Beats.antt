@@ -1,4 +1,4 @@
--- The loop's work piece by piece: what is next of what is due behind a line, and what is left then.
+-- The loop's work piece by piece: what is next of what is due after a line, and what is left then.
 use Rattle.std.specs.Prelude.{◌≡◌, ◌<◌, ℕ, ◌+◌, ◌-◌, Bool, true, false, ◌&&◌, nat_lt, if◌then◌else◌, min, List, [], ◌∷◌, ◌++◌, replicate, Option, Some, None, Ok}
 use Rattle.df_theory.specs.Shape.{Shape}
 use Rattle.df_theory.specs.View.{head}
@@ -15,7 +15,7 @@ use Rattle.df_pace.specs.Loop.{Stand, all_by_loop, answer_at, begin_if, by_loop,
 
 -- ---- what is left
 
--- what is due behind a line
+-- what is due after a line
 abbrev pub due_at : Pace → (appended : ℕ) → (running : Bool) → Due
 due_at pace appended running = record { begin = is_begin_due pace appended running; steps = pace.steps; scrub = pace.scrub }
 
@@ -47,7 +47,7 @@ pieces_left d = (if d.begin then 1 else 0) + d.steps + d.scrub
 abbrev pub started : (last : ℕ) → Beat
 started last = record { since = last; due = record { begin = false; steps = 0; scrub = 0 } }
 
--- behind a line: as many prepares were accepted since the last begin as the head has grown
+-- after a line: as many prepares were accepted since the last begin as the head has grown
 abbrev pub behind_line : Pace → Beat → (last : ℕ) → (running : Bool) → Beat
 behind_line pace b last running = record { since = b.since; due = due_at pace (last - b.since) running }
 
@@ -56,7 +56,7 @@ abbrev pub is_begun : Answer → Bool
 is_begun (ToBegin (Ok blocks)) = true
 is_begun answer = false
 
--- behind a piece: with such a begin the count begins anew
+-- after a piece: with such a begin the count begins anew
 abbrev pub behind_piece : Piece → (begun : Bool) → Beat → (last : ℕ) → Beat
 behind_piece p begun b last = record { since = if begun then last else b.since; due = without p b.due }
 
@@ -71,7 +71,7 @@ rest_due sh codec d x =
 abbrev pub runs_at : Shape → Codec → Stand → Bool
 runs_at sh codec x = is_running (course_at sh codec x)
 
--- behind a line it is all that is due
+-- after a line it is all that is due
 abbrev pub WholeDue : Type 0
 WholeDue = (sh : Shape) (codec : Codec) (pace : Pace) (x : Stand) → commands_due sh codec pace x ≡ rest_due sh codec (due_at pace x.appended (runs_at sh codec x)) x
 
@@ -83,13 +83,13 @@ NothingDue = (sh : Shape) (codec : Codec) (d : Due) (x : Stand) → next_piece d
 abbrev pub StartsIdle : Type 0
 StartsIdle = (last : ℕ) (running : Bool) → next_piece (started last).due running ≡ None
 
--- else its command comes first, and then what is left behind it
+-- else its command comes first, and then what is left after it
 abbrev pub PieceDue : Type 0
 PieceDue =
     (sh : Shape) (codec : Codec) (d : Due) (x : Stand) (p : Piece) → next_piece d (runs_at sh codec x) ≡ Some p
     → let c = command_of p x.work.view.checkpoint.parts.root in rest_due sh codec d x ≡ c ∷ rest_due sh codec (without p d) (by_loop sh codec x c)
 
--- and so fewer pieces are left behind each
+-- and so fewer pieces are left after each
 abbrev pub FewerDue : Type 0
 FewerDue = (d : Due) (running : Bool) (p : Piece) → next_piece d running ≡ Some p → pieces_left (without p d) < pieces_left d
 
@@ -99,7 +99,7 @@ FewerDue = (d : Due) (running : Bool) (p : Piece) → next_piece d running ≡ S
 abbrev pub IsCounted : Stand → (since : ℕ) → Type 0
 IsCounted x since = x.appended + since ≡ head x.work.view
 
--- so it is behind each command of the script, and behind each of the loop, from a state that makes sense
+-- so it is after each command of the script, and after each of the loop, from a state that makes sense
 abbrev pub LineCounts : Type 0
 LineCounts = (sh : Shape) (codec : Codec) (x : Stand) (c : Command) (since : ℕ) → IsWork sh codec.spell x.work → IsCounted x since → IsCounted (by_script sh codec x c) since
 

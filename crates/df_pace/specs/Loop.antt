@@ -85,7 +85,7 @@ behind sh codec pace x = all_by_loop sh codec x (commands_due sh codec pace x)
 
 -- ---- a script
 
--- a line, also one that is refused, and the work behind it
+-- a line, also one that is refused, and the work after it
 abbrev pub passed : Shape → Codec → Pace → Stand → Command → Stand
 passed sh codec pace x c = behind sh codec pace (by_script sh codec x c)
 

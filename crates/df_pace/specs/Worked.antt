@@ -38,7 +38,7 @@ abbrev pub answers_from : (op n : ℕ) → List (List ℕ)
 answers_from op zero = []
 answers_from op (suc n) = line_of (numbered (codes "appended") op) ∷ line_of (numbered (codes "replied") op) ∷ answers_from (op + 1) n
 
--- with a checkpoint every 20 appends, one step of it behind each line and three of the scrubber, a ring of 32 slots is never full
+-- with a checkpoint every 20 appends, one step of it after each line and three of the scrubber, a ring of 32 slots is never full
 abbrev pub LongSession : Type 0
 LongSession =
     (named : 0 < 7) (some : 0 < 32)
@@ -51,7 +51,7 @@ FullRing = (named : 0 < 7) (some : 0 < 32) → drop 64 (prints named some (pace_
 
 -- ---- when a begin is due
 
--- a begin that is refused, here for want of a block, is due again behind the next line
+-- a begin that is refused, here for want of a block, is due again after the next line
 abbrev pub RefusedBegin : Type 0
 RefusedBegin =
     (named : 0 < 7) (some : 0 < 32)

@@ -45,7 +45,7 @@ impl Due {
 pub struct Beat {
     /// The head at the loop's last begin, or at the open.
     pub since: u64,
-    /// What is left of the work behind the last line.
+    /// What is left of the work after the last line.
     pub due: Due,
 }
 
@@ -81,7 +81,7 @@ impl Beat {
         }
     }
 
-    /// Where it stands behind a line, with the head as it is then, and where a checkpoint runs then or not.
+    /// Where it stands after a line, with the head as it is then, and where a checkpoint runs then or not.
     pub fn behind_line(&self, pace: &Pace, head: u64, running: bool) -> Beat
         ensures { result ≡ behind_line pace.now self.now head running }
     {
@@ -91,7 +91,7 @@ impl Beat {
         }
     }
 
-    /// Where it stands behind a piece of its work: with a begin that was accepted it counts from the head anew.
+    /// Where it stands after a piece of its work: with a begin that was accepted it counts from the head anew.
     pub fn behind_piece(&self, piece: Piece, begun: bool, head: u64) -> Beat
         ensures { result ≡ behind_piece piece begun self.now head }
     {

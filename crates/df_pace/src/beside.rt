@@ -24,7 +24,7 @@ pub fn work_is_unseen_in_the_log()
     ensures { PacingLaw }
 {}
 
-/// The work behind a line is all that is due there, taken piece by piece, and as many prepares count as the head has grown since
+/// The work after a line is all that is due there, taken piece by piece, and as many prepares count as the head has grown since
 /// the loop's last begin.
 pub fn work_is_done_piece_by_piece()
     ensures whole { WholeDue }

@@ -2,7 +2,7 @@
 ghost use Rattle.std.specs.Prelude.{◌≡◌};
 ghost use Rattle.df_pace.specs.Beats.{idle};
 
-/// How much work is done behind each line of a script.
+/// How much work is done after each line of a script.
 #[derive(Clone, Copy, Debug, PartialEq, Eq)]
 pub struct Pace {
     /// So many steps of the scrubber.
@@ -27,10 +27,10 @@ impl Pace {
     }
 }
 
-/// The work that is due behind a line, in this order.
+/// The work that is due after a line, in this order.
 #[derive(Clone, Copy, Debug, PartialEq, Eq)]
 pub struct Due {
-    /// A checkpoint is to be begun, with the durable root. One that is refused is due again behind the next line.
+    /// A checkpoint is to be begun, with the durable root. One that is refused is due again after the next line.
     pub begin: bool,
     /// At most so many steps, as long as a checkpoint runs.
     pub steps: u64,

@@ -8,7 +8,7 @@ pub fn a_long_session()
     ensures alone { FullRing }
 {}
 
-/// A begin that was refused is due again behind the next line, a checkpoint of the script's own starts no count, and a flush counts
+/// A begin that was refused is due again after the next line, a checkpoint of the script's own starts no count, and a flush counts
 /// as many as it appends.
 pub fn a_begin_stays_due()
     ensures refused { RefusedBegin }

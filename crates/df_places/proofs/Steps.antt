@@ -61,7 +61,7 @@ put_is_steps kind zone layout place held lent stands same in_zone own value brin
       tt,
     )
 
--- and with a sync behind it too
+-- and with a sync after it too
 pub with_sync : (layout : Layout) (place : Place) (held : Holding) (at : Units.Place) (x : AnyUnit) → AreSteps (format_of layout held.unit.header.cluster) (put_events layout place held) (put_steps at x)
     → AreSteps (format_of layout held.unit.header.cluster) (unit_events layout place held) (unit_steps at x)
 with_sync layout place held at x steps = (steps.0, tt)

@@ -1,4 +1,4 @@
--- How many prepares wait behind a tail that is found: by an image that shows what the tables say.
+-- How many prepares wait after a tail that is found: by an image that shows what the tables say.
 use Rattle.std.proofs.Common.{◌≡◌, ◌≢◌, ◌^◌, inl, inr, ℕ, ◌+◌, ◌<◌, ◌≤◌, List, [], ◌∷◌, length, Option, Some, None, refl, sym, ap, subst, arith}
 use Rattle.std.specs.Prelude.{Result, Ok, Err}
 use Rattle.std.specs.List.{slice_get}

@@ -1,4 +1,4 @@
--- What a superblock of either version names: how the search for named prepares and the walk behind its checkpoint begin, and which of them is blamed.
+-- What a superblock of either version names: how the search for named prepares and the walk after its checkpoint begin, and which of them is blamed.
 use Rattle.std.proofs.Common.{inl, inr, ◌≡◌, ℕ, ◌+◌, ◌≤◌, ◌%◌, List, sym, ◌∙◌, ap, subst, arith}
 use Rattle.std.specs.Prelude.{Result, Ok, Err, IfErr, IfOk}
 use Rattle.std.proofs.lemmas.Bool.{cases_eq}
@@ -35,7 +35,7 @@ pin_near f rules = elim (cases_eq f.version 2) [
   | inr other ↦ let pin : pin_of f ≡ f.op = by_other f f.head f.op other in omega (arith, pin)
 ]
 
--- where it names none behind the checkpoint, its last one is the checkpoint's
+-- where it names none after the checkpoint, its last one is the checkpoint's
 pub pin_checksum : (f : SuperFields) → IsSuper f → pin_of f ≡ f.op → pin_checksum_of f ≡ f.op_checksum
 pin_checksum f rules level = elim rules.version [
   | inl first ↦ by_other f f.head_checksum f.op_checksum (λ second. omega (arith, second, first.version))

@@ -41,7 +41,7 @@ module _ (version : ℕ) (layout : Layout) (image : Image) where
         same,
       )
 
-  -- ---- refusals behind the superblock
+  -- ---- refusals after the superblock
 
   one_field : (field other : Field) (value number : ℕ) → FailsTrailer version layout image field value → FailsTrailer version layout image other number → (field ≡ other) × (value ≡ number)
   one_field field other value number one two =
@@ -106,7 +106,7 @@ module _ (version : ℕ) (layout : Layout) (image : Image) where
   apart BootSpent other is = inr (inr (inr (inr (refl, is))))
   apart DiskFault other is = absurd (other refl)
 
-  -- behind a superblock that can be used, where the version is asked for
+  -- after a superblock that can be used, where the version is asked for
   asked_has : (file : DataFile) (f : SuperFields) → HasFile image file f → IsAsked version layout file → HasSuperAs version image f
   asked_has file f has of = subst (λ (v : ℕ). HasSuperAs v image f) of.version_is has.super
 

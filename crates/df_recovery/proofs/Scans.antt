@@ -1,4 +1,4 @@
--- What is read behind the barrier is what the disk showed before it, and a refusal is the answer to the open.
+-- What is read after the barrier is what the disk showed before it, and a refusal is the answer to the open.
 use Rattle.std.proofs.Common.{◌≡◌, ◌∙◌, ℕ, ◌<◌, Option, Some, None, Result, Ok, Err, refl, sym, ap, subst}
 use Rattle.std.specs.Prelude.{IfErr, IfOk}
 use Rattle.df_base.specs.Image.{Image, IsImage}

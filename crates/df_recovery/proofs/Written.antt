@@ -35,7 +35,7 @@ from_image : (image : Image) (n : ℕ) (c : Content) → content_at image n ≡ 
 unfolding copy_at
 from_image image n c is = from_sector (image n) n c (copy_in (image n)) refl is
 
--- which has the checksum of its fields where nothing stands behind them
+-- which has the checksum of its fields where nothing stands after them
 content_is : (image : Image) (n : ℕ) (c : Content) → IsSector (image n) → c.fields.first_nonzero ≡ None → content_at image n ≡ Some c → c ≡ content_with c.fields
 content_is image n c sector none is =
     let one = from_image image n c is in

@@ -1,4 +1,4 @@
--- What an open finds behind a superblock, by what a scan saw of the slots and of the replies: the state, or the first damage in the order of open.
+-- What an open finds after a superblock, by what a scan saw of the slots and of the replies: the state, or the first damage in the order of open.
 use Rattle.std.specs.Prelude.{◌≡◌, ◌+◌, ◌-◌, ◌<◌, ◌≤◌, ◌^◌, ℕ, Bool, nat_le, if◌then◌else◌, List, [], length, map, slice_get, position, Option, Some, None, Result, Ok, Err}
 use Rattle.std.specs.List.{range_with_len}
 use Rattle.df_base.specs.Image.{IsImage}
@@ -54,7 +54,7 @@ lowest_of members = or_first (position (λ member. member) members)
 abbrev pub damage : Units.Place → Class → OpenError
 damage at class = Damaged (place_of at) class
 
--- the refusal is by what stands behind the superblock and its trailer: it names a place, or the boot is spent
+-- the refusal is by what stands after the superblock and its trailer: it names a place, or the boot is spent
 abbrev pub IsDamage : OpenError → Type 0
 IsDamage (Damaged place class) = Unit {0}
 IsDamage BootSpent = Unit {0}

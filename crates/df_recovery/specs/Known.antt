@@ -1,4 +1,4 @@
--- The prepares that a superblock names, as an open finds them behind its checkpoint: all of them fit, or one of them is blamed.
+-- The prepares that a superblock names, as an open finds them after its checkpoint: all of them fit, or one of them is blamed.
 use Rattle.std.specs.Prelude.{◌≡◌, ◌⊎◌, ◌+◌, ◌%◌, ℕ, List, length}
 use Rattle.df_layout.specs.declared.layout.Layout.{Layout}
 use Rattle.df_format.specs.Copies.{content_with}

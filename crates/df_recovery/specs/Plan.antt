@@ -35,7 +35,7 @@ use Rattle.df_journal.specs.Shows.{TellsRings}
 abbrev pub op_in : ℕ → ℕ → ℕ → ℕ
 op_in n op slot = op + 1 + (slot + n - (op + 1) % n) % n
 
--- what is decided of a slot behind where a scan starts, once this head is known
+-- what is decided of a slot after where a scan starts, once this head is known
 abbrev pub decision_at : Layout → Start → ℕ → Units.Units → ℕ → Cases.Decision
 decision_at layout start top image slot = planned layout.slots start top image (op_in layout.slots start.op slot)
 
@@ -94,7 +94,7 @@ headers_in table slot = header_or_none (slice_get table slot)
 
 -- ---- what is found
 
--- the scan says what the rings of an image show, and this view with this head is found in the image, behind the superblock that the scan started from
+-- the scan says what the rings of an image show, and this view with this head is found in the image, after the superblock that the scan started from
 pub record IsScanOf (layout : Layout) (sh : Shape) (image : Units.Units) (v : View) (scan : Scan) (top : ℕ) : Type 0 where
   pub slots_are : slots sh ≡ layout.slots
   pub op : v.checkpoint.content.op ≡ scan.start.op

@@ -145,13 +145,13 @@ pub record IsFileOf (layout : Layout) (f : SuperFields) (file : DataFile) : Type
   pub cluster_is : file.cluster ≡ f.cluster
   pub version_is : file.version ≡ f.version
 
--- what stands behind the superblock isn't read: the disk failed, or the trailer of its file is refused
+-- what stands after the superblock isn't read: the disk failed, or the trailer of its file is refused
 pub record RefusesBase (layout : Layout) (f : SuperFields) (told : Option Told) (e : OpenError) : Type 0 where
   pub file : DataFile
   pub of : IsFileOf layout f file
   pub tells : TellsCheckpoint file told f (Err e)
 
--- what stands behind the superblock was read into rooms of a layout
+-- what stands after the superblock was read into rooms of a layout
 pub record IsReadBehind (layout : Layout) (told : Option Told) (s : Scanned) : Type 0 where
   -- the file has that layout, and the superblock's cluster
   pub file : IsFileOf layout s.copies.found.content s.file
@@ -163,7 +163,7 @@ pub record IsReadBehind (layout : Layout) (told : Option Told) (s : Scanned) : T
   pub places : s.sessions.max ≡ layout.clients
   -- no checkpoint runs
   pub idle : IsIdle s.grid.blocks
-  -- the scan started behind the superblock
+  -- the scan started after the superblock
   pub start : s.log.slots.start ≡ start_of s.copies.found.content
   -- the tables have what the rings and the reply slots show
   pub tables : AreScanned layout s.copies.found.content.cluster told s.log.slots s.log.replies
@@ -174,7 +174,7 @@ pub record IsScanAs (version : ℕ) (layout : Layout) (told : Option Told) (s : 
   pub copies : AreCopies version told s.copies
   -- the rooms are of its layout
   pub served : IsServed layout s.copies.found.content
-  -- and so was what stands behind the superblock
+  -- and so was what stands after the superblock
   pub behind : IsReadBehind layout told s
 
 -- ---- where version 2 is asked for, as an open does

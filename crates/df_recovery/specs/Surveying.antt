@@ -51,7 +51,7 @@ pub record IsLawful (s : Scanned) : Type 0 where
   pub size : s.copies.found.content.slots ≡ s.file.layout.slots
   -- and all else that the superblock says of its layout
   pub fields : AreFieldsOf s.file.layout s.file.cluster s.copies.found.content
-  -- the scan started behind the superblock
+  -- the scan started after the superblock
   pub start : s.log.slots.start ≡ start_of s.copies.found.content
   -- each slot has units that may stand there
   pub slots : AreSlots s.file.layout s.file.cluster s.log.slots.slots
@@ -60,13 +60,13 @@ pub record IsLawful (s : Scanned) : Type 0 where
   -- no checkpoint runs
   pub idle : IsIdle s.grid.blocks
 
--- the end of the tail behind a superblock is in its ranges
+-- the end of the tail after a superblock is in its ranges
 pub record EndsBehind (layout : Layout) (f : SuperFields) (traces : Traces) : Type 0 where
   -- its checksum is one
   pub checksum : IsCheck traces.tail.checksum
   -- of an empty tail it is the checkpoint's
   pub empty : traces.tail.op ≡ f.op → traces.tail.checksum ≡ f.op_checksum
-  -- the tail begins behind the checkpoint
+  -- the tail begins after the checkpoint
   pub from : f.op ≤ traces.tail.op
   -- it has no more prepares than the ring has slots
   pub within : traces.tail.op ≤ f.op + layout.slots
@@ -118,7 +118,7 @@ pub record IsReadOf (version : ℕ) (layout : Layout) (told : Option Told) (s : 
   pub copies : AreCopies version told s.copies
   -- which is the one that the disk shows
   pub found : TellsFoundAs version told (Ok s.copies.found)
-  -- the scan started behind it
+  -- the scan started after it
   pub start : s.log.slots.start ≡ start_of s.copies.found.content
   -- the table has what the rings show
   pub rings_are : rings.IsScanned layout told s.log.slots

@@ -1,4 +1,4 @@
-// What an open finds behind a superblock, from what a scan saw of the slots and of the replies: the state, or the first
+// What an open finds after a superblock, from what a scan saw of the slots and of the replies: the state, or the first
 // damage in the order of open.
 ghost use Rattle.std.specs.Prelude.{◌≡◌, ◌≤◌, ◌<◌, ◌+◌, ◌^◌, length, position, IfOk, IfErr};
 ghost use Rattle.df_recovery.specs.Below.{CopyPlace, PreparePlace, ReplyPlace, Units, CountsAll, CountsBound, CountsReplies, entry, class_of, KeepsRules, ShowsTable, ShowsReplies};
@@ -99,7 +99,7 @@ fn bound_of(seen: &Counters, slots: &SlotTable, boot: u64, head: u64) -> Counter
 // The greatest boot, above which none can be raised.
 const GREATEST_BOOT: u64 = 1 << 62;
 
-/// The state behind the checkpoint of a superblock, which the table of slots and the replies show; the sessions, at first
+/// The state after the checkpoint of a superblock, which the table of slots and the replies show; the sessions, at first
 /// the checkpoint's, become those after the tail. Or the first refusal of an open: `Superblock` where a unit is of a later
 /// checkpoint or boot, `WalPrepares` where a prepare that the superblock names isn't shown or doesn't fit, or an op above the tail
 /// left a trace, `ClientReplies` where a reply is missing, and `BootSpent` where the superblock has the greatest boot.

@@ -36,7 +36,7 @@ fn pin_checksum_of(fields: &SuperFields) -> Check
     }
 }
 
-// How far taken prepares go on behind the checkpoint of a superblock, where each prepare that it names is shown; or the slot of
+// How far taken prepares go on after the checkpoint of a superblock, where each prepare that it names is shown; or the slot of
 // the first one of these that doesn't fit.
 fn find_fitting(
     layout: &Layout,
@@ -64,7 +64,7 @@ fn find_fitting(
     }
 }
 
-/// How far taken prepares go on behind the checkpoint of a superblock; the sessions, at first the checkpoint's, become those after
+/// How far taken prepares go on after the checkpoint of a superblock; the sessions, at first the checkpoint's, become those after
 /// the tail. Or the slot of the first prepare that an open refuses: of those that the superblock names the one of the greatest op
 /// that isn't shown, or else that of the least one that doesn't fit.
 pub(crate) fn find_known(

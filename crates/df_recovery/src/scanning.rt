@@ -167,7 +167,7 @@ fn scan_log<D: Disk>(
     }
 }
 
-// Reads what stands behind a superblock that the rooms serve.
+// Reads what stands after a superblock that the rooms serve.
 fn scan_served<D: Disk>(
     disk: &mut D,
     copies: &Copies,

@@ -23,7 +23,7 @@ use df_base::Check;
 use df_disk::Disk;
 use df_rooms::{DataFile, LogRooms, Rooms, rooms_of};
 
-/// A file that was surveyed: what was read of it, with the sessions and their stored replies behind the tail, and in its rooms the
+/// A file that was surveyed: what was read of it, with the sessions and their stored replies after the tail, and in its rooms the
 /// header that each slot of the header ring is to have and the list of what is to be mended; where the tail ends, how many replies
 /// are stored, and the checksums of the prepares that wait for theirs.
 #[derive(Drop)]

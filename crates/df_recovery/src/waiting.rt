@@ -37,7 +37,7 @@ fn known_sum(headers: &HeaderTable, slot: u32) -> Check
     header.checksum
 }
 
-// The checksum of the prepare with an op: behind the checkpoint by the header table, and else by what its slot showed.
+// The checksum of the prepare with an op: after the checkpoint by the header table, and else by what its slot showed.
 fn waiting_at(
     layout: &Layout,
     slots: &SlotTable,

@@ -95,7 +95,7 @@ fn scan_replies<D: Disk>(
     (rooms, done)
 }
 
-/// Scans the rings and then the reply slots, behind the checkpoint of a superblock.
+/// Scans the rings and then the reply slots, after the checkpoint of a superblock.
 pub(crate) fn scan_zones<D: Disk>(
     disk: &mut D,
     start: &Start,

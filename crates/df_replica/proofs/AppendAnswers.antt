@@ -1,4 +1,4 @@
--- Each append is the machine's: its answer, the state behind it, and what it does to the disk.
+-- Each append is the machine's: its answer, the state after it, and what it does to the disk.
 use Rattle.std.proofs.Common.{◌≡◌, ℕ, ◌+◌, ◌%◌, ◌^◌, ◌<◌, ◌≤◌, true, false, List, [], ◌∷◌, length, Option, Some, None, refl, sym, ◌∙◌, ap, subst, arith}
 use Rattle.std.specs.Prelude.{Ok, Err}
 use Rattle.std.proofs.Math.Nat.{mod-lt}

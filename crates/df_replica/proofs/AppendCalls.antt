@@ -1,4 +1,4 @@
--- What an append does to the disk is the machine's append, and behind it the header ring shows the table.
+-- What an append does to the disk is the machine's append, and after it the header ring shows the table.
 use Rattle.std.specs.Prelude.{Ok, if◌then◌else◌, slice_get}
 use Rattle.std.proofs.Common.{◌≡◌, inl, inr, ℕ, ◌+◌, ◌/◌, ◌%◌, ◌==◌, Bool, true, false, List, [], ◌∷◌, Option, Some, None, refl, sym, ◌∙◌, ap, subst}
 use Rattle.std.proofs.lemmas.Bool.{cond-true, eq-eqb}

@@ -107,7 +107,7 @@ may_next s client request body is table live none =
       first = is.first;
     }
 
--- ---- the requests behind an append
+-- ---- the requests after an append
 
 numbered_case : (b : Bool) (client request op : ℕ) (x : told.Session) (ss : List told.Session) → AreNumbered (x ∷ ss) → request ≤ 2 ^ 62 → AreNumbered (with_request client request op ss)
     → AreNumbered (if b then requested client request op ∷ ss else x ∷ with_request client request op ss)

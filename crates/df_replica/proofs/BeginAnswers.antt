@@ -1,4 +1,4 @@
--- Each begin is the machine's: its answer, and the state behind it. It does nothing to the disk.
+-- Each begin is the machine's: its answer, and the state after it. It does nothing to the disk.
 use Rattle.std.proofs.Common.{◌≡◌, ◌∙◌, ℕ, true, List, [], take, Option, Some, None, refl, sym, ap, subst}
 use Rattle.std.specs.Prelude.{Ok, Err}
 use Rattle.std.proofs.lemmas.Option.{same_Some}

@@ -1,4 +1,4 @@
--- Each write of a block is the machine's: its answer, the state behind it, and what it does to the disk.
+-- Each write of a block is the machine's: its answer, the state after it, and what it does to the disk.
 use Rattle.std.proofs.Common.{◌≡◌, ◌∙◌, ℕ, true, false, List, [], ◌∷◌, Option, Some, None, refl, sym, ap, subst}
 use Rattle.std.specs.Prelude.{Ok, Err}
 use Rattle.std.proofs.lemmas.Option.{same_Some}

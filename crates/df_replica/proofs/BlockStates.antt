@@ -47,7 +47,7 @@ pub refusal_given : (o : Option BlockError) (a : ℕ) (e : BlockError) → Err e
 refusal_given None a e is = absurd (cc)
 refusal_given (Some x) a e is = ap (λ (y : BlockError). Some y) (let same : x ≡ e = cc in same)
 
--- ---- the grid behind a write
+-- ---- the grid after a write
 
 -- it has the blocks after it, or at a fault those before
 pub either_grid : {A E : Type 0} (result : Result A E) (old new : GridState) (b : Blocks) → OnOk result (new ≡ grid_of old b) → OnErr result (new ≡ old) → (P : GridState → Type 0) → P (grid_of old b) → P old → P new

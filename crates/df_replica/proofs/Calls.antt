@@ -46,7 +46,7 @@ abbrev pub AreCalls : Given → Command → State → List Event → Type 0
 AreCalls given command s events =
     (g : Grade) (w : Work) (t : Told) → IsKept g s w t.log → DoesOnDisk (format s.file) (shape s.file) (spelling s.file) t.log w given command events
 
--- and it answered: its answer is the machine's, the state behind it stands for the machine's, the unit that the command makes is one that a device call wrote, and the header
+-- and it answered: its answer is the machine's, the state after it stands for the machine's, the unit that the command makes is one that a device call wrote, and the header
 -- ring shows its table
 pub record Answered (given : Given) (command : Command) (s t : State) (events : List Event) (answer : Answer) : Type 0 where
   pub file : t.file ≡ s.file
@@ -153,7 +153,7 @@ module _ (given : Given) (command : Command) (s : State) (events : List Event) (
         } in
         ((call.stands w work k_is.stands).0, kept_on)
 
-    -- where all was written that the state before has, all was that the one behind it has
+    -- where all was written that the state before has, all was that the one after it has
     leads_on : (w : Work) → Keeps Firm s w None → (a b : Told) → Some b ≡ after_all events (Some a) → IsWrittenFor s.file a.log w → IsWrittenFor s.file b.log (next s.file w given command).0
     leads_on w k a b all was =
         let f = format s.file in

@@ -1,4 +1,4 @@
--- What the superblock says that ends a checkpoint obeys the rules, and the state behind it makes sense.
+-- What the superblock says that ends a checkpoint obeys the rules, and the state after it makes sense.
 use Rattle.std.proofs.Common.{◌≡◌, ℕ, ◌+◌, ◌*◌, ◌/◌, ◌≤◌, List, [], ◌∷◌, Some, None, refl, sym, ◌∙◌, ap, subst, arith}
 use Rattle.std.proofs.lemmas.Option.{same_Some}
 use Rattle.df_base.specs.Fields.{spelled}

@@ -1,4 +1,4 @@
--- Each flush is the machine's: its answer, the state behind it, and what it does to the disk.
+-- Each flush is the machine's: its answer, the state after it, and what it does to the disk.
 use Rattle.std.proofs.Common.{◌≡◌, ℕ, ◌+◌, true, false, List, [], ◌∷◌, length, Option, Some, None, refl, sym, ◌∙◌, ap, subst}
 use Rattle.std.specs.Prelude.{Ok, Err}
 use Rattle.df_base.proofs.Laws.{AreBytes-check_of, field_at-lt}

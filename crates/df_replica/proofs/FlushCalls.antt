@@ -1,4 +1,4 @@
--- What a flush does to the disk is the machine's flush, and behind it the header ring shows the table.
+-- What a flush does to the disk is the machine's flush, and after it the header ring shows the table.
 use Rattle.std.specs.Prelude.{Ok}
 use Rattle.std.proofs.Common.{◌≡◌, inl, inr, ℕ, zero, suc, ◌+◌, ◌%◌, ◌<◌, ◌==◌, true, List, [], ◌∷◌, ◌++◌, length, Option, Some, None, refl, sym, ◌∙◌, ap, subst, arith, ne_eqb, ltb-true}
 use Rattle.std.proofs.lemmas.Bool.{cond-false, not-false}

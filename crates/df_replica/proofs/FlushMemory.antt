@@ -53,7 +53,7 @@ stored_same (u ∷ us) ss =
 
 -- ---- the prepares
 
--- the table shows the sums of a group behind those that it showed
+-- the table shows the sums of a group after those that it showed
 group_sums : (g : Group) (base a n op : ℕ) (parent : List ℕ) (rs : List Request) (hs : List Header) → a + n ≡ op → base < a → op + length rs ≤ base + g.file.layout.slots + 1 → 0 < g.file.layout.slots → g.file.layout.slots ≤ length hs
     → map (sum_at g.file.layout.slots (with_headers (units_in g op parent rs) hs)) (range_with_len a (n + length rs)) ≡ map (sum_at g.file.layout.slots hs) (range_with_len a n) ++ map sum_of_message (messages_of (units_in g op parent rs))
 group_sums g base a n op parent [] hs at above room some inside =

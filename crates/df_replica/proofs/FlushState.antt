@@ -1,4 +1,4 @@
--- The state behind a group that is noted makes sense.
+-- The state after a group that is noted makes sense.
 use Rattle.std.proofs.Common.{◌≡◌, ◌⊎◌, inl, inr, ℕ, suc, ◌+◌, ◌^◌, ◌<◌, ◌≤◌, ◌==◌, Bool, true, false, if◌then◌else◌, List, [], ◌∷◌, ◌++◌, length, Option, Some, None, refl, sym, ◌∙◌, ap, subst, arith, append_assoc, length-append}
 use Rattle.std.specs.List.{slice_get}
 use Rattle.std.proofs.lemmas.Bool.{cond-true, eq-eqb}
@@ -160,7 +160,7 @@ unstaged s headers is ring = record {
   course = is.course;
 }
 
--- the state that a flush leads to, with the headers as they are behind it
+-- the state that a flush leads to, with the headers as they are after it
 pub flushed_state : (s : State) (headers : List Header) → IsState s → IsTable s.file.layout s.file.cluster headers → IsState (record (flushed s (flush_units s)) { headers = headers })
 flushed_state s headers is ring =
     let t : State = record s { headers = headers; staged = [] } in

@@ -36,7 +36,7 @@ use Rattle.df_replica.proofs.Sessions.{keeps_alone}
 -- ---- no command puts another block at a held address
 
 module _ (file : DataFile) (w : Work) (a : ℕ) where
-  -- what is held behind a command was held before it, or the address was free
+  -- what is held after a command was held before it, or the address was free
   abbrev Before : ℕ → Type 0
   Before d = HoldsBlock w a d ⊎ (is_held w a ≡ false)
 
@@ -166,7 +166,7 @@ module _ (file : DataFile) (w : Work) (work : IsWork (shape file) (spelling file
   same_from d (inl other) = work.one a c d (is_one w a c holds) (is_one w a d other)
   same_from d (inr free) = absurd (let no : true ≡ false = sym (is_there w a c holds) ∙ free in cc)
 
-  -- the block that is held behind a command is the same
+  -- the block that is held after a command is the same
   one_further : (given : Given) (command : Command) (d : ℕ) → HoldsBlock (next file w given command).0 a d → HoldsBlock (next file w given command).0 a c
   one_further given command d later =
       let inside = work.grid a (is_there w a c holds) in

@@ -1,4 +1,4 @@
--- The step that ends a checkpoint is the machine's: its answer, the state behind it, and what it does to the disk.
+-- The step that ends a checkpoint is the machine's: its answer, the state after it, and what it does to the disk.
 use Rattle.std.proofs.Common.{◌≡◌, ◌∙◌, ℕ, ◌+◌, true, false, List, [], ◌∷◌, Option, Some, None, refl, sym, ap, subst}
 use Rattle.std.specs.Prelude.{Ok, Err}
 use Rattle.df_base.specs.Fields.{spelled}

@@ -1,4 +1,4 @@
--- What a command puts, which blocks its device calls spare, and which are durable behind it.
+-- What a command puts, which blocks its device calls spare, and which are durable after it.
 use Rattle.std.proofs.Common.{◌≡◌, ◌⊎◌, inl, inr, ℕ, zero, suc, ◌+◌, ◌<◌, ◌%◌, ◌==◌, ◌||◌, if◌then◌else◌, Bool, true, false, List, [], ◌∷◌, length, Option, Some, None, refl, sym, ◌∙◌, ap, subst, arith}
 use Rattle.std.specs.Prelude.{nat_lt}
 use Rattle.std.proofs.lemmas.Bool.{eqb-true, or_cases, or_left, or_right}
@@ -85,7 +85,7 @@ module _ (file : DataFile) (w : Work) (work : IsWork (shape file) (spelling file
   held_unput Scrub other = refl
   held_unput Recent other = refl
 
--- ---- what is durable behind a command
+-- ---- what is durable after a command
 
 -- the running checkpoint holds the block, by a reference or in the trailer as far as it is written
 abbrev is_taken : Running → ℕ → Bool
@@ -97,7 +97,7 @@ EndsWith Advance w a = (r : Running) × (w.running ≡ Some r) × (r.left ≡ []
 EndsWith command w a = ⊥
 
 module _ (file : DataFile) (w : Work) (a : ℕ) where
-  -- what is durable behind it was durable before, or the checkpoint that it ends holds it
+  -- what is durable after it was durable before, or the checkpoint that it ends holds it
   abbrev WasDurable : Command → Type 0
   WasDurable command = (is_durable w a ≡ true) ⊎ EndsWith command w a
 

@@ -1,4 +1,4 @@
--- The units that a command makes, and that whatever the state behind it needs was needed before it or is one of them.
+-- The units that a command makes, and that whatever the state after it needs was needed before it or is one of them.
 use Rattle.std.proofs.Common.{◌≡◌, ℕ, ◌==◌, ◌%◌, ◌+◌, nat_lt, inl, inr, Bool, true, false, if◌then◌else◌, List, [], ◌∷◌, length, Option, Some, None, refl, sym, ◌∙◌, ap, subst}
 use Rattle.std.proofs.lemmas.Bool.{eqb-true}
 use Rattle.std.proofs.lemmas.Option.{same_Some}
@@ -105,7 +105,7 @@ pub record HasEach (sh : Shape) (P : Place → AnyUnit → Type 0) (w : Work) : 
   pub needs : (place : Place) (x : AnyUnit) → Needs sh (kept w) place x → P place x
   pub trailer : (r : Running) → w.running ≡ Some r → (a : ℕ) (b : Block) → InChain a b r.written → P (BlockPlace a) (BlockUnit b)
 
--- what is stored behind an append was stored before it
+-- what is stored after an append was stored before it
 still_stored : (o : Option Session) (op : ℕ) (old : Option Message) (r : Message) → next.kept o op old ≡ Some r → old ≡ Some r
 still_stored None op old r is = absurd (let none : None ≡ Some r = is in cc)
 still_stored (Some s) op old r is = by (nat_lt op s.op) is

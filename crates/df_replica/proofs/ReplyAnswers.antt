@@ -1,4 +1,4 @@
--- Each reply is the machine's: its answer, the state behind it, and what it does to the disk.
+-- Each reply is the machine's: its answer, the state after it, and what it does to the disk.
 use Rattle.std.proofs.Common.{◌≡◌, ◌∙◌, inl, ℕ, ◌<◌, true, false, List, [], ◌∷◌, length, map, Option, Some, None, refl, sym, ap, subst, arith}
 use Rattle.std.specs.Prelude.{Ok, Err}
 use Rattle.std.proofs.lemmas.Option.{same_Some}

@@ -1,4 +1,4 @@
--- A whole tour is the machine's, and what is kept of the file goes on behind it: the view, the blocks and the log are the same.
+-- A whole tour is the machine's, and what is kept of the file goes on after it: the view, the blocks and the log are the same.
 use Rattle.std.proofs.Common.{◌≡◌, ◌∙◌, ℕ, ◌++◌, List, length, Option, Some, None, refl, sym, ap, subst}
 use Rattle.df_disk.specs.Told.{Told}
 use Rattle.df_layout.specs.declared.damage.Finding.{Finding}
@@ -76,7 +76,7 @@ keeps_behind s (Some t) list g w k = record {
   ring = k.ring;
 }
 
--- what was written of the state was of the one behind the tour
+-- what was written of the state was of the one after the tour
 written_behind : (s : State) (told : Option Told) (list : List Finding) (w : Work) → WritesOn s.file told told w (work_toured w list)
 written_behind s None list w was = tt
 written_behind s (Some t) list w was = record { view = was.view; trailer = was.trailer }

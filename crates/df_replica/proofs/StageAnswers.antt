@@ -1,4 +1,4 @@
--- Each stage is the machine's: its answer, and the state behind it. It asks nothing of the disk.
+-- Each stage is the machine's: its answer, and the state after it. It asks nothing of the disk.
 use Rattle.std.proofs.Common.{◌≡◌, ℕ, ◌+◌, ◌^◌, ◌<◌, true, List, [], length, Option, Some, None, refl, sym, ◌∙◌, ap, subst}
 use Rattle.std.specs.Prelude.{Ok, Err}
 use Rattle.std.proofs.lemmas.Option.{same_Some}

@@ -26,7 +26,7 @@ request_at [] i inside = absurd (omega (arith, inside))
 request_at (r ∷ rs) zero inside = (r, refl)
 request_at (r ∷ rs) (suc i) inside = request_at rs i (omega (arith, inside))
 
--- ---- sessions behind requests
+-- ---- sessions after requests
 
 -- a table notes headers of one session alike
 noted_alike : (g h : Header) (ss : List Session) → session_of g ≡ session_of h → noted g ss ≡ noted h ss
@@ -67,7 +67,7 @@ staged_more table rs head n next op r at more here =
     ∙ behind_more (head + 1) n rs r (sessions_of table) at
     ∙ ap (λ (k : ℕ). noted (asker_of 0 k r) (sessions_staged table rs head n)) there
 
--- ---- the session of a client behind one of them
+-- ---- the session of a client after one of them
 
 own_case : (client : ℕ) (h : Header) (x : Session) (ss rest : List Session) (b : Bool) → (x.client == h.client) ≡ b → h.client ≡ client → session_of_client client rest ≡ Some (session_of h) → session_of_client client (if b then session_of h ∷ ss else x ∷ rest) ≡ Some (session_of h)
 own_case client h x ss rest true is own more = let same : (h.client == client) ≡ true = eq-eqb h.client client own in rw same refl

@@ -1,4 +1,4 @@
--- The state behind a step makes sense.
+-- The state after a step makes sense.
 use Rattle.std.proofs.Common.{◌≡◌, ◌∙◌, ℕ, ◌+◌, ◌<◌, List, [], ◌∷◌, length, Option, Some, refl, sym, ap, subst, arith}
 use Rattle.df_format.specs.declared.superblock.SuperFields.{SuperFields}
 use Rattle.df_model.specs.Blocks.{Blocks}

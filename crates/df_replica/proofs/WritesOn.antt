@@ -48,7 +48,7 @@ one_on f (Write at bytes) log place x is = inr is
 one_on f Sync log place x is = inr is
 one_on f (Stop changes) log place x is = inr is
 
--- behind these events, too
+-- after these events, too
 pub stays_written : (f : Format) (events : List Event) (log : Log) (place : Place) (x : AnyUnit) → IsWritten (units_log f log) place x → IsWritten (units_log f (adds events log)) place x
 stays_written f [] log place x is = is
 stays_written f (e ∷ es) log place x is = stays_written f es (add e log) place x (one_on f e log place x is)

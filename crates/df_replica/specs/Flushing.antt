@@ -36,7 +36,7 @@ use Rattle.df_replica.specs.Stopping.{stopped}
 abbrev pub group_in : State → Group
 group_in s = record { file = s.file; mark = s.replies; sequence = s.fields.sequence; boot = s.fields.boot; first = s.head + 1; last = s.head + length s.staged }
 
--- what the maker of one of them says of it, behind the prepare with the checksum `parent`
+-- what the maker of one of them says of it, after the prepare with the checksum `parent`
 abbrev pub header_in : Group → (op : ℕ) → (parent : List ℕ) → Request → Header
 header_in g op parent r = record (blank_header AsPrepare g.file.cluster) {
   parent = parent;
@@ -114,7 +114,7 @@ request_of client request body = record { client = client; request = request; bo
 abbrev pub staged_with : State → Request → State
 staged_with s r = record s { staged = s.staged ++ r ∷ [] }
 
--- the sessions as if the first so many of these requests were appended behind this head
+-- the sessions as if the first so many of these requests were appended after this head
 abbrev pub sessions_staged : List Session → List Request → (head count : ℕ) → List Units.Session
 sessions_staged ss rs head count = sessions_after (sessions_of ss) (asks_of 0 (head + 1) (take count rs))
 
@@ -149,7 +149,7 @@ pub record MayGroup (g : Group) : Type 0 where
   pub few : g.last < g.first + 8
   pub unspent : g.last ≤ 2 ^ 62
 
--- the one with this op, behind a prepare with this checksum, which is the first prepare's parent only where that is zero
+-- the one with this op, after a prepare with this checksum, which is the first prepare's parent only where that is zero
 pub record MayBeIn (g : Group) (op : ℕ) (parent : List ℕ) : Type 0 where
   pub group : MayGroup g
   pub from : g.first ≤ op

@@ -18,7 +18,7 @@ pub data HoldsBlock (w : Work) (a c : ℕ) : Type 0 where
   IsCaptured : (r : Running) → w.running ≡ Some r → r.parts.references a ≡ Some c → HoldsBlock w a c
   IsDurable : w.view.checkpoint.parts.references a ≡ Some c → HoldsBlock w a c
 
--- behind each of these acts a block is held at the address, whatever its checksum
+-- after each of these acts a block is held at the address, whatever its checksum
 abbrev pub StaysHeld : DataFile → (a : ℕ) → Work → List Act → Type 0
 StaysHeld file a w [] = Unit {0}
 StaysHeld file a w (x ∷ acts) = ((d : ℕ) × HoldsBlock (next file w x.given x.command).0 a d) × StaysHeld file a (next file w x.given x.command).0 acts

@@ -58,13 +58,13 @@ CallIsTheOne =
     (given : Given) (command : Command) (s u : State) (w : Work) (t : Told) (new : Option Told) (answer : Answer) → IsCall given command s u (Some t) new (Some answer) → Keeps Firm s w None → NoChanceOf (format s.file) t.log t.shown
     → AnswersTheOne s t.log command answer
 
--- ---- of which state it is known that it was written, beside the one behind a call of such a state
+-- ---- of which state it is known that it was written, beside the one after a call of such a state
 
 -- that of a file which is kept from call to call
 abbrev pub KeptIsWritten : Type 0
 KeptIsWritten = (g : Grade) (s : State) (w : Work) (log : Log) → IsKept g s w log → IsWrittenFor s.file log w
 
--- that behind the boot update of what an open found on a disk that may be hurt, with a superblock with which it makes sense, however the log goes on behind its barrier
+-- that after the boot update of what an open found on a disk that may be hurt, with a superblock with which it makes sense, however the log goes on after its barrier
 abbrev pub OpenedIsWrittenFor : Type 0
 OpenedIsWrittenFor =
     (file : DataFile) (view : View) (t : Told) (s : State) (later : Log) (d : Content) → (finds : FindsHad file view t s) → Extends later (add Sync t.log)

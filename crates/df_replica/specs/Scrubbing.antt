@@ -41,7 +41,7 @@ IsScrub s t told (Err e) = t ≡ stopped s
 
 -- ---- a whole tour
 
--- the state behind a tour that listed these: the next one begins, and they went last into the ring
+-- the state after a tour that listed these: the next one begins, and they went last into the ring
 abbrev pub toured : State → List Finding → State
 toured s list = record s { tour = first_tour; findings = newest (s.findings ++ list) }
 
@@ -50,7 +50,7 @@ abbrev pub LeavesTour : {A : Type 0} → (A → List Finding) → (s t : State) 
 LeavesTour items s t (Ok list) = t ≡ toured s (items list)
 LeavesTour items s t (Err e) = t ≡ stopped (record s { tour = t.tour; findings = t.findings })
 
--- a state of the machine with its tour at the start, and behind the tour
+-- a state of the machine with its tour at the start, and after the tour
 abbrev pub at_start : Work → Work
 at_start w = record w { tour = first_tour }
 

@@ -1,4 +1,4 @@
--- Calls one after the other, from one state of the machine on: what they answered, what is kept behind them, and what a stop at any moment leaves.
+-- Calls one after the other, from one state of the machine on: what they answered, what is kept after them, and what a stop at any moment leaves.
 use Rattle.std.specs.Prelude.{◌≡◌, ◌⊎◌, true, List, [], ◌∷◌, ◌++◌, Option, Some, None}
 use Rattle.df_base.specs.Image.{Image}
 use Rattle.df_base.specs.Log.{Event, IsLeft, Log}
@@ -103,7 +103,7 @@ FaultStopsThem =
     (s0 s t : State) (told0 told new : Option Told) (acts : List Act) (answers : List Answer) (events : List Event) (act : Act) → IsServed s0 s told0 told acts answers events
     → (call : IsCall act.given act.command s t told new None) → IsStopped s0 told0 new acts act (events ++ call.events)
 
--- what was answered is there, by each log by which the file was kept: a stop behind the acts leaves the view after all of them
+-- what was answered is there, by each log by which the file was kept: a stop after the acts leaves the view after all of them
 abbrev pub AnsweredIsThere : Type 0
 AnsweredIsThere =
     (s0 s : State) (told0 told : Option Told) (acts : List Act) (answers : List Answer) (events : List Event) → IsServed s0 s told0 told acts answers events

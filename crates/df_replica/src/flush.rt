@@ -133,7 +133,7 @@ fn note_all(
     }
 }
 
-// The session of a client, as if the first so many of what is staged were appended behind this head.
+// The session of a client, as if the first so many of what is staged were appended after this head.
 fn session_staged(
     table: &SessionTable,
     staging: &Staging,
@@ -165,7 +165,7 @@ fn session_staged(
     last
 }
 
-// How many places of the table would be taken, as if all that is staged were appended behind this head.
+// How many places of the table would be taken, as if all that is staged were appended after this head.
 fn places_staged(table: &SessionTable, staging: &Staging, head: u64) -> u64
     requires ops { head + length staging.now.requests ≤ 2 ^ 62 }
     requires numbered { AreNumbered table.now.sessions }

@@ -17,7 +17,7 @@ pub fn a_fault_stops_them()
     ensures { FaultStopsThem }
 {}
 
-/// Behind acts that were answered a stop leaves the file with all of them.
+/// After acts that were answered a stop leaves the file with all of them.
 pub fn what_was_answered_is_there()
     ensures { AnsweredIsThere }
 {}

@@ -1,4 +1,4 @@
--- The superblock that an open writes has the codec's checksum, so that the state behind it is a function of what was shown.
+-- The superblock that an open writes has the codec's checksum, so that the state after it is a function of what was shown.
 use Rattle.std.proofs.Common.{◌≡◌, ◌∙◌, inr, Some, ap, arith, refl, subst, sym}
 use Rattle.df_base.specs.Image.{Image, IsImage}
 use Rattle.df_disk.specs.Told.{Told}

@@ -1,4 +1,4 @@
--- The state that calls begin with behind an open, as a function of the file, of what the disk shows and of the view that is found in it: no replica is in sight.
+-- The state that calls begin with after an open, as a function of the file, of what the disk shows and of the view that is found in it: no replica is in sight.
 use Rattle.std.specs.Prelude.{◌≡◌, Option}
 use Rattle.df_base.specs.Image.{Image, IsImage}
 use Rattle.df_disk.specs.Told.{Told}

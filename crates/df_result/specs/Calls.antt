@@ -36,7 +36,7 @@ SuppliedIsResult =
     (s : State) (w : Work) (t : Told) (command : Command) (given : Given) → Represents s w → IsSupplied s (Some t) command given → AreSums (codec s.file) (memory s) (supplied_sums given) command
     → next s.file w given command ≡ over (shape s.file) (codec s.file) (shown_of s.file t.shown) w command
 
--- the answer, the state behind it, and what is shown then, are the machine's over this
+-- the answer, the state after it, and what is shown then, are the machine's over this
 pub record IsResult (file : DataFile) (shown : Shown) (w : Work) (command : Command) (answer : Answer) (u : State) (n : Told) : Type 0 where
   pub file_is : u.file ≡ file
   pub answer_is : answer ≡ (over (shape file) (codec file) shown w command).1

@@ -23,7 +23,7 @@ abbrev pub first_of : List Request → Request
 first_of [] = record { client = 0; request = 0; body = [] }
 first_of (r ∷ rs) = r
 
--- the prepare of the first request by this header is the last one of these units, behind those that were there
+-- the prepare of the first request by this header is the last one of these units, after those that were there
 pub record IsSealedOf (s : Staged) (header : Header) (units : List Holding) : Type 0 where
   pub held : Holding
   pub layout : held.layout ≡ s.layout

@@ -139,7 +139,7 @@ grid_with file boot b = record { layout = file.layout; cluster = file.cluster; b
 abbrev pub AreAsked : List Units.Session → Type 0
 AreAsked ss = (k : ℕ) (s : Units.Session) → slice_get ss k ≡ Some s → 0 < s.request
 
--- it was begun behind the superblock, of an op of the log, and ends with the next sequence
+-- it was begun after the superblock, of an op of the log, and ends with the next sequence
 pub record IsBegunFrom (op number head captured next : ℕ) : Type 0 where
   pub op_from : op ≤ captured
   pub op_to : captured ≤ head
@@ -187,7 +187,7 @@ pub record IsSecond (file : DataFile) (f : SuperFields) : Type 0 where
   pub names : AreChecks f.reply_checksums
   pub first_nonzero : f.first_nonzero ≡ None
 
--- behind a boot update units are made in the superblock's boot
+-- after a boot update units are made in the superblock's boot
 pub record IsBooted (made superblock : ℕ) : Type 0 where
   pub boot : made ≡ superblock
   pub some : 0 < made
@@ -206,7 +206,7 @@ pub record AreInFile (file : DataFile) (f : SuperFields) (kept : List ℕ) (head
   pub root : length kept ≤ 1024
   pub ring : IsTable file.layout file.cluster headers
 
--- the log ends behind its checkpoint's op, and within the ring
+-- the log ends after its checkpoint's op, and within the ring
 pub record EndsLog (slots op : ℕ) (op_checksum : List ℕ) (head : ℕ) (checksum : List ℕ) : Type 0 where
   pub parent : IsCheck checksum
   pub order : op ≤ head

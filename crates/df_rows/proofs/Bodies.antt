@@ -27,14 +27,14 @@ in_turn (command ∷ some) more rows = in_turn some more (applied command rows)
 
 -- ---- a body that is read
 
--- the key in front, and what stands behind it
+-- the key in front, and what stands after it
 pub key_read : (rest : List ℕ) → AreBytes rest → 16 ≤ length rest → spelled 16 (field_at 16 0 rest) ++ drop 16 rest ≡ rest
 key_read rest are long = ap (λ (l : List ℕ). l ++ drop 16 rest) (spelled-field_at 16 0 rest are (omega arith)) ∙ take-append-drop 16 rest
 
 pub key_alone : (rest : List ℕ) → AreBytes rest → length rest ≡ 16 → spelled 16 (field_at 16 0 rest) ≡ rest
 key_alone rest are size = spelled-field_at 16 0 rest are (omega arith) ∙ take_all 16 rest (omega arith)
 
--- how long the body of a put is behind its first byte
+-- how long the body of a put is after its first byte
 pub put_length : (rest : List ℕ) (e : Entry) → IsEntry e → rest ≡ spelled 16 e.0 ++ e.1 → (16 ≤ length rest) × (length rest ≤ 63)
 put_length rest e is same =
     let size : length rest ≡ 16 + length e.1 = ap length same ∙ omega (arith, length-append (spelled 16 e.0) e.1, length-spelled 16 e.0) in

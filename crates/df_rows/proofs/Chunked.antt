@@ -1,4 +1,4 @@
--- Rows in chunks: one behind the other they are the rows.
+-- Rows in chunks: one after the other they are the rows.
 use Rattle.std.proofs.Common.{◌≡◌, ℕ, zero, suc, ◌+◌, ◌*◌, ◌<◌, List, ◌++◌, length, take, drop, map, sym, ap, ◌∙◌, arith}
 use Rattle.std.specs.List.{flat_map, range_with_len}
 use Rattle.std.specs.Fork.{slice_chunk}
@@ -9,7 +9,7 @@ use Rattle.df_rows.specs.Limits.{block_count}
 use Rattle.df_rows.specs.Blocks.{chunks_of}
 use Rattle.df_rows.proofs.Counts.{blocks_cover}
 
--- chunks one behind the other
+-- chunks one after the other
 abbrev pub joined : List (List Entry) → List Entry
 joined chunks = flat_map (λ (c : List Entry). c) chunks
 

@@ -30,7 +30,7 @@ one_key m n fits fits' same = sym (read_key m fits) ∙ ap (λ (l : List ℕ). f
 same_length : (m n : ℕ) → length (spelled 16 m) ≡ length (spelled 16 n)
 same_length m n = length-spelled 16 m ∙ sym (length-spelled 16 n)
 
--- a key with something behind it
+-- a key with something after it
 pub key_split : (m n : ℕ) (x y : List ℕ) → m < 2 ^ 128 → n < 2 ^ 128 → spelled 16 m ++ x ≡ spelled 16 n ++ y → (m ≡ n) × (x ≡ y)
 key_split m n x y fits fits' same =
     let parts = same_front (spelled 16 m) (spelled 16 n) x y (same_length m n) same in
@@ -38,7 +38,7 @@ key_split m n x y fits fits' same =
 
 -- ---- what stands in a row
 
--- the value and the zeros behind it
+-- the value and the zeros after it
 abbrev pub padded : List ℕ → List ℕ
 padded value = value ++ replicate (47 - length value) 0
 
@@ -52,13 +52,13 @@ length-row_of e is = omega (arith, length-append (spelled 16 e.0) (length e.1 �
 pub length_byte : (e : Entry) → get_or (row_of e) 16 0 ≡ length e.1
 length_byte e = get_or_at (spelled 16 e.0) (length e.1) (padded e.1) 0 16 (length-spelled 16 e.0)
 
--- what stands behind that byte
+-- what stands after that byte
 pub behind_length : (e : Entry) → drop 17 (row_of e) ≡ padded e.1
 behind_length e = sym (drop-drop 1 16 (row_of e)) ∙ ap (λ (l : List ℕ). drop 1 l) (drop_at (spelled 16 e.0) (length e.1 ∷ padded e.1) 16 (length-spelled 16 e.0))
 
 -- ---- one row
 
--- rows with something behind them
+-- rows with something after them
 pub row_split : (e f : Entry) (x y : List ℕ) → IsEntry e → IsEntry f → row_of e ++ x ≡ row_of f ++ y → (e ≡ f) × (x ≡ y)
 row_split e f x y is other same =
     let rows = same_front (row_of e) (row_of f) x y (length-row_of e is ∙ sym (length-row_of f other)) same in
@@ -100,7 +100,7 @@ module _ (bytes tail value rest : List ℕ) (n : ℕ) (whole : length bytes ≡ 
   tail_parts : tail ≡ value ++ rest
   tail_parts = sym (take-append-drop n tail) ∙ (λ i. sym value_is i ++ sym rest_is i)
 
-  -- bytes whose value is short enough, with zeros behind it, are a row
+  -- bytes whose value is short enough, with zeros after it, are a row
   pub row_read : AreBytes bytes → n ≡ get_or bytes 16 0 → n ≤ 47 → rest ≡ replicate (length rest) 0 → bytes ≡ row_of (field_at 16 0 bytes, value)
   row_read are said fits zeros =
       let size : length value ≡ n = ap length value_is ∙ length-take-le n tail (omega (arith, length_tail)) in

@@ -241,7 +241,7 @@ carries_more first t body bytes rest e is same fresh carries = record {
   none = λ no. carries.none (λ es takes. refused_rest t e bytes rest es is same no takes);
 }
 
--- the rest of a body, cut behind its first row
+-- the rest of a body, cut after its first row
 pub row_cut : (body : List ℕ) (k : ℕ) → drop (64 * k) body ≡ take (64 * (k + 1) - 64 * k) (drop (64 * k) body) ++ drop (64 * (k + 1)) body
 row_cut body k =
     let size : 64 * (k + 1) - 64 * k ≡ 64 = omega arith in

@@ -18,7 +18,7 @@ pub commands_more : (cs ds : List Command) (t : Table) → with_commands (cs ++ 
 commands_more [] ds t = refl
 commands_more (c ∷ cs) ds t = commands_more cs ds _
 
--- the table behind lines is that behind their commands
+-- the table after lines is that after their commands
 pub behind_is : (t : Table) (says : List Said) → all_behind t says ≡ with_commands (all_accepted t says) t
 behind_is t [] = refl
 behind_is t (said ∷ says) = behind_is (behind t said) says ∙ sym (commands_more (accepted t said) (all_accepted (behind t said) says) t)
@@ -26,7 +26,7 @@ behind_is t (said ∷ says) = behind_is (behind t said) says ∙ sym (commands_m
 plus_none : (n : ℕ) → n ≡ n + 0
 plus_none n = omega arith
 
--- the text of lines, and of others behind them
+-- the text of lines, and of others after them
 pub text_more : (t : Table) (n : ℕ) (says more : List Said) → map_text t n (says ++ more) ≡ map_text t n says ++ map_text (all_behind t says) (n + length (all_accepted t says)) more
 text_more t n [] more = ap (λ (m : ℕ). map_text t m more) (plus_none n)
 text_more t n (said ∷ says) more =

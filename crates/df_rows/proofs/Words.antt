@@ -53,7 +53,7 @@ only line name words known cuts is none said says =
     let whole : line ≡ known ++ (32 ∷ words) = cuts.whole ∙ ap (λ (l : List ℕ). l ++ (32 ∷ words)) is in
     none (key_of said) (value_of said) (subst (λ (s : Said). Says (known ++ (32 ∷ words)) s) same (subst (λ (l : List ℕ). Says l said) whole says))
 
--- what a put says of the words behind its name
+-- what a put says of the words after its name
 pub putting : (words : List ℕ) (most key : ℕ) (value : List ℕ) → 2 ^ 128 ≤ most + 1 → Says (codes "put " ++ words) (Put key value) → AreSized words most key value
 putting words most key value wide says = record { word = says.word; is = same_rest (codes "put ") words _ says.is; fits = (omega (arith, says.fits.0), says.fits.1) }
 

@@ -3,7 +3,7 @@ use Rattle.std.specs.Prelude.{ℕ, ◌+◌, ◌-◌, ◌*◌, ◌/◌, ◌≤◌
 use Rattle.std.specs.Int.{div_ceil}
 use Rattle.df_layout.specs.declared.layout.Layout.{Layout}
 
--- the rows of one block: 64 bytes each, behind the block's header
+-- the rows of one block: 64 bytes each, after the block's header
 abbrev pub rows_in_block : Layout → ℕ
 rows_in_block layout = (layout.block_size - 256) / 64
 

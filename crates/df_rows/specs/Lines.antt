@@ -38,7 +38,7 @@ accepted t said = unless_refused (refusal_of t (line_in said)) (asks said)
 abbrev pub behind : Table → Said → Table
 behind t said = with_commands (accepted t said) t
 
--- the puts and drops of these lines that are accepted, in order, and the table behind all of them
+-- the puts and drops of these lines that are accepted, in order, and the table after all of them
 abbrev pub all_accepted : Table → List Said → List Command
 all_accepted t [] = []
 all_accepted t (said ∷ more) = accepted t said ++ all_accepted (behind t said) more

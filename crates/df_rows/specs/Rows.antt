@@ -25,6 +25,6 @@ row_pieces size = Number 16 (λ e. e.0) ∷ Byte (λ e. length e.1) ∷ Bytes si
 abbrev pub row_of : Entry → List ℕ
 row_of e = text (row_pieces (length e.1)) e (replicate (longest_value - length e.1) 0)
 
--- rows, one behind the other
+-- rows, one after the other
 abbrev pub rows_of : List Entry → List ℕ
 rows_of entries = flat_map row_of entries

@@ -48,7 +48,7 @@ abbrev pub AreNew : List Entry → Table → Type 0
 AreNew [] t = ⊤
 AreNew (entry ∷ more) t = IsNew t entry.0 × AreNew more (with_row entry t)
 
--- the table behind a command, and behind commands, in order
+-- the table after a command, and after commands, in order
 abbrev pub with_command : Command → Table → Table
 with_command command t = record { max = t.max; rows = applied command t.rows }
 

@@ -81,7 +81,7 @@ fn chunk(rows: &[Row], per: u64, block: u64) -> &[Row]
     &rows[from..from + count]
 }
 
-// Puts rows one behind the other at the front of `into`, and says how many bytes they are.
+// Puts rows one after the other at the front of `into`, and says how many bytes they are.
 fn put_rows(rows: &[Row], into: &mut [u8]) -> usize
     requires { 64 * length rows.now ≤ length into.old }
     ensures size { result ≡ 64 * length rows.now }
@@ -94,7 +94,7 @@ fn put_rows(rows: &[Row], into: &mut [u8]) -> usize
     ROW * rows.len()
 }
 
-// Puts a row behind `k` others.
+// Puts a row after `k` others.
 fn put_row(row: &Row, k: usize, into: &mut [u8])
     requires { 64 * (k + 1) ≤ length into.old }
     ensures len { length into.new ≡ length into.old }

@@ -72,7 +72,7 @@ fn drop_body(key: u128) -> RowBytes
     body
 }
 
-// The put that stands behind the first byte of a body.
+// The put that stands after the first byte of a body.
 fn put_in(rest: &[u8]) -> Option<Command>
     ensures found { IfSome result (λ command. 1 ∷ rest.now ≡ body_of command) }
     ensures fits { IfSome result IsCommand }
@@ -84,7 +84,7 @@ fn put_in(rest: &[u8]) -> Option<Command>
     Some(Command::Put(Row::new(u128_at(rest, 0), &rest[KEY..])))
 }
 
-// The drop that stands behind the first byte of a body.
+// The drop that stands after the first byte of a body.
 fn drop_in(rest: &[u8]) -> Option<Command>
     ensures found { IfSome result (λ command. 2 ∷ rest.now ≡ body_of command) }
     ensures fits { IfSome result IsCommand }

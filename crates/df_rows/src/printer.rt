@@ -37,7 +37,7 @@ fn print_found<W: Sink>(sink: &mut W, key: u128, value: &[u8]) -> Result<(), Fai
     print_body(sink, value)
 }
 
-// A key and the space behind it.
+// A key and the space after it.
 fn key_front(key: u128) -> Text
     ensures { result.items ≡ decimal key ++ 32 ∷ [] }
 {

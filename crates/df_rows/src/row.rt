@@ -69,7 +69,7 @@ impl Row {
         bytes
     }
 
-    /// The row that 64 bytes are, or None where they are none: a value is longer than it may be, or a byte behind it isn't zero.
+    /// The row that 64 bytes are, or None where they are none: a value is longer than it may be, or a byte after it isn't zero.
     pub fn decode(bytes: &[u8]) -> Option<Row>
         requires { length bytes.now ≡ 64 }
         ensures found { IfSome result (λ row. bytes.now ≡ row_of row) }

@@ -26,7 +26,7 @@ first_case held s k more false is here there = elim (cases_eq s (k + 1)) [
   | inr apart ↦ absurd (let no = (there apart).0 in cc (no))
 ]
 
--- of the addresses from s on those up to k are held, and the one behind them isn't
+-- of the addresses from s on those up to k are held, and the one after them isn't
 pub first_free : (held : ℕ → Bool) (k s n : ℕ) → s ≤ k + 1 → k + 1 < s + n → ((x : ℕ) → s ≤ x → x ≤ k → held x ≡ true) → held (k + 1) ≡ false → (rest : List ℕ) × (filter (λ a. not (held a)) (range_with_len s n) ≡ (k + 1) ∷ rest)
 first_free held k s zero from to below free = absurd (omega arith)
 first_free held k s (suc n) from to below free =

@@ -71,7 +71,7 @@ plain sh = record {
   content = λ c. c.sequence;
 }
 
--- the state that calls begin with behind the first open, in boot 1
+-- the state that calls begin with after the first open, in boot 1
 abbrev pub first_work : Shape → Work
 first_work sh = begun_from sh (plain sh) (opened sh nothing (first_view sh))
 

@@ -37,7 +37,7 @@ use Rattle.df_model.specs.declared.answers.Scrubbed.TheVariants.{Checked, TourEn
 abbrev pub line_of : List ℕ → List ℕ
 line_of text = text ++ 10 ∷ []
 
--- a word, a space and a number; of two such texts the second stands behind a space
+-- a word, a space and a number; of two such texts the second stands after a space
 abbrev pub numbered : List ℕ → ℕ → List ℕ
 numbered word n = word ++ (32 ∷ decimal n)
 
@@ -156,7 +156,7 @@ abbrev pub scrubbed_text : Scrubbed → List ℕ
 scrubbed_text (Checked address verdict) = line_of (spaced (numbered (codes "checked") address) (verdict_text verdict))
 scrubbed_text (TourEnd checked failing) = line_of (spaced (numbered (codes "tour") checked) (decimal failing))
 
--- each finding behind a space
+-- each finding after a space
 abbrev pub findings_text : List Finding → List ℕ
 findings_text [] = []
 findings_text (f ∷ fs) = 32 ∷ (spaced (decimal f.address) (class_text f.«class») ++ findings_text fs)

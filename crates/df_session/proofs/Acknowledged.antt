@@ -18,7 +18,7 @@ use Rattle.df_result.proofs.Laws.{fault_stops_them}
 use Rattle.df_session.proofs.Kept.{all_served}
 
 module _ (file : DataFile) (g : Grade) where
-  -- where a replica stands behind the first k of these acts, the calls that it makes from there, and what the base tells then
+  -- where a replica stands after the first k of these acts, the calls that it makes from there, and what the base tells then
   record Behind (k : ℕ) (w : Work) (acts : List Act) (t : Replica) (new last : Option Told) (log : Log) : Type 0 where
     pub replica : Replica
     pub old : Option Told

@@ -1,4 +1,4 @@
--- What follows from a call that is exact: what the disk then tells, whether a checkpoint runs behind it, and what its answer is in the machine's words.
+-- What follows from a call that is exact: what the disk then tells, whether a checkpoint runs after it, and what its answer is in the machine's words.
 use Rattle.std.proofs.Common.{◌≡◌, ◌≢◌, ℕ, Bool, List, [], ◌∷◌, Option, Some, None, refl, sym, ap, subst, Result, Ok, Err}
 use Rattle.df_base.specs.Log.{Event}
 use Rattle.df_base.specs.Causes.{Blamed, IsBlamed}

@@ -1,4 +1,4 @@
--- What calls leave of a disk and of a file, behind an open, by each log that is told of it.
+-- What calls leave of a disk and of a file, after an open, by each log that is told of it.
 use Rattle.std.proofs.Common.{◌≡◌, inl, inr, ℕ, true, List, [], ◌∷◌, ◌++◌, append_assoc, Option, Some, None, refl, sym, ◌∙◌, ap, subst}
 use Rattle.std.proofs.lemmas.List.{append-nil}
 use Rattle.df_base.specs.Image.{Image}
@@ -59,7 +59,7 @@ ends_add s t old new acts answers (Some a) calls =
     let front = events_of s old acts answers calls.0 calls.1 calls.2 in
     calls.3.call.told ∙ ap (after_all calls.3.call.events) (calls_add s calls.0 old calls.1 acts answers calls.2) ∙ sym (after_append front calls.3.call.events old)
 
--- what a base tells behind events goes on from it
+-- what a base tells after events goes on from it
 pub goes_over : (es : List Event) (t : Told) → Goes t (told_after es t)
 goes_over [] t = record { grew = extends_self t.log; honest = λ h. h }
 goes_over (e ∷ es) t =
@@ -138,7 +138,7 @@ module _ (g : Grade) (s : Replica) (view : View) (w : Work) (base n0 : Told) (li
     ]);
   }
 
-  -- the moments of the opening, and those behind it
+  -- the moments of the opening, and those after it
   all_moments : (acts : List Act) (n : Told) → EachIsMidway s.file g w acts (Some n0) (Some n) → EachMoment (did Sync base).log n.log (IsMidway s.file g w acts)
   all_moments acts n midway =
       joined (did Sync base).log n0.log n.log (IsMidway s.file g w acts) midway.0 (weaker (did Sync base).log n0.log _ (IsMidway s.file g w acts) (λ log is. good_midway acts log is) is_opened.moments) midway.1
@@ -149,7 +149,7 @@ module _ (g : Grade) (s : Replica) (view : View) (w : Work) (base n0 : Told) (li
   alone : Keeps Firm s w None
   alone = keeps_alone g s w (Some n0) is_opened.kept_for
 
-  -- no block of the checkpoint is loose behind the calls that were answered, nor behind one that was not
+  -- no block of the checkpoint is loose after the calls that were answered, nor after one that was not
   settled_behind : (u : Replica) (old new : Option Told) (acts : List Act) (answers : List Answer) (events : List Event) → IsServed s u old new acts answers events → AreSettled s.file (adds events n0.log) (work_after s.file w acts)
   settled_behind u old new acts answers events served = served.settles w n0.log alone is_opened.settled
 

@@ -65,7 +65,7 @@ calls_answered : (s t : Replica) (old new : Option Told) (acts : List Act) (answ
 calls_answered s t old new acts answers None calls = (t, new, calls)
 calls_answered s t old new acts answers (Some a) calls = (calls.0, calls.1, calls.2)
 
--- what is told behind the mending of an open shows an image, which agrees with what was shown before it in all that calls read
+-- what is told after the mending of an open shows an image, which agrees with what was shown before it in all that calls read
 pub record OpenedAgrees (s : Replica) (mended : Option Told) (shown : Shown) : Type 0 where
   pub first : Told
   pub told : mended ≡ Some first

@@ -1,4 +1,4 @@
--- What isn't written stays out of a stop's reach: the blocks of the durable checkpoint, behind a call that answered or not.
+-- What isn't written stays out of a stop's reach: the blocks of the durable checkpoint, after a call that answered or not.
 use Rattle.std.proofs.Common.{◌≡◌, inl, inr, ℕ, ◌||◌, Bool, true, false, List, [], ◌∷◌, Some, refl, sym, ◌∙◌, ap, subst}
 use Rattle.std.proofs.lemmas.Bool.{or_parts, or_from, or_cases}
 use Rattle.df_base.specs.Image.{covers}

@@ -35,11 +35,11 @@ HadAnswers k base log s t old new acts answers None calls = HadReturned k base l
 HadAnswers k base log s t old new acts answers (Some a) calls = HadReturned k base log s old acts answers calls.0 calls.1 calls.2
 
 -- The first k calls of a session were answered by then, that is they had returned, by the log that began with this base. The program prints the line of an answer only
--- behind that, so what was printed by a moment was answered by then.
+-- after that, so what was printed by a moment was answered by then.
 abbrev pub WereAnswered : ℕ → Option Told → Log → CallsMade → Type 0
 WereAnswered k base log c = HadAnswers k base log c.from c.to c.old c.new c.acts c.answers c.failed c.calls
 
 -- At each moment of a session the log is safe, and whatever a stop leaves has the view after all calls that were answered by then, and perhaps some of those
--- behind them, from the first of these on.
+-- after them, from the first of these on.
 abbrev pub KeepsAnswered : DataFile → Grade → Work → Option Told → CallsMade → Type 0
 KeepsAnswered file g w base c = (k : ℕ) (log : Log) → WereAnswered k base log c → IsUntil (after_all (events_made c) base) log → IsMidway file g (work_after file w (take k c.acts)) (drop k c.acts ++ list_of c.failed) log

@@ -1,4 +1,4 @@
--- What is kept of a file behind the barrier of an open, whatever is done with it.
+-- What is kept of a file after the barrier of an open, whatever is done with it.
 use Rattle.std.specs.Prelude.{◌≡◌, List, [], ◌∷◌, ◌++◌, Option, Some, None}
 use Rattle.df_base.specs.Log.{Event, Sync}
 use Rattle.df_base.specs.Moments.{EachMoment, Extends}
@@ -13,7 +13,7 @@ use Rattle.df_result.specs.Serving.{Grade, format}
 use Rattle.df_result.specs.Session.{Act, IsMidway, LeavesEither, LeavesView, answers_of, work_after}
 use Rattle.df_session.specs.Links.{list_of}
 
--- what a base tells behind the barrier of an open and its mending, and behind what was done then
+-- what a base tells after the barrier of an open and its mending, and after what was done then
 abbrev pub over : (mending added : List Event) → (base : Told) → Option Told
 over mending added base = Some (told_after added (told_after mending (did Sync base)))
 
@@ -28,7 +28,7 @@ EndsTidy file w acts None n = IsTidy (shape file) (units_log (format file) n.log
 EndsTidy file w acts (Some a) n = Unit {0}
 
 -- From the barrier on, where the machine began with this state: at each moment the log is safe, and whatever a stop leaves has the view after some of the
--- acts, from the first on. At the end it has all that were answered, and no sector is loose of a block that the checkpoint behind them references, or of its trailer:
+-- acts, from the first on. At the end it has all that were answered, and no sector is loose of a block that the checkpoint after them references, or of its trailer:
 -- no stop changes one of these, sound or hurt.
 pub record KeepsFile (file : DataFile) (g : Grade) (w : Work) (t : Told) (acts : List Act) (answers : List Answer) (failed : Option Act) (told : Option Told) : Type 0 where
   pub after : Told

@@ -55,7 +55,7 @@ pub record Makes (command : Command) (s t : Replica) (old new : Option Told) (an
 
 -- ---- all of a session
 
--- these calls were made and answered, one after the other, and behind them one was not, if there is one
+-- these calls were made and answered, one after the other, and after them one was not, if there is one
 pub record CallsMade : Type 0 where
   pub from : Replica
   pub to : Replica

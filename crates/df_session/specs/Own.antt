@@ -18,7 +18,7 @@ abbrev pub running_events : Replica → Option RunningState → List Event
 running_events s None = []
 running_events s (Some r) = step_events s r
 
--- The device calls of a command from this state of a replica, each once and in this order: an append writes its prepare and then its header sector, each with a sync behind it, a flush
+-- The device calls of a command from this state of a replica, each once and in this order: an append writes its prepare and then its header sector, each with a sync after it, a flush
 -- writes the prepares of its group, syncs, writes their one or two header sectors and syncs, a reply writes its client's slot and syncs, a write of a block is one write. There is none
 -- where the command is refused, and none of a stage, a release, a begin and a read.
 abbrev pub own_events : Command → Replica → List Event
@@ -29,7 +29,7 @@ own_events (WriteBlock kind body) s = unless_refused (first_refusal (block_refus
 own_events Advance s = running_events s s.running
 own_events command s = []
 
--- What is told behind a call is what was told before it and these alone: all of them where it was answered, and the first of them, or none, where it wasn't.
+-- What is told after a call is what was told before it and these alone: all of them where it was answered, and the first of them, or none, where it wasn't.
 abbrev pub AddsOwn : Command → Replica → (old new : Option Told) → Option Answer → Type 0
 AddsOwn command s old new None = AddsPart (own_events command s) old new
 AddsOwn command s old new (Some answer) = new ≡ after_all (own_events command s) old

@@ -15,7 +15,7 @@ SpareHeld file s old w [] answers t new are = Unit {0}
 SpareHeld file s old w (a ∷ acts) [] t new are = Unit {0}
 SpareHeld file s old w (a ∷ acts) (x ∷ answers) t new are = SparesHeld file a.command w are.2.call.events × SpareHeld file are.0 are.1 (next file w a.given a.command).0 acts answers t new are.3
 
--- and so does the one behind them that was not answered
+-- and so does the one after them that was not answered
 abbrev pub AllSpareHeld : DataFile → (s t : Replica) → (old new : Option Told) → Work → (acts : List Act) → (answers : List Answer) → (failed : Option Act) → EndsCalls s t old new acts answers failed → Type 0
 AllSpareHeld file s t old new w acts answers None ends = SpareHeld file s old w acts answers t new ends
 AllSpareHeld file s t old new w acts answers (Some a) ends = SpareHeld file s old w acts answers ends.0 ends.1 ends.2 × SparesHeld file a.command (work_after file w acts) ends.3.call.events

@@ -20,7 +20,7 @@ copy_put f usable n below = record {
   alone = λ m away. single n m (copy_bytes n f) (one_sector n f usable.fits).sector.size away;
 }
 
--- the copy behind a content that is shown
+-- the copy after a content that is shown
 copy_of_shown : (n : ℕ) (o : Option SuperCopy) (c : Content) → content_of (if_here n o) ≡ Some c → (copy : SuperCopy) × (o ≡ Some copy) × (c ≡ record { checksum = copy.checksum; fields = copy.fields })
 copy_of_shown n None c is = absurd (let no : None ≡ Some c = is in cc)
 copy_of_shown n (Some copy) c is = go (copy.number == n) refl

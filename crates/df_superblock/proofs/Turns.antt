@@ -29,7 +29,7 @@ module _ (copies : Copies) (old new : Content) (i : ℕ) (less : rank_of old < r
   new_is_other : old ≡ new → ⊥
   new_is_other same = omega (arith, ap rank_of same)
 
-  -- copy 1 has its turn behind copy 0
+  -- copy 1 has its turn after copy 0
   zeroth : copies 1 ≡ Some new → copies 0 ≡ Some new
   zeroth one = elim (cases_lt 0 i) [
     | inl some ↦ around.before 0 some (omega arith)
@@ -63,7 +63,7 @@ module _ (copies : Copies) (old new : Content) (i : ℕ) (less : rank_of old < r
         | inr same ↦ inl same
       ])
 
--- ---- moments: the copies before i are new, those behind it are old, and none of them is loose
+-- ---- moments: the copies before i are new, those after it are old, and none of them is loose
 
 pub record IsTurn (log : Log) (old new : Content) (i : ℕ) : Type 0 where
   pub around : AreAround (content_at (now log)) old new i

@@ -1,4 +1,4 @@
--- Behind a line the table has no more rows than it may, and the session may take the next line.
+-- After a line the table has no more rows than it may, and the session may take the next line.
 use Rattle.std.proofs.Common.{◌≡◌, inl, inr, ℕ, ◌+◌, ◌-◌, ◌*◌, ◌<◌, ◌≤◌, Bool, true, false, IsTrue, List, [], ◌∷◌, length, Option, Some, None, Result, Ok, Err, cond, refl, sym, ◌∙◌, ap, subst, arith}
 use Rattle.std.specs.FinMap as map
 use Rattle.std.specs.FinMap.{len-insert, len-remove}
@@ -53,7 +53,7 @@ put_few t key value room few =
 pub drop_few : (t : Table) (key : ℕ) → map.len t.rows ≤ t.max → map.len (map.remove t.rows key) ≤ t.max
 drop_few t key few = subst (λ (n : ℕ). n ≤ t.max) (sym (len-remove nat_cmp_total t.rows key)) (remove_case (map.contains_key t.rows key) (map.len t.rows) t.max few)
 
--- the table behind a line
+-- the table after a line
 pub record HasFew (max : ℕ) (t : Table) : Type 0 where
   pub max_is : t.max ≡ max
   pub few : map.len t.rows ≤ max
@@ -70,7 +70,7 @@ behind_few t (Drop key) few = by_refusal t (commands.Drop key ∷ []) (refusal_o
 behind_few t (Get key) few = subst (λ (cs : List Command). HasFew t.max (with_commands cs t)) (sym (get_none t key)) (record { max_is = refl; few = few })
 behind_few t Count few = record { max_is = refl; few = few }
 
--- behind a line that was executed the table is as it has to be
+-- after a line that was executed the table is as it has to be
 pub steady_behind : (layout : Layout) (s t : Replica) (table later : Table) (said : Said) → IsSteady layout s table → IsReady layout t → later ≡ behind table said → IsSteady layout t later
 steady_behind layout s t table later said steady ready is =
     let few = behind_few table said (subst (λ (n : ℕ). map.len table.rows ≤ n) (sym steady.max) steady.few) in

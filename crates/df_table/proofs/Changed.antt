@@ -59,7 +59,7 @@ module _ (layout : Layout) (rows : Map) (c : Change) (s : Replica) where
   pub room_ends : (T : Type 0) (t : Replica) (old new : Option Told) (ending : Ending) → MakesRoom {T = Unit {0}} layout rows s t old new (Err ending) → Changes {T = T} layout rows c s t old new (Err ending)
   room_ends T t old new ending ends = (ends.0, end_front (room_for layout (memory s) rows ends.0) (request (memory s) c) s t old new ending ends.1)
 
-  -- behind it, the head and the sessions are those of before
+  -- after it, the head and the sessions are those of before
   same_request : (u : Replica) → HasRoom layout s u → request (memory u) c ≡ request (memory s) c
   same_request u room =
       ap (λ (ss : List Session). Append the_client (next_request (session_of_client the_client ss)) (body_of c) ∷ Reply (u.head + 1) [] ∷ []) room.sessions

@@ -50,7 +50,7 @@ use Rattle.df_table.proofs.Written.{table_shown}
 one_told : (o : Option Told) (a b : Told) → o ≡ Some a → o ≡ Some b → a ≡ b
 one_told o a b one two = let both : Some a ≡ Some b = sym one ∙ two in cc
 
--- what is told behind events
+-- what is told after events
 pub goes : (es : List Event) (t n : Told) → Some n ≡ after_all es (Some t) → Goes t n
 goes es t n is = let all = goes_by es t (Some n) is in subst (λ (x : Told). Goes t x) (one_told (Some n) all.0 n all.1 refl) all.2
 
@@ -89,7 +89,7 @@ module _ (file : DataFile) where
   order_seen : (chapters : List Chapter) (log : Log) → Order chapters log → EachSeen file log
   order_seen chapters log order image left chance = let has = order.left image left chance in record { view = has.view; held = has.held; stands = has.stands; own = has.own }
 
-  -- behind a run
+  -- after a run
   mid_order : (chapters : List Chapter) (before : Table) (c : Chapter) (log : Log) → MayHave file.layout chapters before → EachSeen file log → IsMidway file (with_commands c.kept before) c.perhaps log → Order (c ∷ chapters) log
   mid_order chapters before c log had seen mid = record {
     safe = mid.safe;

@@ -1,4 +1,4 @@
--- A checkpoint of the table from its writes to its end: it may be begun, and behind it the ring has room.
+-- A checkpoint of the table from its writes to its end: it may be begun, and after it the ring has room.
 use Rattle.std.proofs.Common.{◌≡◌, ℕ, ◌+◌, ◌*◌, ◌≤◌, true, List, [], ◌∷◌, ◌++◌, length, Option, Some, None, Result, Ok, Err, refl, sym, ◌∙◌, ap, subst, arith, le-ltb, length-take}
 use Rattle.std.specs.Prelude.{OnOk, replicate}
 use Rattle.df_disk.specs.Told.{Told}
@@ -72,7 +72,7 @@ module _ (layout : Layout) (s t : Replica) (e : IsEmptied layout s t) (n : ℕ) 
         omega (arith, fits, layout.blocks_within, e.ready.space.few, e.ready.space.chain, ap (λ (v : Replica). length v.blocks.live) e.state, ap (λ (v : Replica). length v.blocks.durable) e.state, ap (λ (v : Replica). length v.blocks.chain) e.state);
   }
 
-  -- ---- behind them
+  -- ---- after them
 
   module _ (u : Replica) (wrote : WroteBlocks n t u) where
     base : u ≡ record s { blocks = record s.blocks { live = u.blocks.live } }
@@ -98,7 +98,7 @@ module _ (layout : Layout) (s t : Replica) (e : IsEmptied layout s t) (n : ℕ) 
         may_begin u (idle_runs u (ap (λ (v : Replica). v.running) base ∙ no_running s s.running e.ready.own.idle))
         (omega (arith, enough, blocks, half_needed, few_live, layout.blocks_within, e.ready.space.few, e.ready.space.chain, ap (λ (v : Replica). length v.blocks.durable) base, ap (λ (v : Replica). length v.blocks.chain) base))
 
-    -- ---- behind the checkpoint
+    -- ---- after the checkpoint
 
     pub room_there : (v : Replica) → IsFinished (captured u []) (begun u []) v → v.live ≡ true → (w : Work) → Keeps Firm v w None → HasRoom layout s v
     room_there v done live w keeps = record {

@@ -1,4 +1,4 @@
--- The prepares behind the checkpoint are applied one after the other, in order of op: what the opening has found behind each.
+-- The prepares after the checkpoint are applied one after the other, in order of op: what the opening has found after each.
 use Rattle.std.proofs.Common.{◌≡◌, inl, inr, ℕ, ◌+◌, ◌<◌, Bool, true, false, List, [], ◌∷◌, ◌++◌, length, Ok, Err, refl, sym, ◌∙◌, ap, subst, arith, length-append}
 use Rattle.df_layout.specs.declared.layout.Layout.{Layout}
 use Rattle.df_layout.specs.declared.places.Place.{Place}
@@ -22,7 +22,7 @@ prepares_more shown m op at [] p is are one = (subst (λ (k : ℕ). message_give
 prepares_more shown m op at (q ∷ ps) p is are one = (are.0, prepares_more shown m (op + 1) at ps p (omega (arith, is)) are.1 one)
 
 module _ (layout : Layout) (shown : Shown) (m : Memory) where
-  -- none is behind the checkpoint's op
+  -- none is after the checkpoint's op
   pub followed_none : (t : Table) → AreTaken layout shown m [] t → AreFollowed layout shown m m.content.op t
   followed_none t taken = record { base = t; blocks = taken; prepares = []; upto = omega arith; read = tt; commands = []; follow = tt; is = refl }
 

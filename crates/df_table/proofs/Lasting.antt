@@ -76,7 +76,7 @@ module _ (file : DataFile) where
       → HasTable file t image
   has_table log image v t chance held stands is = record { view = v; held = held; table = table_shown (units_log (format file) log) ((format file).unit_at image) chance file v t stands is }
 
-  -- one of two views, of which the first one has the table, and the second one that behind some of the changes
+  -- one of two views, of which the first one has the table, and the second one that after some of the changes
   pub mid_of : (log : Log) (v u : View) (t : Table) (changes : List Change) (m : ℕ) → IsTableIn file (units_log (format file) log) v t → IsTableIn file (units_log (format file) log) u (with_commands (take m changes) t)
       → IsGoodWholeDisk (format file) (shape file) v u log → IsMidway file t changes log
   mid_of log v u t changes m first second good = record {
@@ -99,7 +99,7 @@ module _ (file : DataFile) where
             (0, subst (λ (x : Table). HasTable file x image) (sym (none_taken t changes)) (has_table n.log image some.0 t chance some.2.0 some.2.1 (table_bare file (units_log (format file) n.log) (kept w) some.0 t some.1.parts some.1.tail is.table)));
       }
 
-  -- more changes behind, and some before
+  -- more changes after, and some before
   take_front : (m : ℕ) (some more : List Change) → (k : ℕ) × (take k (some ++ more) ≡ take m some)
   take_front zero [] more = (0, none more)
     where
@@ -138,13 +138,13 @@ module _ (file : DataFile) where
 
 -- ---- calls
 
--- a call that has no answer, where there is one: the view behind it has the table of before, or that behind its command
+-- a call that has no answer, where there is one: the view after it has the table of before, or that after its command
 abbrev pub FailKept : (file : DataFile) (failed : Option Act) (w : Work) (n : Told) (t : Table) → Type 0
 FailKept file None w n t = Unit {0}
 FailKept file (Some a) w n t =
     (pending : List Change) → Changes a.command (ToAppend (Ok (0, 0))) pending → (m : ℕ) × IsTableIn file (units_log (format file) n.log) (kept (next file w a.given a.command).0) (with_commands (take m pending) t)
 
--- one call after the other, from a state with this table: what was written before each has the table of the view behind it
+-- one call after the other, from a state with this table: what was written before each has the table of the view after it
 abbrev pub AreKept : (file : DataFile) (failed : Option Act) (w : Work) (n : Told) (t : Table) (s : Replica) (old : Option Told) (acts : List Act) (answers : List Answer) (u : Replica) (new : Option Told) → AreCalls s old acts answers u new → Type 0
 AreKept file failed w n t s old [] [] u new calls = FailKept file failed w n t
 AreKept file failed w n t s old [] (x ∷ answers) u new calls = Unit {0}
@@ -154,7 +154,7 @@ AreKept file failed w n t s old (a ∷ acts) (x ∷ answers) u new calls =
     → IsTableIn file (units_log (format file) n.log) (kept (next file w a.given a.command).0) (with_commands some t)
     × AreKept file failed (next file w a.given a.command).0 (told_after calls.2.call.events n) (with_commands some t) calls.0 calls.1 acts answers u new calls.3
 
--- behind an answered call
+-- after an answered call
 pub at_behind : (file : DataFile) (a : Act) (s u : Replica) (old mid : Option Told) (x : Answer) (w : Work) (n : Told) (t v : Table) → At file s w n t → (c : Calls a s u old mid (Some x))
     → IsTableIn file (units_log (format file) n.log) (kept (next file w a.given a.command).0) v → At file u (next file w a.given a.command).0 (told_after c.call.events n) v
 at_behind file a s u old mid x w n t v is c table = record {
@@ -192,7 +192,7 @@ module _ (file : DataFile) (failed : Option Act) (u to : Replica) (mid new : Opt
   abbrev all_told : (s : Replica) (old : Option Told) (acts : List Act) (answers : List Answer) → AreCalls s old acts answers u mid → Told → Told
   all_told s old acts answers calls n = last_told (told_after (events_of s old acts answers u mid calls) n)
 
-  -- those of one call and of those behind it
+  -- those of one call and of those after it
   moments_on : (a : Act) (s r : Replica) (old one : Option Told) (x : Answer) (w : Work) (n after : Told) (t : Table) (some more : List Change) → At file s w n t → (c : Calls a s r old one (Some x))
       → IsTableIn file (units_log (format file) n.log) (kept (next file w a.given a.command).0) (with_commands some t) → Extends after.log (told_after c.call.events n).log
       → EachMoment (told_after c.call.events n).log after.log (IsMidway file (with_commands some t) more) → EachMoment n.log after.log (IsMidway file t (some ++ more))

@@ -23,7 +23,7 @@ follow_more t [] (d ∷ cs) p c all one = absurd all
 follow_more t (q ∷ ps) [] p c all one = absurd all
 follow_more t (q ∷ ps) (d ∷ cs) p c all one = (all.0, follow_more (with_command d t) ps cs p c all.1 one)
 
--- behind an append whose body is a command's, for which there is room
+-- after an append whose body is a command's, for which there is room
 pub table_appended : (file : DataFile) (log : UnitLog) (v u : View) (t : Table) (p : Message) (c : Command) → u.checkpoint ≡ v.checkpoint → u.tail ≡ v.tail ++ p ∷ [] → Follows t p.body c → IsTableIn file log v t → IsTableIn file log u (with_command c t)
 table_appended file log v u t p c same longer follows is = record {
   bodies = is.bodies;
@@ -49,11 +49,11 @@ table_bare file log v u t parts tail is = record {
   is = is.is;
 }
 
--- behind a call that leaves the checkpoint and the tail
+-- after a call that leaves the checkpoint and the tail
 pub table_stays : (file : DataFile) (log : UnitLog) (v u : View) (t : Table) → u.checkpoint ≡ v.checkpoint → u.tail ≡ v.tail → IsTableIn file log v t → IsTableIn file log u t
 table_stays file log v u t same tail is = table_bare file log v u t (ap (λ (c : Checkpoint). c.parts) same) tail is
 
--- behind a checkpoint whose references were written with the bodies of the table's blocks, and behind which the tail is empty
+-- after a checkpoint whose references were written with the bodies of the table's blocks, and after which the tail is empty
 pub table_finished : (file : DataFile) (log : UnitLog) (u : View) (t : Table) → t.max ≡ most_rows file.layout → map.len t.rows ≤ t.max → All IsEntry (map.entries t.rows) → length (bodies_of (rows_in_block file.layout) (map.entries t.rows)) ≤ blocks_of_table file.layout
     → WroteBodies log (references_of file u) (bodies_of (rows_in_block file.layout) (map.entries t.rows)) → u.tail ≡ [] → IsTableIn file log u t
 table_finished file log u t max few fit blocks wrote empty = record {

@@ -32,7 +32,7 @@ left_by log changes is loose = record {
   kept = λ sector firm. changed_kept log.events changes (now log) sector loose firm;
 }
 
--- behind it nothing is loose, so that another one leaves the same
+-- after it nothing is loose, so that another one leaves the same
 stopped : (file : DataFile) (chapters : List Chapter) (t : Told) (changes : List (ℕ × List ℕ)) → file.version ≡ 2 → IsSafeDisk (format file) (shape file) t.log → IsHonest t → AreLoose t.log.events changes → NoChanceOf (format file) t.log (changed changes (now t.log))
     → Has file chapters (changed changes (now t.log)) → InOrder file chapters (did (Stop changes) t)
 stopped file chapters t changes version safe honest loose chance there = record {

@@ -33,7 +33,7 @@ err_one A E r a b one two = let same : Err a ≡ Err b = sym one ∙ two in let 
 module _ (shown : Shown) (m : Memory) where
   -- ---- blocks
 
-  -- the first of blocks that are read, and those behind it
+  -- the first of blocks that are read, and those after it
   record BlockHead (x : ℕ × ℕ) (xs : List (ℕ × ℕ)) (t u : Table) : Type 0 where
     block : Block
     read : block_read shown m (ReadBlock x.0) ≡ Ok block

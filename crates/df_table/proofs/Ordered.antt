@@ -1,4 +1,4 @@
--- Behind a checkpoint of a table that was done the disk shows its rows in the referenced blocks, in their order.
+-- After a checkpoint of a table that was done the disk shows its rows in the referenced blocks, in their order.
 use Rattle.std.proofs.Common.{◌≡◌, ℕ, zero, suc, ◌||◌, Bool, if◌then◌else◌, List, [], ◌∷◌, ◌++◌, append-nil, append_assoc, map, Option, Some, None, refl, sym, ◌∙◌, ap, subst, arith, eq-eqb, ne_eqb}
 use Rattle.std.specs.FinMap as maps
 use Rattle.std.specs.Prelude.{All, replicate}

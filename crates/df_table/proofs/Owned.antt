@@ -142,7 +142,7 @@ module _ (file : DataFile) where
   view_seen : (w : Work) (image : Image) → OwnWork w → HasView file Whole w image → Seen image
   view_seen w image own has = record { view = has.0; held = has.2.0; stands = has.2.1; own = own_bare (kept w) has.0 has.1 own.view }
 
-  -- behind some of these acts
+  -- after some of these acts
   pub some_seen : (acts : List Act) (w : Work) (image : Image) → ActsHave acts → OwnWork w → HoldsSome file Whole w acts image → Seen image
   some_seen [] w image have own has = view_seen w image own has
   some_seen (a ∷ acts) w image have own (inl has) = view_seen w image own has

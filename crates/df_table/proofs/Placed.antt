@@ -34,7 +34,7 @@ entry_before : (s : ℕ) (o : Option ℕ) (rest : List (ℕ × ℕ)) (x : ℕ ×
 entry_before s None rest x = refl
 entry_before s (Some c) rest x = refl
 
--- an entry behind all others
+-- an entry after all others
 module _ (f : ℕ → Option ℕ) (a c : ℕ) where
   abbrev with_last : ℕ → Option ℕ
   with_last y = if y == a then Some c else f y

@@ -1,4 +1,4 @@
--- A prepare behind the checkpoint that is read: the call that was made, and what the opening finds by it.
+-- A prepare after the checkpoint that is read: the call that was made, and what the opening finds by it.
 use Rattle.std.proofs.Common.{◌≡◌, ◌+◌, ◌<◌, ◌≤◌, ◌%◌, ◌&&◌, inr, ℕ, Bool, true, not, nat_le, nat_lt, List, [], ◌∷◌, Option, Some, None, refl, sym, ◌∙◌, ap, subst, Result, Ok, Err, lt-ltb, le-leb}
 use Rattle.std.proofs.lemmas.Option.{none-some}
 use Rattle.df_base.specs.Causes.{Blamed}

@@ -1,4 +1,4 @@
--- All live blocks are released, address by address: behind each address those above it are left.
+-- All live blocks are released, address by address: after each address those above it are left.
 use Rattle.std.proofs.Common.{◌≡◌, ℕ, suc, ◌+◌, ◌-◌, ◌<◌, Bool, if◌then◌else◌, List, [], ◌∷◌, ◌++◌, map, Option, Some, None, Result, refl, sym, ◌∙◌, ap, subst, arith, eq-eqb}
 use Rattle.std.specs.List.{range_with_len}
 use Rattle.df_disk.specs.Told.{Told}

@@ -70,7 +70,7 @@ module _ (file : DataFile) (from to : Replica) (old new : Option Told) (acts : L
       from_answer file (Some a) calls.0 to calls.1 new pending is calls.3 k acts answers from old calls.2 w n t some more log at (kept calls.0 calls.1 calls.2) before after had
       (subst (λ (o : Told). Extends o.log log) (told_append (events_of from old acts answers calls.0 calls.1 calls.2) calls.3.call.events n) until)
 
--- ---- behind an open
+-- ---- after an open
 
 module _ (t : Told) (s : Replica) (mended : Option Told) (over : MendsAll t s mended) (whole : IsImage t.shown) (live : s.live ≡ true) where
   abbrev begins : Told → Told
@@ -124,7 +124,7 @@ module _ (t : Told) (s : Replica) (mended : Option Told) (over : MendsAll t s me
 
 -- ---- a session
 
--- what is told before its calls, and behind them
+-- what is told before its calls, and after them
 pub called_told : (layout : Layout) (s : Replica) (told : Option Told) (old new : Outside) (status : Status) (opened : Result Table Ending) (serves : Serves layout s told old new status opened) (c : CallsMade) → AreCallsOf layout s told old new status opened serves c → (c.old ≡ told) × (c.new ≡ new.told)
 called_told layout s told old new status opened (NotOpened ending last ends unread writes) c are = (are.1, are.2)
 called_told layout s told old new status opened (Served found r mid opens lines) c are = (are.1, are.2)

@@ -1,4 +1,4 @@
--- At the barrier of an open the table of the file is that of its view, and so it is by each log that shows what was shown then, at each moment of the mending, and behind it.
+-- At the barrier of an open the table of the file is that of its view, and so it is by each log that shows what was shown then, at each moment of the mending, and after it.
 use Rattle.std.proofs.Common.{◌≡◌, ◌⊎◌, inl, inr, ℕ, zero, suc, ◌+◌, ◌<◌, ◌≤◌, ◌||◌, true, List, [], ◌∷◌, Option, Some, None, refl, sym, ◌∙◌, ap, subst, arith}
 use Rattle.std.specs.List.{range_with_len}
 use Rattle.std.proofs.lemmas.Bool.{cases_eq}
@@ -93,7 +93,7 @@ module _ (t : Told) (s : Replica) (mended : Option Told) (over : MendsAll t s me
   at_barrier : IsTableIn s.file (units_log (format s.file) (did Sync base).log) view table
   at_barrier = table_later s.file base.log (did Sync base).log view table (Sync ∷ [], refl, refl) at_base
 
-  -- behind the open the table is there
+  -- after the open the table is there
   pub at_begin : At s.file s work behind table
   at_begin = record {
     same = refl;
@@ -102,7 +102,7 @@ module _ (t : Told) (s : Replica) (mended : Option Told) (over : MendsAll t s me
     table = table_later s.file (did Sync base).log behind.log (kept work) table (grew over.mending.events (did Sync base)) (table_bare s.file (units_log (format s.file) (did Sync base).log) view (kept work) table refl refl at_barrier);
   }
 
-  -- and so it is at each moment of its mending, whatever is done behind it
+  -- and so it is at each moment of its mending, whatever is done after it
   pub mending_moments : (changes : List Change) → EachMoment (did Sync base).log behind.log (IsMidway s.file table changes)
   mending_moments changes log moment =
       let opens = over.over Whole view base same may stands in

@@ -100,6 +100,6 @@ dropped A [] (suc n) all = refl
 dropped A (x ∷ xs) zero all = absurd (omega (arith, all))
 dropped A (x ∷ xs) (suc n) all = dropped A xs n (omega (arith, all))
 
--- behind the last step, where all of the tail was captured, none of it is left
+-- after the last step, where all of the tail was captured, none of it is left
 pub none_left : (op : ℕ) (v : View) → op ≡ head v → drop (op - v.checkpoint.content.op) v.tail ≡ []
 none_left op v is = dropped Message v.tail (op - v.checkpoint.content.op) (omega (arith, is))

@@ -1,4 +1,4 @@
--- Steps of a checkpoint: each but the last leaves one block less to write, and behind the last none runs.
+-- Steps of a checkpoint: each but the last leaves one block less to write, and after the last none runs.
 use Rattle.std.proofs.Common.{◌≡◌, ◌≢◌, ◌<◌, ◌+◌, ℕ, true, false, List, [], ◌∷◌, length, Option, Some, None, refl, sym, ◌∙◌, ap, subst, arith}
 use Rattle.std.specs.Prelude.{replicate}
 use Rattle.std.proofs.lemmas.List.{replicate_more}

@@ -1,4 +1,4 @@
--- Behind an append of the client's and the reply to it a replica is as ready as before.
+-- After an append of the client's and the reply to it a replica is as ready as before.
 use Rattle.std.proofs.Common.{◌≡◌, ℕ, zero, suc, ◌+◌, Bool, if◌then◌else◌, List, [], ◌∷◌, Option, Some, None, refl, sym, ◌∙◌, ap, subst, eq-eqb}
 use Rattle.std.proofs.lemmas.Option.{none-some}
 use Rattle.df_disk.specs.Told.{Told}
@@ -23,7 +23,7 @@ use Rattle.df_table.proofs.Fine.{AreOwn}
 
 -- ---- what calls lead to
 
--- behind calls that were made the replica stands for a state of the machine
+-- after calls that were made the replica stands for a state of the machine
 acts_keep : (acts : List Act) (answers : List Answer) (s t : Replica) (old new : Option Told) → AreCalls s old acts answers t new → (w : Work) → Keeps Firm s w None → (u : Work) × Keeps Firm t u None
 acts_keep [] [] s t old new calls w keeps = (w, subst (λ (r : Replica). Keeps Firm r w None) (sym calls.0) keeps)
 acts_keep [] (x ∷ answers) s t old new calls w keeps = absurd calls
@@ -64,7 +64,7 @@ reply_own (suc place) check [] own = tt
 reply_own zero check (x ∷ ss) own = (own.0, own.1)
 reply_own (suc place) check (x ∷ ss) own = (own.0, reply_own place check ss own.1)
 
--- ---- the state behind both
+-- ---- the state after both
 
 module _ (layout : Layout) (s : Replica) (ready : IsReady layout s) (request : ℕ) (body : List ℕ) (h : Header) where
   abbrev behind : Replica

@@ -21,7 +21,7 @@ use Rattle.df_table.proofs.Walked.{Asks, KeptAll, walk_change, walk_plain}
 
 -- ---- a replica's own state
 
--- behind calls it stands for the state that their acts lead to
+-- after calls it stands for the state that their acts lead to
 pub acts_stand : (file : DataFile) (acts : List Act) (answers : List Answer) (s t : Replica) (old new : Option Told) → AreCalls s old acts answers t new → (w : Work) → s.file ≡ file → Keeps Firm s w None → (t.file ≡ file) × Keeps Firm t (work_after file w acts) None
 acts_stand file [] [] s t old new calls w same keeps = (ap (λ (r : Replica). r.file) calls.0 ∙ same, subst (λ (r : Replica). Keeps Firm r w None) (sym calls.0) keeps)
 acts_stand file [] (x ∷ answers) s t old new calls w same keeps = absurd calls
@@ -41,7 +41,7 @@ module _ (file : DataFile) (failed : Option Act) (u : Replica) (new : Option Tol
   by_lists s old w n t acts others answers more same alike kept_all =
       subst (λ (l : List Act). KeptAll file failed u new s old w n t l answers) (sym same) (subst (λ (l : List Answer). KeptAll file failed u new s old w n t others l) (sym alike) kept_all)
 
-  -- what is done behind a list of commands
+  -- what is done after a list of commands
   module _ (part : Type 0) (fl : Option Act) (more : List Act) (others : List Answer) (end : Work)
       (stop : part → (s : Replica) (old : Option Told) (w : Work) (n : Told) (t : Table) → At file s w n t → FailKept file fl w n t → KeptAll file failed u new s old w n t more others) where
     abbrev On : (Work → Told → Table → Type 0) → List Command → Type 0
@@ -93,13 +93,13 @@ module _ (file : DataFile) (failed : Option Act) (u : Replica) (new : Option Tol
         to_end
         (walk_line (Unit {0}) failed [] [] end stop_last t m steps cs one fit (behind_all (Unit {0}) failed [] [] end stop_last (λ v o z. z ≡ with_commands cs t) (at_last (λ v o z. z ≡ with_commands cs t))) s old w n t acts answers at (refl, is) asks refl)
 
-  -- ---- commands that were all made, and what was done behind them
+  -- ---- commands that were all made, and what was done after them
 
   module _ (s : Replica) (old : Option Told) (w : Work) (n : Told) (t : Table) (at : At file s w n t) (acts : List Act) (answers : List Answer) (more : List Act) (others : List Answer) where
     abbrev whole : Work
     whole = work_after file w acts
 
-    -- so it goes on behind them, with this table
+    -- so it goes on after them, with this table
     abbrev Then : Table → Type 0
     Then v = (s : Replica) (old : Option Told) (w : Work) (n : Told) (t : Table) → At file s w n t → t ≡ v → w ≡ whole → KeptAll file failed u new s old w n t more others
 

@@ -1,4 +1,4 @@
--- The referenced blocks are taken one after the other, in order of address: what the opening has found behind each.
+-- The referenced blocks are taken one after the other, in order of address: what the opening has found after each.
 use Rattle.std.proofs.Common.{◌≡◌, inl, inr, ℕ, suc, ◌+◌, ◌-◌, ◌<◌, ◌≤◌, List, [], ◌∷◌, ◌++◌, length, map, Option, Some, None, Result, Ok, Err, refl, sym, ◌∙◌, ap, subst, arith, append_assoc, length-append}
 use Rattle.std.specs.List.{range_with_len}
 use Rattle.df_layout.specs.declared.layout.Layout.{Layout}

@@ -52,12 +52,12 @@ module _ (layout : Layout) where
   turns_more (x ∷ turns) s u w old mid new t v later said are e =
       (are.0, are.1, are.2, are.3, are.4, are.5, are.6, turns_more turns are.0 u w are.1 mid new (behind t x.said) v later said are.7 e)
 
-  -- the table behind them
+  -- the table after them
   table_is : (turns : List Turn) (s u : Replica) (old new : Option Told) (t v : Table) → AreTurns layout s old t turns u new v → v ≡ all_behind t (all_said turns)
   table_is [] s u old new t v are = are.2
   table_is (x ∷ turns) s u old new t v are = table_is turns are.0 u are.1 new (behind t x.said) v are.7
 
--- what the text, the budget and the lines are behind a line
+-- what the text, the budget and the lines are after a line
 pub record Takes (bound : ℕ) (old : State) (said : Said) (text : Option (List ℕ)) (budget : ℕ) (rest : List ℕ) : Type 0 where
   pub line : IsLine Says bound old.budget rest said
   pub rest_is : text ≡ Some (after_line rest)

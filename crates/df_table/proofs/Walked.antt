@@ -89,13 +89,13 @@ module _ (file : DataFile) where
       subst (λ (l : List Change). IsTableIn file (log_of n) (kept (next file w a.given a.command).0) (with_commands l t)) (sym none)
       (table_stays file (log_of n) (kept w) (kept (next file w a.given a.command).0) t same.checkpoint same.tail table)
 
-  -- of some commands, with these acts behind them; where their acts end before them, so it is by `stop`
+  -- of some commands, with these acts after them; where their acts end before them, so it is by `stop`
   module _ (failed : Option Act) (u : Replica) (new : Option Told) (part : Type 0) (fl : Option Act) (more : List Act) (others : List Answer) (end : Work)
       (stop : part → (s : Replica) (old : Option Told) (w : Work) (n : Told) (t : Table) → At file s w n t → FailKept file fl w n t → KeptAll file failed u new s old w n t more others) where
     abbrev All : (s : Replica) (old : Option Told) (w : Work) (n : Told) (t : Table) → List Act → List Answer → Type 0
     All s old w n t acts answers = KeptAll file failed u new s old w n t (acts ++ more) (answers ++ others)
 
-    -- what may be said behind all of some commands: so it goes on
+    -- what may be said after all of some commands: so it goes on
     abbrev Behind : (Work → Told → Table → Type 0) → List Command → Type 0
     Behind P cs =
         (s : Replica) (old : Option Told) (w : Work) (n : Told) (t : Table) (acts : List Act) (answers : List Answer) → At file s w n t → P w n t → Asks part fl cs acts answers → work_after file w acts ≡ end → All s old w n t acts answers
@@ -294,7 +294,7 @@ module _ (file : DataFile) where
       abbrev prepare : Work → ℕ → Message
       prepare w sum = prepare_of (memory_of (shape file) (spelling file) w) sum the_client request (body_of c)
 
-      -- what is appended has the table behind the command
+      -- what is appended has the table after the command
       appended_there : (w : Work) (n : Told) (t : Table) (sum : ℕ) → t ≡ t0 → IsTableIn file (log_of n) (kept w) t → IsTableIn file (log_of n) (kept (with_prepare w (prepare w sum))) (with_command c t)
       appended_there w n t sum is table =
           table_appended file (log_of n) (kept w) (kept (with_prepare w (prepare w sum))) t (prepare w sum) c refl refl (record { body_is = refl; fits = fits; room = subst (λ (z : Table). CanApply z c) (sym is) can }) table

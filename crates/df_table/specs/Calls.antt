@@ -60,7 +60,7 @@ done_of answer = false
 
 -- ---- states
 
--- behind a step, by whether the checkpoint is done
+-- after a step, by whether the checkpoint is done
 abbrev pub Stepped : Bool → (s t : Replica) → Type 0
 Stepped false s t = OfRunning s.running (λ r. (s.blocks.left ≢ []) × (t ≡ advanced s r))
 Stepped true s t = OfRunning s.running (λ r. (s.blocks.left ≡ []) × (t ≡ finished s r))
@@ -71,7 +71,7 @@ Stepped true s t = OfRunning s.running (λ r. (s.blocks.left ≡ []) × (t ≡ f
 abbrev pub Advances : {T : Type 0} → (s t : Replica) → (old new : Option Told) → Result T Ending → Type 0
 Advances s t old new result = (n : ℕ) × Comes (replicate n Advance) s t old new result
 
--- a checkpoint without a root is begun, with so many steps behind it
+-- a checkpoint without a root is begun, with so many steps after it
 abbrev pub Concludes : {T : Type 0} → (s t : Replica) → (old new : Option Told) → Result T Ending → Type 0
 Concludes s t old new result = (steps : ℕ) × Comes (Begin [] ∷ replicate steps Advance) s t old new result
 

@@ -1,4 +1,4 @@
--- What is kept of the table of a file behind the barrier of an open: the puts and drops that were answered are there from their answers on, wherever a stop falls.
+-- What is kept of the table of a file after the barrier of an open: the puts and drops that were answered are there from their answers on, wherever a stop falls.
 use Rattle.std.specs.Prelude.{◌≡◌, ℕ, List, [], ◌∷◌, ◌++◌, take, drop, Option, Some, None, Ok}
 use Rattle.df_base.specs.Image.{Image}
 use Rattle.df_base.specs.Log.{Event, IsLeft, Log, Sync}
@@ -39,12 +39,12 @@ IsPending (Some a) changes = Changes a.command (ToAppend (Ok (0, 0))) changes
 
 -- ---- moments
 
--- the log is safe, and whatever a stop leaves, under no chance, has the table behind some of these puts and drops, from the first on
+-- the log is safe, and whatever a stop leaves, under no chance, has the table after some of these puts and drops, from the first on
 pub record IsMidway (file : DataFile) (t : Table) (changes : List Change) (log : Log) : Type 0 where
   pub safe : IsSafeDisk (format file) (shape file) log
   pub left : (image : Image) → IsLeft log image → NoChanceOf (format file) log image → (n : ℕ) × HasTable file (with_commands (take n changes) t) image
 
--- From the barrier on, where the file had this table: at each moment every image left has it behind some of the puts and drops, at each moment behind an answer with all that
+-- From the barrier on, where the file had this table: at each moment every image left has it after some of the puts and drops, at each moment after an answer with all that
 -- were answered by then, and at the end with all that were answered, but perhaps for the one in which the disk failed.
 pub record KeepsFrom (file : DataFile) (t : Table) (base : Told) (mending : List Event) (c : CallsMade) (changes pending : List Change) (after : Told) : Type 0 where
   pub is : over mending (events_made c) base ≡ Some after

@@ -54,7 +54,7 @@ FirstIsEmpty = (file : DataFile) (image : Units) → IsTable file image (first_v
 
 -- ---- the order of rows
 
--- behind a checkpoint of a table that is done the referenced blocks, in order of address, have its rows, in order of key: the k-th row of the table is row k of its blocks
+-- after a checkpoint of a table that is done the referenced blocks, in order of address, have its rows, in order of key: the k-th row of the table is row k of its blocks
 abbrev pub RowsInOrder : Type 0
 RowsInOrder =
     (layout : Layout) (s t : Replica) (o n : Told) (rows : Map) (steps : ℕ) (w : Work) → IsReady layout s → IsImage o.shown → MakeAll (checkpoint layout (memory s) rows steps) s t (Some o) (Some n) → (memory t).running ≡ None → Keeps Firm t w None

@@ -47,7 +47,7 @@ pub data Extent : Type 0 where
   ToItsEnd : Extent
   ToAMoment : (log : Log) (answered : ℕ) → Extent
 
--- At the end what was answered is kept, and perhaps the call in which the disk failed. At a moment what was answered by then is, and perhaps some of what is behind that.
+-- At the end what was answered is kept, and perhaps the call in which the disk failed. At a moment what was answered by then is, and perhaps some of what is after that.
 abbrev pub Keeps : Extent → CallsMade → (changes pending : List Change) → Chapter → Type 0
 Keeps ToItsEnd c changes pending chapter = chapter ≡ record { kept = changes; perhaps = pending }
 Keeps (ToAMoment log zero) c changes pending chapter = chapter ≡ record { kept = []; perhaps = changes ++ pending }
@@ -96,7 +96,7 @@ pub data Life : DataFile → Told → List Chapter → Type 0 where
   -- or it ended at a moment, before or within any call of the disk, when so many of its calls were answered
   Ended : (file : DataFile) (t n m : Told) (chapters : List Chapter) (chapter : Chapter) (run : WasRun t n) (answered : ℕ) → Life file t chapters → NoChanceOf (format file) t.log (now t.log) → IsMoment t.log n.log m.log → IsHonest m
       → KeepsIn (ToAMoment m.log answered) t n run chapter → Life file m (chapter ∷ chapters)
-  -- or the machine stopped, behind the end of a run or at the moment of which one is told, and left any bytes in the sectors that were loose
+  -- or the machine stopped, after the end of a run or at the moment of which one is told, and left any bytes in the sectors that were loose
   Stopped : (file : DataFile) (t : Told) (chapters : List Chapter) (changes : List (ℕ × List ℕ)) → Life file t chapters → AreLoose t.log.events changes → NoChanceOf (format file) t.log (changed changes (now t.log)) → Life file (did (Stop changes) t) chapters
 
 -- ---- the laws

@@ -63,7 +63,7 @@ pub record AreTaken (layout : Layout) (shown : Shown) (m : Memory) (rest : List 
   pub read : AreRead shown m before bodies
   pub taken : TakesAll (empty_table layout) bodies t
 
--- All of them are, and the prepares behind the checkpoint, up to this op, are commands, behind which this is the table.
+-- All of them are, and the prepares after the checkpoint, up to this op, are commands, after which this is the table.
 pub record AreFollowed (layout : Layout) (shown : Shown) (m : Memory) (op : ℕ) (t : Table) : Type 0 where
   pub base : Table
   pub blocks : AreTaken layout shown m [] base
@@ -85,7 +85,7 @@ NoCommand t body = (c : Command) → Follows t body c → ⊥
 -- ---- what it finds
 
 -- In this order: the least place with a session of another client; of each referenced block, in order of address, that it isn't shown, or has no rows of the table; of each prepare
--- behind the checkpoint, in order of op, that it isn't shown, or is no command. Else the file is a table's, and this is the table.
+-- after the checkpoint, in order of op, that it isn't shown, or is no command. Else the file is a table's, and this is the table.
 pub data Finds (layout : Layout) (shown : Shown) (m : Memory) : Result Table Ending → Type 0 where
   OtherClient : (place : ℕ) → IsOther m place → NoneIsOther m place → Finds layout shown m (Err (NotTable (place_at ClientReplies place)))
   BlockHurt : (x : ℕ × ℕ) (rest : List (ℕ × ℕ)) (t : Table) (class : Class) → AreTaken layout shown m (x ∷ rest) t → block_read shown m (ReadBlock x.0) ≡ Err class
@@ -110,7 +110,7 @@ block_ending (read.Damaged place class) = Damaged place class
 block_ending read.DiskFault = Disk
 block_ending read.NotLive = Disk
 
--- nor is a prepare behind the checkpoint
+-- nor is a prepare after the checkpoint
 abbrev pub prepare_ending : PrepareError → Ending
 prepare_ending (prepare.Damaged place class) = Damaged place class
 prepare_ending prepare.DiskFault = Disk
@@ -122,7 +122,7 @@ TakesBody taken other (Ok x) = taken x
 TakesBody taken other (Err (NotTable place)) = other place
 TakesBody taken other (Err ending) = ⊥
 
--- the body of a block, behind so many: its rows are taken; or it has no rows of the table, or is one too many
+-- the body of a block, after so many: its rows are taken; or it has no rows of the table, or is one too many
 abbrev pub GivesRows : (before most : ℕ) → Table → List ℕ → Table → Type 0
 GivesRows before most t body new = (before < most) × ((entries : List Entry) × Takes t body entries × (new ≡ with_rows entries t))
 
@@ -132,7 +132,7 @@ LacksRows address before most t body place = (place ≡ place_at Grid address) �
 abbrev pub TakesRows : (address before most : ℕ) → Table → List ℕ → Result Table Ending → Type 0
 TakesRows address before most t body result = TakesBody (GivesRows before most t body) (LacksRows address before most t body) result
 
--- a block that is read, behind so many: it is taken; or it isn't shown, has no rows of the table, or is one too many; or the disk fails
+-- a block that is read, after so many: it is taken; or it isn't shown, has no rows of the table, or is one too many; or the disk fails
 abbrev pub ReadsBlock : Shown → Memory → (address before most : ℕ) → Table → Result Table Ending → Type 0
 ReadsBlock shown m address before most t (Ok new) = (b : Block) × (block_read shown m (ReadBlock address) ≡ Ok b) × TakesRows address before most t b.body (Ok new)
 ReadsBlock shown m address before most t (Err (Damaged place class)) = (place ≡ place_at Grid address) × (block_read shown m (ReadBlock address) ≡ Err class)

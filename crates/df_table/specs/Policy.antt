@@ -20,7 +20,7 @@ the_client = 1
 
 -- ---- the opening
 
--- the live blocks are read, in order of address, and the prepares behind the checkpoint, in order of op
+-- the live blocks are read, in order of address, and the prepares after the checkpoint, in order of op
 abbrev pub block_reads : Memory → List Command
 block_reads m = map (λ x. ReadBlock x.0) m.blocks.live
 

@@ -50,7 +50,7 @@ pub record RefusesSuperblock (t : Told) (old new : Outside) (status : Status) : 
   pub refuse : Refuse error old new status
   pub same : new.told ≡ old.told
 
--- the file is refused behind the barrier, and nothing is written to it
+-- the file is refused after the barrier, and nothing is written to it
 pub record RefusesFile (layout : Layout) (t : Told) (old new : Outside) (status : Status) : Type 0 where
   pub error : OpenError
   pub is : Surveys layout t.shown (Err error)

@@ -72,7 +72,7 @@ pub record Ended (layout : Layout) (origin now : State) (status : Status) : Type
 
 -- ---- one line
 
--- it was executed: it took its calls, all of which were accepted, and this is the table behind it
+-- it was executed: it took its calls, all of which were accepted, and this is the table after it
 pub record IsExecuted (layout : Layout) (said : Said) (s t : Replica) (old new : Option Told) (table later : Table) : Type 0 where
   pub acts : List Act
   pub answers : List Answer
@@ -111,7 +111,7 @@ EndsTurn (Ends Memory) = ⊥
 EndsTurn (Ends Words) = ⊥
 EndsTurn turn = Unit {0}
 
--- It was executed by a session: where replica and table were as they have to be, it was answered so, and they are so again. Where the session goes on, the table is the one behind the line.
+-- It was executed by a session: where replica and table were as they have to be, it was answered so, and they are so again. Where the session goes on, the table is the one after the line.
 pub record Executes (layout : Layout) (said : Said) (old new : Session) (told later : Option Told) (written took : Option (List ℕ)) (turn : Step) : Type 0 where
   pub answers : IsSteady layout old.replica old.table → Answers layout said old.replica new.replica told later old.table new.table written took turn
   pub steady : IsSteady layout old.replica old.table → OnGoing turn (IsSteady layout new.replica new.table)

@@ -52,7 +52,7 @@ pub record EndsText (bound budget : ℕ) (rest : List ℕ) (left : Option (List 
   pub held : cut ≡ true → (remains : List ℕ) → left ≡ Some remains → HoldsLine bound rest remains
   pub finished : status ≡ Done → (rest ≡ []) × (left ≡ Some [])
 
--- what is written last: nothing; the line that refuses the next one, behind n of them; or why the session ended within a line
+-- what is written last: nothing; the line that refuses the next one, after n of them; or why the session ended within a line
 abbrev pub closing : (n : ℕ) → Option Halt → (cut : Bool) → List ℕ
 closing n None false = []
 closing n None true = script_text (n + 1)

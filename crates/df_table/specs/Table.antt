@@ -50,7 +50,7 @@ pub record Follows (t : Table) (body : List ℕ) (c : Command) : Type 0 where
   pub fits : IsCommand c
   pub room : CanApply t c
 
--- so it is of the bodies of prepares, each behind those before it
+-- so it is of the bodies of prepares, each after those before it
 abbrev pub FollowAll : Table → List Message → List Command → Type 0
 FollowAll t [] [] = Unit {0}
 FollowAll t (p ∷ ps) (c ∷ more) = Follows t p.body c × FollowAll (with_command c t) ps more

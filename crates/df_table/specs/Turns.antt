@@ -47,7 +47,7 @@ pub record MakeAll (commands : List Command) (s t : Replica) (old new : Option T
   pub are : map command_in acts ≡ commands
   pub accepted : All IsAccepted answers
 
--- each of these answers was accepted, but perhaps the last, behind which nothing was made
+-- each of these answers was accepted, but perhaps the last, after which nothing was made
 abbrev pub AreAccepted : List Answer → (failed : Option Act) → Type 0
 AreAccepted [] failed = Unit {0}
 AreAccepted (x ∷ answers) failed = (IsAccepted x ⊎ ((answers ≡ []) × (failed ≡ None))) × AreAccepted answers failed

@@ -18,7 +18,7 @@ use df_telling::print_damaged;
 pub enum Ending {
     /// The disk failed.
     Disk,
-    /// What stands at a place isn't what is known of it: a block or a prepare that is read, or a copy of the superblock behind its write.
+    /// What stands at a place isn't what is known of it: a block or a prepare that is read, or a copy of the superblock after its write.
     Damaged { place: Place, class: Class },
     /// What stands at a place shows that the file is no table's.
     NotTable { place: Place },

@@ -116,8 +116,8 @@ pub fn run_table<D: Disk, S: Source, W: Sink>(
     ensures words { result ≡ Status.Words → IsTableWord (map string_bytes words.now) → ⊥ }
 
     // The file is refused as any open of it refuses it, or since it is no table's, by the first place that shows it. Else the script is executed: what is written is the text of
-    // a map, from the table on that the file has, and from the barrier on whatever a stop leaves has that table behind the first puts and drops, all that were answered by then
-    // and perhaps some behind them.
+    // a map, from the table on that the file has, and from the barrier on whatever a stop leaves has that table after the first puts and drops, all that were answered by then
+    // and perhaps some after them.
     ensures runs { IsTableWord (map string_bytes words.now) → Runs
         (record { told = D.told disk.old; left = S.left source.old; written = W.written sink.old })
         (record { told = D.told disk.new; left = S.left source.new; written = W.written sink.new }) result }

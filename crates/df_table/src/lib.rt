@@ -1,5 +1,5 @@
 //! The object table: a map of keys to small values in a data file. A put or a drop is a prepare of the one client, which is replied to at once; where the ring has no slot for the next
-//! one, the table is written as blocks of a checkpoint; an open reads these blocks and applies the prepares behind them. What was answered is there after any stop.
+//! one, the table is written as blocks of a checkpoint; an open reads these blocks and applies the prepares after them. What was answered is there after any stop.
 #![tactic(auto)]
 
 mod appending;

@@ -203,7 +203,7 @@ fn take_command(table: &mut ObjectTable, body: &[u8], slot: u64) -> Result<(), E
     }
 }
 
-// Applies the command of a prepare behind the checkpoint.
+// Applies the command of a prepare after the checkpoint.
 fn take_prepare<D: Disk>(
     disk: &mut D,
     replica: &mut Replica,
@@ -226,7 +226,7 @@ fn take_prepare<D: Disk>(
     }
 }
 
-// Applies the commands of all prepares behind the checkpoint, in order of op.
+// Applies the commands of all prepares after the checkpoint, in order of op.
 fn take_tail<D: Disk>(
     disk: &mut D,
     replica: &mut Replica,
@@ -274,7 +274,7 @@ fn catch_up<D: Disk>(disk: &mut D, replica: &mut Replica) -> Result<(), Ending>
 
 // ---- all of it
 
-// Applies what stands behind the checkpoint, and replies to what waits.
+// Applies what stands after the checkpoint, and replies to what waits.
 fn follow<D: Disk>(
     disk: &mut D,
     replica: &mut Replica,

@@ -1,4 +1,4 @@
--- What a status blames: behind a line that was printed, behind a file that isn't opened, and where nothing failed.
+-- What a status blames: after a line that was printed, after a file that isn't opened, and where nothing failed.
 use Rattle.std.proofs.Common.{◌≡◌, ◌⊎◌, ◌∙◌, ℕ, Bool, false, List, Option, Err, inl, inr, refl, sym, subst}
 use Rattle.df_base.specs.Causes.{Blamed, IsBlamed, Rose}
 use Rattle.df_inspect.specs.Opening.{open_refusal}

@@ -1,4 +1,4 @@
--- What a status blames behind a program over two files: the disk of one of them, or of neither.
+-- What a status blames after a program over two files: the disk of one of them, or of neither.
 use Rattle.std.proofs.Common.{◌≡◌, ◌≤◌, ℕ, Bool, List, Option, Err, inl, inr, arith, subst}
 use Rattle.df_base.specs.Causes.{Blamed, IsBlamed, Rose}
 use Rattle.df_inspect.specs.Opening.{open_refusal}

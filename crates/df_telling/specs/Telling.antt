@@ -1,4 +1,4 @@
--- What the end of a program says, for any type of statuses: the text, the status behind it, and which fault it blames.
+-- What the end of a program says, for any type of statuses: the text, the status after it, and which fault it blames.
 use Rattle.std.specs.Prelude.{◌≡◌, ◌⊎◌, ℕ, List, Option}
 use Rattle.df_base.specs.Causes.{Rose}
 use Rattle.df_base.specs.Streams.{Appends, AppendsPart}

@@ -1,4 +1,4 @@
-//! What a program over data files tells as it ends: the last text that it prints, and the status behind it, which blames what failed. The statuses are the program's own.
+//! What a program over data files tells as it ends: the last text that it prints, and the status after it, which blames what failed. The statuses are the program's own.
 #![tactic(auto)]
 
 mod last;

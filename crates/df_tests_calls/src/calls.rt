@@ -62,7 +62,7 @@ fn reply(
     }
 }
 
-/// Makes a call; none is made behind a fault.
+/// Makes a call; none is made after a fault.
 pub(crate) fn make_call(
     alloc: Global,
     disk: &mut MemoryDisk,
@@ -94,7 +94,7 @@ fn serve(alloc: Global, disk: &mut MemoryDisk, calls: &[Call]) -> Result<usize, 
     Ok(calls.len())
 }
 
-/// A small file behind these calls, all of which are done.
+/// A small file after these calls, all of which are done.
 pub(crate) fn served_file(alloc: Global, calls: &[Call]) -> Result<MemoryDisk, Fail> {
     let mut disk = small_file(alloc, 0)?;
     if serve(alloc, &mut disk, calls)? == calls.len() {

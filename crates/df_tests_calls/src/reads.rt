@@ -76,7 +76,7 @@ fn what_is_stored_is_lent_byte_by_byte(rt: HostRuntime) -> Result<(), Fail> {
 
 const CALLS: [Call; 2] = [Call::Append(1, 1, 0), Call::Reply(1, 0)];
 
-// Whether a read behind the two calls is answered so, by one device call, and no call may follow.
+// Whether a read after the two calls is answered so, by one device call, and no call may follow.
 fn is_last(
     alloc: Global,
     disk: &mut MemoryDisk,
@@ -102,7 +102,7 @@ fn left(alloc: Global, disk: &mut MemoryDisk, step: &Step<'_>) -> Result<(bool, 
     }
 }
 
-// How many device calls a file behind the two calls has seen.
+// How many device calls a file after the two calls has seen.
 fn calls_before(alloc: Global) -> Result<u64, Fail> {
     let before = served_file(alloc, &CALLS)?;
     Ok(before.calls())
@@ -119,7 +119,7 @@ const STEPS: [Step<'static>; 2] = [
     Step::ReadReply(1, Err(LookupError::DiskFault)),
 ];
 
-// A read is one device call; an open behind its fault finds the file as it was.
+// A read is one device call; an open after its fault finds the file as it was.
 #[test]
 fn a_read_ends_with_the_call_that_fails(rt: HostRuntime) -> Result<(), Fail> {
     for step in &STEPS {

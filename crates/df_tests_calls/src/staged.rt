@@ -6,7 +6,7 @@ use df_replica::{AppendError, FlushError, Replica};
 use std::alloc::Global;
 use std::test::Fail;
 
-// What a session of the calls answered: the ops of the two that are staged, how many were staged then and behind the flush, what an
+// What a session of the calls answered: the ops of the two that are staged, how many were staged then and after the flush, what an
 // append was answered between, and the flush, and one more.
 #[derive(Clone, Copy, Debug, PartialEq, Eq)]
 struct Answers {

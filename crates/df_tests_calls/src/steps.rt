@@ -117,7 +117,7 @@ fn is_written(
     }
 }
 
-// Behind a release nothing is known of the address.
+// After a release nothing is known of the address.
 fn is_released(replica: &mut Replica, address: u64, wanted: Result<(), NotLive>) -> bool
     requires live { replica.old.live ≡ true }
 {

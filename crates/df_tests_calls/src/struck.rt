@@ -187,7 +187,7 @@ fn hurt(alloc: Global, disk: &mut MemoryDisk, sector: u8, blow: Blow) -> Result<
     Ok(())
 }
 
-// Whether both units are read as a row says behind its blow to this sector, and are whole again once the old bytes are back.
+// Whether both units are read as a row says after its blow to this sector, and are whole again once the old bytes are back.
 // Replies stand from sector 70 on.
 fn is_told(
     alloc: Global,
@@ -210,7 +210,7 @@ fn is_told(
     Ok(told && are_read(disk, replica, request, None, None))
 }
 
-// The first row and sector that aren't told so behind the calls.
+// The first row and sector that aren't told so after the calls.
 fn first_untold(
     alloc: Global,
     disk: &mut MemoryDisk,

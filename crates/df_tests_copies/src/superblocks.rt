@@ -111,7 +111,7 @@ const BROKEN: [Put; 7] = [
     (200, 1, 1),
 ];
 
-// What is said of a superblock with these numbers and those behind them.
+// What is said of a superblock with these numbers and those after them.
 const SAID: [(Field, u64); 6] = [
     (Field::Slots, 0),
     (Field::Clients, 0),

@@ -18,7 +18,7 @@ const SECOND: SuperFields = SuperFields {
     ..FIRST
 };
 
-// Of version 2, in the first boot and in the one behind it.
+// Of version 2, in the first boot and in the one after it.
 const BOOTED: SuperFields = SuperFields { boot: 1, ..NEW };
 
 const REBOOTED: SuperFields = SuperFields { boot: 2, ..NEW };
@@ -112,7 +112,7 @@ fn a_repair_writes_the_copies_that_are_no_members(rt: HostRuntime) {
     let content = usable(&rt, &hurt.content);
     assert!(rt; repair(&mut disk, &mut room, &hurt, &content) == Ok(()));
     assert!(rt; chosen(&rt, &mut disk, &mut room) == all_of(FIRST));
-    // Behind eight events of an update and two writes: two writes and two syncs.
+    // After eight events of an update and two writes: two writes and two syncs.
     assert!(rt; disk.events() == 14);
 }
 
@@ -196,7 +196,7 @@ fn stopped(rt: &impl Abort, alloc: Global, room: &mut ProbeRoom, number: u8, lef
 {
     let old = usable(rt, &BOOTED);
     let new = usable(rt, &REBOOTED);
-    // Behind the twelve calls of an update each copy has a write and a sync, which fails.
+    // After the twelve calls of an update each copy has a write and a sync, which fails.
     let mut disk = blank(rt, alloc, &[14 + 2 * u64::from(number)]);
     assert!(rt; update(&mut disk, room, &old) == Ok(()));
     assert!(rt; update(&mut disk, room, &new) == Err(UpdateError::DiskFault));

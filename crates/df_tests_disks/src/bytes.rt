@@ -18,7 +18,7 @@ enum Turn {
     Breaks,
 }
 
-// A reader and a writer whose calls follow a list of turns, and break behind its end.
+// A reader and a writer whose calls follow a list of turns, and break after its end.
 #[derive(Drop)]
 struct Scripted<'a> {
     turns: &'a [Turn],

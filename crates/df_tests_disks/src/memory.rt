@@ -30,7 +30,7 @@ fn choice_of(rt: &impl Abort, alloc: Global, sector: u64, bytes: &[u8]) -> Vec<C
     choice
 }
 
-// The disk behind a stop that is taken, with the changes of one sector.
+// The disk after a stop that is taken, with the changes of one sector.
 fn stopped(
     rt: &impl Abort,
     alloc: Global,
@@ -78,7 +78,7 @@ fn sectors_show_what_was_written_last_and_zeros_before(rt: HostRuntime) {
     assert!(rt; four_at(&mut disk, 2) == Some(wanted) && disk.events() == 3);
 }
 
-// The disk behind two calls with a sync between them.
+// The disk after two calls with a sync between them.
 fn filled(rt: &impl Abort, alloc: Global, firm: Call, loose: Call) -> MemoryDisk {
     let mut disk = blank(alloc);
     let rows = [(firm, Ok(true)), (Call::Sync, Ok(true)), (loose, Ok(true))];

@@ -63,7 +63,7 @@ pub(crate) fn reply(slot: u32, client: u64, request: u64, op: u64, mark: u64, bo
     }
 }
 
-// Puts numbers of eight bytes at these offsets, one after the other: what stands less than eight bytes behind another is put over its
+// Puts numbers of eight bytes at these offsets, one after the other: what stands less than eight bytes after another is put over its
 // zeros. A caller's proof is told nothing of the bytes.
 fn put_numbers(bytes: &mut [u8], numbers: &[(usize, u64)]) {
     for (at, number) in numbers {

@@ -1,4 +1,4 @@
-// Groups behind a tail, in files of version 2: cut at each place, with some of their headers, which stand in one sector or in two, past the
+// Groups after a tail, in files of version 2: cut at each place, with some of their headers, which stand in one sector or in two, past the
 // end of the ring, of an earlier boot, and at the head that the superblock names. Expected values are those of an independent program
 // (`model/second.py`).
 ghost use Rattle.std.specs.Prelude.{◌≤◌};
@@ -19,7 +19,7 @@ enum Left {
     Nothing,
 }
 
-// A tail of this many ops; the head that the superblock names, of boot 3; and the boot of a group of three behind the tail.
+// A tail of this many ops; the head that the superblock names, of boot 3; and the boot of a group of three after the tail.
 #[derive(Clone, Copy)]
 struct File {
     tail: u64,
@@ -53,7 +53,7 @@ fn put_left(written: &mut Written, unit: Unit, left: Left) -> Result<(), AllocEr
     Ok(())
 }
 
-// Puts the prepare of the op behind this one, which client 5 asked for: up to the head that is named of boot 2, and else of boot 3.
+// Puts the prepare of the op after this one, which client 5 asked for: up to the head that is named of boot 2, and else of boot 3.
 fn put_next(written: &mut Written, file: &File, op: u64) -> Result<(), AllocError>
     requires { op ≤ 32 }
 {
@@ -169,7 +169,7 @@ const CUT: [[Left; 3]; 7] = [
     [N; 3],
 ];
 
-// Of one that was cut and of which a header is shown, the first alone, the last alone, and others; and behind how many of its ops the slot
+// Of one that was cut and of which a header is shown, the first alone, the last alone, and others; and after how many of its ops the slot
 // is blamed.
 const TOLD: [([Left; 3], u64); 10] = [
     ([A, P, N], 2),
@@ -197,7 +197,7 @@ fn assert_over(
     assert_eq!(rt; found(rt, alloc, file, &written), answer);
 }
 
-// The slot behind so many ops of the group, where nothing was ever written.
+// The slot after so many ops of the group, where nothing was ever written.
 fn blamed(file: &File, ops: u64) -> Answer {
     let op = file.tail.min(32) + 1;
     damaged(Zone::WalPrepares, (op + ops.min(3)) % 32, Class::Blank)
@@ -217,7 +217,7 @@ fn assert_groups(rt: &impl Abort, alloc: Global, file: &File) {
     }
 }
 
-// A tail of this many ops, the head that the superblock names, and the boot of a group behind the tail.
+// A tail of this many ops, the head that the superblock names, and the boot of a group after the tail.
 fn file_of(tail: u64, named: u64, boot: u64) -> File {
     File { tail, named, boot }
 }
@@ -240,7 +240,7 @@ fn a_group_past_the_end_of_the_ring_is_one_like_others(rt: HostRuntime) {
     assert_groups(&rt, rt.alloc(), &file_of(29, 2, 3));
 }
 
-// Ops 5 to 7, behind op 4, which is named.
+// Ops 5 to 7, after op 4, which is named.
 #[test]
 fn a_group_right_behind_the_named_head_is_one_like_others(rt: HostRuntime) {
     assert_groups(&rt, rt.alloc(), &file_of(4, 4, 3));
@@ -269,7 +269,7 @@ fn sector_of(op: u64) -> u64 {
 const ALL: [Left; 3] = [A, A, A];
 
 // Ops 5 to 7 were settled, and then one of their prepares is hurt: its slot is blamed, whichever it is. Where the whole group is shown and a
-// header of op 8, the slot behind it is.
+// header of op 8, the slot after it is.
 #[test]
 fn a_hurt_prepare_of_a_settled_group_is_blamed(rt: HostRuntime) {
     let file = file_of(4, 2, 3);

@@ -36,7 +36,7 @@ pub(crate) fn damaged(zone: Zone, index: u64, class: Class) -> Answer {
 }
 
 // Ops 1 to 3 and the replies to 1 and 2 were found by the open of boot 3, so its superblock names prepare 3 and, since op 3 waits, the
-// reply to op 2 alone. Op 4 was appended behind it.
+// reply to op 2 alone. Op 4 was appended after it.
 #[derive(Clone, Copy)]
 struct File {
     named: Named,
@@ -101,7 +101,7 @@ fn assert_each(rt: &impl Abort, alloc: Global, file: &File, rows: &[(Put, Answer
     }
 }
 
-// The prepare behind op 4, of client 6's second request.
+// The prepare after op 4, of client 6's second request.
 fn fifth(file: &File, boot: u64) -> Unit {
     prepare(5, sum_of(&file.prepares[3]), 6, 2, 2, boot)
 }
@@ -287,7 +287,7 @@ fn counted(rt: &impl Abort, alloc: Global, disk: &mut MemoryDisk, version: u32) 
 }
 
 // A sync, four copies, two header sectors, 32 slots of the ring of prepares and four reply slots. Where the other version is asked for it
-// is refused behind the copies.
+// is refused after the copies.
 #[test]
 fn a_survey_of_either_version_is_forty_three_calls(rt: HostRuntime) {
     let mut disk = forge(&rt, rt.alloc(), &NAMELESS, &[]);

@@ -30,14 +30,14 @@ fn a_begin_is_due_once_enough_prepares_were_accepted_and_no_checkpoint_runs(rt: 
     }
 }
 
-// A begin is tried behind each line, and behind it come two steps and one of the scrubber.
+// A begin is tried after each line, and after it come two steps and one of the scrubber.
 const PACE: Pace = Pace {
     scrub: 1,
     every: 1,
     steps: 2,
 };
 
-// Whether a checkpoint runs before each piece behind an append, the piece, and whether it began one.
+// Whether a checkpoint runs before each piece after an append, the piece, and whether it began one.
 const PIECES: [(bool, Piece, bool); 4] = [
     (false, Piece::Begin, true),
     (true, Piece::Step, false),
@@ -45,7 +45,7 @@ const PIECES: [(bool, Piece, bool); 4] = [
     (true, Piece::Scrub, false),
 ];
 
-// What is due behind an append, once all of it is done.
+// What is due after an append, once all of it is done.
 fn behind_all(rt: &impl Abort, beat: Beat) -> Beat {
     let mut beat = beat;
     for (running, piece, begun) in &PIECES {
@@ -55,7 +55,7 @@ fn behind_all(rt: &impl Abort, beat: Beat) -> Beat {
     beat
 }
 
-// Behind an append a begin comes, two steps of it and one of the scrubber; the next line has the scrubber's alone.
+// After an append a begin comes, two steps of it and one of the scrubber; the next line has the scrubber's alone.
 #[test]
 fn the_pieces_of_the_work_come_in_their_order(rt: HostRuntime) {
     work_is_done_piece_by_piece();

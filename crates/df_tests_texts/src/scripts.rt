@@ -53,7 +53,7 @@ fn push_long_line(text: &mut Vec<u8>, words: &[u8]) -> Result<(), AllocError> {
     Ok(())
 }
 
-// A short line, a line of these words and that body, and what comes behind it.
+// A short line, a line of these words and that body, and what comes after it.
 fn script_of(alloc: Global, words: &[u8], ending: &[u8]) -> Result<Vec<u8>, AllocError> {
     let mut text = b"append 4 1 -\n".to_vec(alloc)?;
     push_long_line(&mut text, words)?;

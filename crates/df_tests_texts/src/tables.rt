@@ -275,7 +275,7 @@ fn a_block_is_taken_once_and_whole(rt: HostRuntime) {
     assert!(rt; rows_taken(&rt, rt.alloc(), &body, 0) == Some(0));
 }
 
-// A row of key 0x0102 whose value begins with aa: its length, and the byte behind that.
+// A row of key 0x0102 whose value begins with aa: its length, and the byte after that.
 fn row_bytes(length: u8, behind: u8) -> [u8; 64] {
     let mut bytes = [0u8; 64];
     bytes[0] = 2;

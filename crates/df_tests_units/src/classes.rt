@@ -8,7 +8,7 @@ use crate::examples::{
 use df_format::{Header, decode_unit};
 use df_layout::{Class, Layout, Place, Zone};
 
-// A slot that begins with these bytes, nines behind them.
+// A slot that begins with these bytes, nines after them.
 fn slot_of(front: &[u8; 256]) -> [u8; 8192] {
     let mut slot = [9; 8192];
     slot[..256].copy_from_slice(front);

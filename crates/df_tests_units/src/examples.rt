@@ -2,7 +2,7 @@
 use df_base::{Check, HEADER, check};
 use df_format::{Header, decode_header};
 
-// A byte that is put into a header, behind its offset.
+// A byte that is put into a header, after its offset.
 pub(crate) type Put = (usize, u8);
 
 // A header of version 1 without a body: its checksum and its parent's, and the bytes that aren't zero but for those that

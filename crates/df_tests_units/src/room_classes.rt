@@ -15,14 +15,14 @@ use std::alloc::Global;
 // The header of the unit that is there, or the class of what is; None where memory was refused.
 type Shown = Option<Result<Header, Class>>;
 
-// Puts bytes at the front and nines behind them.
+// Puts bytes at the front and nines after them.
 fn begin_with(bytes: &mut [u8], front: &[u8; 256]) {
     for (i, byte) in bytes.iter_mut().enumerate() {
         *byte = if i < front.len() { front[i] } else { 9 };
     }
 }
 
-// A room that begins with these bytes, nines behind them.
+// A room that begins with these bytes, nines after them.
 fn room_with<K: RoomKind>(
     alloc: Global,
     layout: &Layout,

@@ -9,7 +9,7 @@ use df_buffers::{Block, Prepare, Raw, Reply, Trailer, UnitKind, Wanted};
 use df_format::{Header, Kind, own_place};
 use df_layout::{Layout, Zone};
 
-// Whether a sector holds the body behind a header, and zeros up to its end.
+// Whether a sector holds the body after a header, and zeros up to its end.
 fn is_padded(sectors: &[u8], body: &[u8]) -> bool {
     let zeros = [0; 4096];
     let end = 256 + body.len();

@@ -108,7 +108,7 @@ fn a_unit_of_another_kind_has_a_boot_and_no_group(rt: HostRuntime) {
 
 #[test]
 fn a_header_of_version_2_ends_in_zeros(rt: HostRuntime) {
-    // A byte behind the fields, and the last one.
+    // A byte after the fields, and the last one.
     for at in [148, 255] {
         let bytes = made(&PREPARE, &[(122, 2), (124, 1), (132, 1), (140, 1), (at, 1)]);
         assert!(rt; read_header(&bytes).is_none(), "at {at}");

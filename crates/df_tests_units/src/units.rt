@@ -8,7 +8,7 @@ fn example() -> [u8; 256] {
     spelled(&PREPARE)
 }
 
-// The example, zeros up to the end of its sector, and nines behind it.
+// The example, zeros up to the end of its sector, and nines after it.
 fn is_example_before_nines(slot: &[u8]) -> bool {
     slot.len() == 8192
         && slot.starts_with(&example())

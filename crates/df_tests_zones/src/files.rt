@@ -127,7 +127,7 @@ pub(crate) fn scanned_from(
     found
 }
 
-// A scan behind a checkpoint with this op, in this boot: the table, and how it ended.
+// A scan after a checkpoint with this op, in this boot: the table, and how it ended.
 pub(crate) fn tried(
     rt: &impl Abort,
     alloc: Global,
@@ -149,7 +149,7 @@ pub(crate) fn tried(
     tried_from(rt, alloc, disk, layout, &start)
 }
 
-// What a scan behind an empty checkpoint sees, in this boot.
+// What a scan after an empty checkpoint sees, in this boot.
 pub(crate) fn scanned(
     rt: &impl Abort,
     alloc: Global,

@@ -1,4 +1,4 @@
-// What is found of prepares that the superblock names, of groups and of earlier boots: behind a checkpoint at op 4 whose superblock
+// What is found of prepares that the superblock names, of groups and of earlier boots: after a checkpoint at op 4 whose superblock
 // has head 6 and boot 3, and in a file of version 1.
 ghost use Rattle.std.specs.Prelude.{◌≡◌, ◌≤◌};
 ghost use Rattle.df_headers.specs.Ring.{IsTable};
@@ -67,7 +67,7 @@ fn write_unit(
     }
 }
 
-// Writes a prepare behind the one with this checksum, and hands back its own.
+// Writes a prepare after the one with this checksum, and hands back its own.
 fn write(
     disk: &mut MemoryDisk,
     layout: &Layout,
@@ -99,7 +99,7 @@ fn write(
     unit.header().checksum
 }
 
-// Writes the prepares of ops 5 to 8 behind the checkpoint's, and hands back the checksum of the head, which is op 4, 5 or 6.
+// Writes the prepares of ops 5 to 8 after the checkpoint's, and hands back the checksum of the head, which is op 4, 5 or 6.
 fn write_all(
     disk: &mut MemoryDisk,
     layout: &Layout,

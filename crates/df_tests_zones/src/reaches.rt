@@ -1,4 +1,4 @@
-// How far prepares go on behind a checkpoint of op 4, and where the last whole group among them ends. Expected values are those of the
+// How far prepares go on after a checkpoint of op 4, and where the last whole group among them ends. Expected values are those of the
 // rules on groups, worked out by hand.
 ghost use Rattle.std.specs.Prelude.{◌≤◌};
 

@@ -63,7 +63,7 @@ fn in_version_1_nothing_is_cut(rt: HostRuntime) {
     assert!(rt; binding_op(&header(5, 3, 5, 6), 3, 5) == 5);
 }
 
-// The prepares that are shown of a group of three behind the head, and what is told where one of them, or its header, isn't.
+// The prepares that are shown of a group of three after the head, and what is told where one of them, or its header, isn't.
 #[test]
 fn each_of_several_is_asked(rt: HostRuntime) {
     let first = header(5, 3, 5, 7);

@@ -163,7 +163,7 @@ module _ (sh : Shape) (image : Units) (v : View) (places : AreOfPlaces sh image)
       there.2 ∙ ap (λ (w : Message). Some (ReplyUnit w)) same ∙ ap Some (sym need.2)
   found_needs (BlockPlace a) x need = f.chain_shown a need.0 need.1 ∙ ap Some (sym need.2)
 
-  -- what is shown behind the tail would be taken
+  -- what is shown after the tail would be taken
   found_short : IsShort sh image v
   found_short ps more = f.tail.longest ps (record {
     behind = record { room = more.behind.room; shown = taken; chain = more.behind.chain; grouped = more.behind.grouped };

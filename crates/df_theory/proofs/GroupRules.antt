@@ -6,7 +6,7 @@ use Rattle.df_theory.specs.Sessions.{noted}
 use Rattle.df_theory.specs.Tails.{AreGroups, Chain, In}
 use Rattle.df_theory.specs.GroupLaws.{FollowGroups, GroupRuleLaw}
 
--- behind a prepare
+-- after a prepare
 module _ (clients base pin : ℕ) (low : base ≤ pin) where
   to_paper : (op parent mark : ℕ) (ss : List Session) (q : Header) (ps : List Message) → Chain clients op parent mark ss ps → q.op + 1 ≡ op → base < q.op → q.op ≤ q.group_last → (q.op ≡ pin → q.group_last ≤ pin)
       → AreGroups q.group q.group_last op ps → ((p : Message) → In p ps → p.header.op ≡ pin → p.header.group_last ≤ pin) → FollowGroups base pin (Some q) ps

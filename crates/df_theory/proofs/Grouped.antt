@@ -6,7 +6,7 @@ use Rattle.df_theory.specs.Tails.{AreGroups, Chain, FitsGroup, In}
 use Rattle.df_theory.specs.Shape.{clients}
 use Rattle.df_theory.proofs.Tails.{chain_ops}
 
--- behind a group that is over it doesn't matter which one it was
+-- after a group that is over it doesn't matter which one it was
 fits_closed : (f g l m op : ℕ) (h : Header) → l < op → m < op → FitsGroup f l op h → FitsGroup g m op h
 fits_closed f g l m op h below low (inl fits) = inl (low, fits.1, fits.2)
 fits_closed f g l m op h below low (inr fits) = absurd (omega (arith, fits.0))
@@ -23,7 +23,7 @@ groups_append f l op (p ∷ ps) qs low groups ends each below more =
     let same : op + suc (length ps) ≡ op + 1 + length ps = omega arith in
     (groups.0, groups_append p.header.group p.header.group_last (op + 1) ps qs low groups.1 (omega (arith, each p (inl refl))) (λ q at. omega (arith, each q (inr at))) (omega arith) (subst (λ (n : ℕ). AreGroups 0 low n qs) same more))
 
--- those behind an op where a group ends
+-- those after an op where a group ends
 pub groups_drop : (n f l op low : ℕ) (ps : List Message) → AreGroups f l op ps → l < op + n → n ≤ length ps → ((p : Message) → In p ps → p.header.op < op + n → p.header.group_last < op + n) → (clients parent mark : ℕ) (ss : List Session) → Chain clients op parent mark ss ps → low < op + n → AreGroups 0 low (op + n) (drop n ps)
 groups_drop zero f l op low ps groups ends short each clients parent mark ss chain below =
     let same : op ≡ op + 0 = omega arith in

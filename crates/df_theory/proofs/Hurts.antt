@@ -153,7 +153,7 @@ module _ (sh : Shape) (log : UnitLog) (v : View) (shown : Units) (rests : RestsO
         let ops = chain_ops sh.layout.clients (v.checkpoint.content.op + 1) v.checkpoint.content.op_checksum 0 v.checkpoint.parts.sessions tail p found.chain at in
         front_if p at (omega (arith, ops.1, tail_short))
 
-    -- what the file has behind it
+    -- what the file has after it
     abbrev Behind : Type 0
     Behind = (rest : List Message) × (length tail + length rest ≡ length v.tail) × ((q : Message) → In q rest → In q v.tail)
         × Chain sh.layout.clients (v.checkpoint.content.op + 1 + length tail) (last_checksum v.checkpoint.content.op_checksum tail) (last_mark 0 tail) (sessions_after v.checkpoint.parts.sessions tail) rest
@@ -168,7 +168,7 @@ module _ (sh : Shape) (log : UnitLog) (v : View) (shown : Units) (rests : RestsO
     taken_now : (q : Message) → In q v.tail → shown (PreparePlace (q.header.op % sh.layout.slots)) ≡ now log (PreparePlace (q.header.op % sh.layout.slots)) → Takes sh.layout.slots shown v.checkpoint.content q
     taken_now q at same = takes_if sh shown v rests.holds.bears.sound all_agree q at (same ∙ rests.holds.bears.needs (PreparePlace (q.header.op % sh.layout.slots)) (PrepareUnit q) (q, at, refl, refl))
 
-    -- the slot behind all that is reached shows what it should
+    -- the slot after all that is reached shows what it should
     module _ (more : List Message) (reach : IsReach sh shown v.checkpoint tail more) (unhurt : shown (PreparePlace (slot_behind sh v.checkpoint tail more)) ≡ now log (PreparePlace (slot_behind sh v.checkpoint tail more))) where
       one_more : (p q : Message) → In p more → In q behind.0 → p.header.op ≡ q.header.op → p ≡ q
       one_more p q at there same =

@@ -22,7 +22,7 @@ known_one n image op c (x ∷ xs) (y ∷ ys) one two size =
     let rest : xs ≡ ys = known_one n image (op + 1) c xs ys one.2 two.2 (omega arith) in
     λ i. first i ∷ rest i
 
--- those behind an op, and the one there
+-- those after an op, and the one there
 pub record KnownAt (n : ℕ) (image : Units) (a c : ℕ) (size : ℕ) : Type 0 where
   pub here : Message
   pub rest : List Message
@@ -83,7 +83,7 @@ fitting_front sh b xs ys fits = record {
   ends = λ p at op. fits.ends p (in_front p xs ys at) op;
 }
 
--- of two fronts of one list the shorter one goes on with what stands behind it
+-- of two fronts of one list the shorter one goes on with what stands after it
 front_more : (xs zs : List Message) (x : Message) (ys : List Message) (z : Message) (ws : List Message) → xs ++ x ∷ ys ≡ zs ++ z ∷ ws → length xs < length zs → (vs : List Message) × (zs ≡ (xs ++ x ∷ []) ++ vs)
 front_more [] [] x ys z ws same less = absurd (omega arith)
 front_more [] (w ∷ zs) x ys z ws same less = (zs, (let first : x ≡ w = cc (same) in λ i. sym first i ∷ zs))

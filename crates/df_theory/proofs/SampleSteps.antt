@@ -102,7 +102,7 @@ copies_are c image at0 at1 at2 at3 n below = elim (four n below) [
   | inr (inr (inr at)) ↦ subst (λ (k : ℕ). image (CopyPlace k) ≡ Some (CopyUnit c)) (sym at) at3
 ]
 
--- nothing is loose behind an update
+-- nothing is loose after an update
 pub quiet_updated : (c : Content) (log : UnitLog) → IsQuiet (after_steps (update_steps (copies_of c)) log)
 quiet_updated c log =
     let after : ℕ → UnitLog → UnitLog = λ n l. add Synced (wrote (put_one (CopyPlace n) (CopyUnit c)) l) in

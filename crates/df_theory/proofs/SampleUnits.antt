@@ -75,7 +75,7 @@ no_chance P distinct log all image pooled = record {
 
 -- ---- what a write leaves
 
--- what is shown behind a write was pooled, or is pooled by it
+-- what is shown after a write was pooled, or is pooled by it
 pub wrote_pooled :
     (put : Units) (log : UnitLog) → ((place : Place) (x : AnyUnit) → now log place ≡ Some x → InPool log place x) → (place : Place) (x : AnyUnit) → now (wrote put log) place ≡ Some x → InPool (wrote put log) place x
 wrote_pooled put log old place x is = go (put place) refl

@@ -84,7 +84,7 @@ tidy_sync_law sh log v tidy =
       keeps_standing sh log v (sync_command v) refl leads tt,
     )
 
--- ---- an update behind a sync
+-- ---- an update after a sync
 
 pub spare_update : (w : View) (c : Content) (puts : PutsCopies c) → AllSpare w (update_steps puts)
 spare_update w c puts = (

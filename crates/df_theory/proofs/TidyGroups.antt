@@ -61,7 +61,7 @@ table_sectors sh image ps table headers (put ∷ puts) is inside all = (
   table_sectors sh image ps table headers puts is (λ s more. inside s (inr more)) all.1,
 )
 
--- the log behind a flush, part by part
+-- the log after a flush, part by part
 flush_ends : (prepares headers : List Units) (log : UnitLog) → after_steps (flush_steps prepares headers) log ≡ add Synced (after_steps (all_puts headers) (add Synced (after_steps (all_puts prepares) log)))
 flush_ends prepares headers log = after_append (all_puts prepares) (Syncs ∷ (all_puts headers ++ Syncs ∷ [])) log ∙ after_append (all_puts headers) (Syncs ∷ []) (add Synced (after_steps (all_puts prepares) log))
 

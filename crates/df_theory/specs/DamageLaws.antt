@@ -53,7 +53,7 @@ TailIsFrontLaw =
     (sh : Shape) (log : UnitLog) (v : View) (shown : Units) (tail : List Message) → RestsOn sh log v → NoChance log shown → IsTail sh shown v.checkpoint tail
     → (p : Message) → In p tail → In p v.tail
 
--- where the slot behind the tail that is found shows what it should, nothing was lost: a lost prepare is blamed on a slot that is hurt
+-- where the slot after the tail that is found shows what it should, nothing was lost: a lost prepare is blamed on a slot that is hurt
 abbrev pub LostIsHurtLaw : Type 0
 LostIsHurtLaw =
     (sh : Shape) (log : UnitLog) (v : View) (shown : Units) (tail more : List Message) → RestsOn sh log v → NoChance log shown → Agree shown v.checkpoint.content → IsTail sh shown v.checkpoint tail → IsReach sh shown v.checkpoint tail more

@@ -32,16 +32,16 @@ IsOfPlace sh (BlockPlace a) x = (b : Block) × (x ≡ BlockUnit b) × (b.checksu
 abbrev pub AreOfPlaces : Shape → Units → Type 0
 AreOfPlaces sh image = (place : Place) (x : AnyUnit) → image place ≡ Some x → IsOfPlace sh place x
 
--- no taken prepares that end a group fit behind this tail, where the ring has room for them
+-- no taken prepares that end a group fit after this tail, where the ring has room for them
 abbrev pub IsLongest : Shape → Units → Checkpoint → List Message → Type 0
 IsLongest sh image b tail = (ps : List Message) → AreMore sh (Takes (slots sh) image b.content) b tail ps → ⊥
 
--- how far taken prepares go on behind this tail, the part of a group that was cut off included
+-- how far taken prepares go on after this tail, the part of a group that was cut off included
 pub record IsReach (sh : Shape) (image : Units) (b : Checkpoint) (tail more : List Message) : Type 0 where
   pub behind : AreBehind sh (Takes (slots sh) image b.content) b tail more
   pub longest : (p : Message) → AreBehind sh (Takes (slots sh) image b.content) b tail (more ++ p ∷ []) → ⊥
 
--- the slot of the op behind all of these: the one that is blamed where later ops left traces
+-- the slot of the op after all of these: the one that is blamed where later ops left traces
 abbrev pub slot_behind : Shape → Checkpoint → List Message → List Message → ℕ
 slot_behind sh b tail more = (b.content.op + length tail + length more + 1) % slots sh
 

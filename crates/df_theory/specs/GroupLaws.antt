@@ -31,7 +31,7 @@ ClearSlotLaw =
 
 -- ---- the walk of an open
 
--- whole groups, and behind them as much as is reached of one that isn't over
+-- whole groups, and after them as much as is reached of one that isn't over
 pub record Walks (sh : Shape) (image : Units) (b : Checkpoint) (tail more : List Message) : Type 0 where
   pub chain : Chain (clients sh) (b.content.op + 1) b.content.op_checksum 0 b.parts.sessions tail
   pub takes : (p : Message) → In p tail → Takes (slots sh) image b.content p
@@ -68,7 +68,7 @@ abbrev pub Ends : Option Header → Type 0
 Ends None = ⊥
 Ends (Some q) = q.group_last ≡ q.op
 
--- it begins a group: behind the checkpoint, behind the pin, or behind a group that is over
+-- it begins a group: after the checkpoint, after the pin, or after a group that is over
 pub record IsGroupFirst (op pin : ℕ) (before : Option Header) (h : Header) : Type 0 where
   pub first : h.group ≡ h.op
   pub behind : (h.op ≡ op + 1) ⊎ (h.op ≡ pin + 1) ⊎ Ends before
@@ -138,7 +138,7 @@ TidyFlushLaw =
     → IsTidy sh log v → MayAppend sh v ps → (1 < length ps → 0 < boot_of v) → AreSame qs ps → AllPutPrepare sh qs prepares → AllPutTable table headers → IsGroupTable sh (now log) ps table headers
     → LeadsTidily sh log v (flush_command v ps prepares headers) × (IsStanding log v → KeepsStanding sh log v (flush_command v ps prepares headers))
 
--- and behind it the ring shows the table
+-- and after it the ring shows the table
 abbrev pub FlushRingLaw : Type 0
 FlushRingLaw =
     (sh : Shape) (log : UnitLog) (ps qs : List Message) (prepares : List Units) (table : ℕ → Header) (headers : List Units)

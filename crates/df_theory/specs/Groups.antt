@@ -6,7 +6,7 @@ use Rattle.df_theory.specs.Tails.{In, Chain, last_mark, last_checksum, AreGroups
 use Rattle.df_theory.specs.Shape.{Shape, slots, clients}
 use Rattle.df_theory.specs.View.{Checkpoint, View}
 
--- prepares behind this tail, each of which is shown and fits what precedes it
+-- prepares after this tail, each of which is shown and fits what precedes it
 pub record AreBehind (sh : Shape) (Shown : Message → Type 0) (b : Checkpoint) (tail ps : List Message) : Type 0 where
   pub room : length tail + length ps ≤ slots sh
   pub shown : (p : Message) → In p ps → Shown p

@@ -87,7 +87,7 @@ pub record IsLowest (image : Units) (c : Content) (n : ℕ) : Type 0 where
   pub shows : image (CopyPlace n) ≡ Some (CopyUnit c)
   pub lowest : (k : ℕ) → k < n → image (CopyPlace k) ≡ Some (CopyUnit c) → ⊥
 
--- the checkpoint is read, no unit is of a later one, and this is the tail behind it
+-- the checkpoint is read, no unit is of a later one, and this is the tail after it
 pub record ReachesTail (sh : Shape) (image : Units) (b : Checkpoint) (tail : List Message) : Type 0 where
   pub readable : IsReadable sh image b
   pub not_behind : NotBehind sh image b.content
@@ -119,7 +119,7 @@ pub record AreFitting (sh : Shape) (b : Checkpoint) (ps : List Message) : Type 0
   pub grouped : AreGroups 0 b.content.op (b.content.op + 1) ps
   pub ends : (p : Message) → In p ps → p.header.op ≡ b.content.pin → p.header.group_last ≤ b.content.pin
 
--- all that is named is shown, and the one behind this front is the first that doesn't fit
+-- all that is named is shown, and the one after this front is the first that doesn't fit
 pub record IsUnfit (sh : Shape) (image : Units) (b : Checkpoint) (front : List Message) : Type 0 where
   pub next : Message
   pub rest : List Message

@@ -1,4 +1,4 @@
--- The referenced blocks stand in order of address: what a step checks, and what is left to be checked behind it.
+-- The referenced blocks stand in order of address: what a step checks, and what is left to be checked after it.
 use Rattle.std.proofs.Common.{◌≡◌, ℕ, ◌+◌, List, [], ◌∷◌, length, Option, refl, sym, ◌∙◌, ap, arith}
 use Rattle.df_base.specs.Image.{Image}
 use Rattle.df_disk.specs.Told.{Told}
@@ -38,7 +38,7 @@ referenced_rise r = entries_rise (reference_in r.blocks) 1 r.file.layout.blocks 
 
 -- ---- a step
 
--- a block was checked: it is the first that was left, and the others are left behind it
+-- a block was checked: it is the first that was left, and the others are left after it
 pub record IsChecked (r : Replica) (told : Option Told) (s t : ScrubState) (a : ℕ) (v : Verdict) : Type 0 where
   pub x : ℕ × ℕ
   pub more : List (ℕ × ℕ)

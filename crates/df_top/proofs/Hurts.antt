@@ -72,7 +72,7 @@ module _ (file : DataFile) (view : View) (t : Told) (may : MayBeHurt file view t
         subst (λ (x : DataFile). Keeps Firm found.replica (begun_work x t.shown finds.found) None) same
         (stand finds.found (subst (λ (x : DataFile). IsFound (shape x) (unit_at x.layout x.cluster t.shown) finds.found) (sym same) finds.is_found))
 
-    -- all that it has was written, as the disk tells behind the boot update
+    -- all that it has was written, as the disk tells after the boot update
     written : IsWrittenIn found.replica.file found.mended w
     written =
         let goes = goes_told (did Sync t) found.mended (found.mending.events, found.mending.told) in

@@ -88,7 +88,7 @@ module _ (before after : Outside) (old : Session) (room : Room) (line : Line) (e
       line_turns (Ends ReadFault) did count beat = absurd did
       line_turns (Ends Memory) did count beat = absurd did
 
--- ---- calls may go on behind a line that was answered
+-- ---- calls may go on after a line that was answered
 
 pub live_on : (said : Said) (s t : Replica) (old new : Option Told) (written took : Option (List ℕ)) (turn : Turn) → Answers (command_of said) s t old new written took turn → OnGoing turn (t.live ≡ true)
 live_on said s t old new written took GoesOn did = did.1.calls.call.live

@@ -144,14 +144,14 @@ no_other word one two no_format no_workload =
     of_three word one two (λ s n says. no_workload (first_of word one two (codes "workload") (decimal s) (decimal n) says.is))
     (λ l c says. no_format (first_of word one two (codes "format") says.name (decimal c) says.is))
 
--- behind `format` they name a layout, and a cluster
+-- after `format` they name a layout, and a cluster
 pub only_format : (name cluster : List ℕ) → ((layout : Layout) (n : ℕ) → NamesLayout name layout → cluster ≡ decimal n → n < 2 ^ 128 → ⊥) → (mode : Mode) → Means (codes "format" ∷ name ∷ cluster ∷ []) mode → ⊥
 only_format name cluster none =
     of_three (codes "format") name cluster
     (λ s n says. let letter : 102 ≡ 119 = ap (λ (l : List ℕ). get_or l 0 0) (first_of (codes "format") name cluster (codes "workload") (decimal s) (decimal n) says.is) in omega (arith, letter))
     (λ l c says. let parts = three (codes "format") name cluster (codes "format") says.name (decimal c) says.is in none l c (subst (λ (n : List ℕ). NamesLayout n l) (sym parts.0) says.names) parts.1 says.cluster_fits)
 
--- and behind `workload` two numbers
+-- and after `workload` two numbers
 pub only_workload : (seed count : List ℕ) → ((s n : ℕ) → seed ≡ decimal s → count ≡ decimal n → s < 2 ^ 64 → 1 ≤ n → n ≤ 1000000 → ⊥) → (mode : Mode) → Means (codes "workload" ∷ seed ∷ count ∷ []) mode → ⊥
 only_workload seed count none =
     of_three (codes "workload") seed count
@@ -171,7 +171,7 @@ no_pace word one two three no_paced (Workload s n) says = three_is_not_four (cod
 no_pace word one two three no_paced (Format l c) says = three_is_not_four (codes "format") says.name (decimal c) word one two three (word ∷ one ∷ two ∷ three ∷ []) says.is refl
 no_pace word one two three no_paced (Paced p) says = let same : word ≡ codes "paced" = cc says.is in no_paced same
 
--- behind it stand three numbers
+-- after it stand three numbers
 pub only_paced : (scrub every steps : List ℕ) → ((p : Pace) → scrub ≡ decimal p.scrub → every ≡ decimal p.every → steps ≡ decimal p.steps → p.scrub ≤ 64 → p.every ≤ 64 → p.steps ≤ 64 → ⊥) → (mode : Mode) → Means (codes "paced" ∷ scrub ∷ every ∷ steps ∷ []) mode → ⊥
 only_paced scrub every steps none Run says = one_is_not_four (codes "run") (codes "paced") scrub every steps (codes "paced" ∷ scrub ∷ every ∷ steps ∷ []) says refl
 only_paced scrub every steps none Recover says = one_is_not_four (codes "recover") (codes "paced") scrub every steps (codes "paced" ∷ scrub ∷ every ∷ steps ∷ []) says refl

@@ -1,4 +1,4 @@
--- What a word finds behind damage before any number of opens was had since the last of them that raised its boot, and the history goes on.
+-- What a word finds after damage before any number of opens was had since the last of them that raised its boot, and the history goes on.
 use Rattle.std.proofs.Common.{◌≡◌, ◌⊎◌, inl, inr, List, [], ◌∷◌, ◌++◌, Option, Some, refl, sym, ◌∙◌, ap, subst}
 use Rattle.df_base.specs.Image.{Image}
 use Rattle.df_base.specs.Log.{Event, Log, Sync, add}

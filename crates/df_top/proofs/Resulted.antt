@@ -41,14 +41,14 @@ module _ (pace : Pace) (file : DataFile) where
   abbrev cd : Codec
   cd = codec file
 
-  -- behind all that is left of the work
+  -- after all that is left of the work
   abbrev from : Due → Stand → Stand
   from d x = all_by_loop sh cd x (rest_due sh cd d x)
 
   abbrev lines_in : List Turned → List Command
   lines_in turns = map command_of (all_said turns)
 
-  -- from a stand on, where so much is left, these calls print the script's text, and are the first of what is left and of all that comes behind it
+  -- from a stand on, where so much is left, these calls print the script's text, and are the first of what is left and of all that comes after it
   record Over (d : Due) (x : Stand) (turns : List Turned) (idle : Type 0) : Type 0 where
     pub text : all_text turns ≡ joined (paced sh cd pace (from d x) (lines_in turns))
     pub rest : List Command
@@ -115,7 +115,7 @@ module _ (pace : Pace) (file : DataFile) where
   grown : (x : Stand) (since last : ℕ) → IsCounted x since → last ≡ head x.work.view → last - since ≡ x.appended
   grown x since last counted is = omega (arith, counted, is)
 
-  -- what goes on from behind a call is so
+  -- what goes on from after a call is so
   abbrev Later : (e : Beat) → (v : Replica) → Told → List Turned → Type 0 → Type 0
   Later e v n turns idle = (z : Stand) → Keeps Firm v z.work None → AgreeShown file.layout (shown_of file n.shown) z.shown → IsCounted z e.since → Over e.due z turns idle
 

@@ -60,7 +60,7 @@ module _ (s t : Replica) (old new : Option Told) (same : new ≡ old) where
 
 -- ---- the ring
 
--- an item is put behind the first n ones
+-- an item is put after the first n ones
 pub take_set : {A : Type 0} (xs : List A) (n : ℕ) (x : A) → n < length xs → take (n + 1) (slice_set xs n x) ≡ take n xs ++ x ∷ []
 take_set [] n x few = absurd (omega (arith, few))
 take_set (y ∷ xs) zero x few = refl

@@ -34,7 +34,7 @@ module _ (file : DataFile) where
   call_within : (a : Act) (s t : Replica) (old new : Option Told) (answer : Option Answer) → s.file ≡ file → IsCall a.given a.command s t old new answer → AddsWithin file.layout old new
   call_within a s t old new answer same call = record { events = call.events; told = call.told; within = subst (λ (f : DataFile). AreWithin f.layout call.events) same call.within }
 
-  -- those of a list, each answered, and the file is the same behind them
+  -- those of a list, each answered, and the file is the same after them
   calls_within : (s : Replica) (old : Option Told) (acts : List Act) (answers : List Answer) (t : Replica) (new : Option Told) → s.file ≡ file → AreCalls s old acts answers t new → AddsWithin file.layout old new × (t.file ≡ file)
   calls_within s old [] [] t new same calls = (none_within file.layout old new calls.1, ap (λ (r : Replica). r.file) calls.0 ∙ same)
   calls_within s old [] (x ∷ answers) t new same calls = absurd calls
@@ -53,7 +53,7 @@ module _ (file : DataFile) where
 -- ---- a word on a file
 
 module _ (layout : Layout) (t : Told) where
-  -- the barrier, and what is added behind it
+  -- the barrier, and what is added after it
   behind : (new : Option Told) → AddsWithin layout (Some (did Sync t)) new → AddsWithin layout (Some t) new
   behind new more = record { events = Sync ∷ more.events; told = more.told; within = (tt, more.within) }
 
@@ -68,7 +68,7 @@ module _ (layout : Layout) (t : Told) where
   stops_within new (inr (inl synced)) = barrier_within new synced
   stops_within new (inr (inr part)) = mends_within part.found.file new part.opened.of.layout_is part.mending
 
-  -- a mending, and calls behind it
+  -- a mending, and calls after it
   session_within : (file : DataFile) (mended new : Option Told) → file.layout ≡ layout → Mends file (Some (did Sync t)) mended → AddsWithin file.layout mended new → AddsWithin layout (Some t) new
   session_within file mended new of mends added = then_within layout (Some t) mended new (mends_within file mended of mends) (subst (λ (l : Layout). AddsWithin l mended new) of added)
 

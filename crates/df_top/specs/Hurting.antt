@@ -25,7 +25,7 @@ WordReadsOwn (Paced pace) layout t found old new status serves w = ReadsOwn (scr
 WordReadsOwn (Workload seed count) layout t found old new status works w = ReadsOwn (run_calls works.worked) w
 WordReadsOwn mode layout t found old new status works w = Unit {0}
 
--- what becomes of the file is of damage: a refusal has its cause in a sector that is hurt, and the state that is found is one that the file had, from which on, behind its boot update,
+-- what becomes of the file is of damage: a refusal has its cause in a sector that is hurt, and the state that is found is one that the file had, from which on, after its boot update,
 -- the reads give what is their own
 abbrev pub ComesOfHurt : (file : DataFile) → (view : View) → (t : Told) → (layout : Layout) → (mode : Mode) → (old new : Outside) → (status : Status) → ComesTo mode layout t old new status → Type 0
 ComesOfHurt file view t layout mode old new status (inl refuses) = RefusesHurt file view t refuses.error

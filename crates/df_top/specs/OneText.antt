@@ -25,12 +25,12 @@ use Rattle.df_top.specs.Run.{ServesScript, script_budget}
 use Rattle.df_top.specs.declared.status.Status.{Status}
 use Rattle.df_top.specs.declared.status.Status.TheVariants.{Done, Script}
 
--- how the session of a script ends, by how its text ends behind the lines: there is no more, or the next line is refused
+-- how the session of a script ends, by how its text ends after the lines: there is no more, or the next line is refused
 abbrev pub status_by : {A B : Type 0} → A ⊎ B → Status
 status_by (inl no_more) = Done
 status_by (inr refused) = Script
 
--- and what it prints, where its n lines print this: at a line that is refused, the line that says so behind it
+-- and what it prints, where its n lines print this: at a line that is refused, the line that says so after it
 abbrev pub text_by : {A B : Type 0} → A ⊎ B → (n : ℕ) → List ℕ → List ℕ
 text_by (inl no_more) n text = text
 text_by (inr refused) n text = text ++ script_text (n + 1)

@@ -35,7 +35,7 @@ pub record PrintsRefusal (error : OpenError) (old new : Outside) (status : Statu
   pub prints : PrintsLine (open_refusal error) Refused old.written new.written status
   pub unread : new.left ≡ old.left
 
--- the file is refused behind the barrier, where the version is asked for, and nothing is written to it
+-- the file is refused after the barrier, where the version is asked for, and nothing is written to it
 pub record RefusesFileAs (version : ℕ) (layout : Layout) (t : Told) (old new : Outside) (status : Status) : Type 0 where
   pub error : OpenError
   pub is : IsRefusedForAs version layout t.shown error
@@ -50,7 +50,7 @@ pub record IsSilent (old new : Outside) : Type 0 where
   pub written : new.written ≡ old.written
   pub unread : new.left ≡ old.left
 
--- what the disk tells where it failed before the file was found: in the barrier, in a read behind it, or, but for a word that only looks, within the mending or the boot update
+-- what the disk tells where it failed before the file was found: in the barrier, in a read after it, or, but for a word that only looks, within the mending or the boot update
 abbrev pub StopsBefore : Mode → Layout → Told → Option Told → Type 0
 StopsBefore Inspect layout t later = AddsPart (Sync ∷ []) (Some t) later
 StopsBefore mode layout t later = StopsOpening layout t later

@@ -25,7 +25,7 @@ abbrev pub IsNext : Beat → Replica → Asker → Command → Type 0
 IsNext b s (ByLine said) c = (c ≡ command_of said) × IsIdle b s
 IsNext b s (ByLoop p) c = (c ≡ piece_command p s.root) × (next_piece b.due (runs s) ≡ Some p)
 
--- where the loop stands behind a call that was answered
+-- where the loop stands after a call that was answered
 abbrev pub behind : Pace → Beat → Asker → Replica → Answer → Beat
 behind pace b (ByLine said) t x = behind_line pace b t.head (runs t)
 behind pace b (ByLoop p) t x = behind_piece p (is_begun x) b t.head

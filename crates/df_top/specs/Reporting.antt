@@ -26,7 +26,7 @@ status_of (m ∷ more) = Found
 abbrev pub report_of : Survey → List ℕ
 report_of s = inspection_text (summary_of s.state) s.state.root s.state.table.sessions s.mends
 
--- the report of what is found is printed: Found exactly where something is to be mended. Behind the barrier nothing is written: what is only looked at isn't mended, and its boot isn't raised.
+-- the report of what is found is printed: Found exactly where something is to be mended. After the barrier nothing is written: what is only looked at isn't mended, and its boot isn't raised.
 pub record Inspects (layout : Layout) (t : Told) (found : FoundFile layout t) (old new : Outside) (status : Status) : Type 0 where
   pub survey : Survey
   pub of : survey.state ≡ found.found

@@ -20,7 +20,7 @@ use Rattle.df_top.specs.Lines.{Turned, all_acts, all_answers, all_said, all_text
 use Rattle.df_top.specs.Outside.{IsThrough}
 use Rattle.df_top.specs.declared.status.Status.{Status}
 
--- one text behind the other
+-- one text after the other
 abbrev pub joined : List (List ℕ) → List ℕ
 joined [] = []
 joined (text ∷ texts) = text ++ joined texts
@@ -37,7 +37,7 @@ script_text_of pace file view image says = text_over pace file (shown_of file im
 abbrev pub TextAlone : Type 0
 TextAlone = (file : DataFile) (shown : Shown) (w : Work) (says : List Said) → text_over idle file shown w says ≡ joined (printed (shape file) (codec file) shown w (map command_of says))
 
--- all commands of a session: its lines', each followed by those of the loop that are due behind it
+-- all commands of a session: its lines', each followed by those of the loop that are due after it
 abbrev pub commands_over : Pace → DataFile → Shown → Work → List Said → List Command
 commands_over pace file shown w says = all_commands (shape file) (codec file) pace (start shown w) (map command_of says)
 

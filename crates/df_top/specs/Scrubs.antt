@@ -47,7 +47,7 @@ PrintsTour s image old new status = PrintsLine (tour_report s image) (tour_statu
 
 -- ---- the word
 
--- A whole tour over what the disk shows behind the mending is printed; it is the machine's. What is kept of the file is what calls keep that were none, and whatever a disk shows, the
+-- A whole tour over what the disk shows after the mending is printed; it is the machine's. What is kept of the file is what calls keep that were none, and whatever a disk shows, the
 -- open and the tour leave each place that a call reads as it was: no block is written.
 pub record ScrubsFile (layout : Layout) (t : Told) (found : FoundFile layout t) (old new : Outside) (status : Status) : Type 0 where
   pub after : Told

@@ -66,7 +66,7 @@ pub record IsDamagedLine (command : Command) (told : Option Told) (line : List �
   pub is : line ≡ damaged_text place class
   pub step : IsDamaged command told place class
 
--- What is written at the end, and which call was not answered: all that is to be printed, or a front of it where the sink failed. Behind a step that is
+-- What is written at the end, and which call was not answered: all that is to be printed, or a front of it where the sink failed. After a step that is
 -- damaged comes its line.
 abbrev pub EndsWith : (n : ℕ) → (old new : Outside) → List Turned → (failed : Option Act) → (cut : Bool) → Status → Type 0
 EndsWith n old new turns None cut Done = (cut ≡ false) × Appends old.written new.written (printed n turns cut)

@@ -1,4 +1,4 @@
--- What one line of a script, or one piece of the work behind it, does to a session, whatever was executed before it.
+-- What one line of a script, or one piece of the work after it, does to a session, whatever was executed before it.
 use Rattle.std.specs.Prelude.{◌≡◌, ◌⊎◌, ◌+◌, ◌-◌, ℕ, List, ◌++◌, Option, Some, None}
 use Rattle.df_base.specs.Streams.{Appends, AppendsPart}
 use Rattle.df_disk.specs.Told.{Told}

@@ -25,7 +25,7 @@ pub record Upgrades (layout : Layout) (t : Told) (old new : Outside) (status : S
   pub prints : PrintsLine (upgraded_text sequence) Done old.written new.written status
   pub unread : new.left ≡ old.left
 
--- the disk failed: in the barrier, in a read behind it, or within the upgrade, which leaves the bare view at each moment
+-- the disk failed: in the barrier, in a read after it, or within the upgrade, which leaves the bare view at each moment
 pub record FailsToUpgrade (layout : Layout) (t : Told) (old new : Outside) (status : Status) : Type 0 where
   pub fault : status ≡ DiskFault
   pub silent : IsSilent old new

@@ -40,7 +40,7 @@ pub record CanGoOn (run : Run) (s : Replica) : Type 0 where
   pub live : s.live ≡ true
   pub runs : run.running ≡ true → IsRunning s
 
--- where the flag of the run is set behind an answer, a checkpoint runs, if that was so before
+-- where the flag of the run is set after an answer, a checkpoint runs, if that was so before
 abbrev pub RunsOn : Command → (s t : Replica) → Result Outcome Fault → Type 0
 RunsOn command s t (Ok outcome) = (flag : Bool) → (flag ≡ true → IsRunning s) → runs_after command outcome flag ≡ true → IsRunning t
 RunsOn command s t (Err e) = Unit {0}

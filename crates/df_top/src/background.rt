@@ -1,4 +1,4 @@
-// The loop's work behind a line: each piece is one call, whose answer isn't printed, until nothing is due or something fails.
+// The loop's work after a line: each piece is one call, whose answer isn't printed, until nothing is due or something fails.
 ghost use Rattle.std.specs.Prelude.{◌≡◌, ◌<◌, Option, List, ℕ, Some, true, OnOk};
 ghost use Rattle.df_base.specs.Causes.{IsBlamed};
 ghost use Rattle.df_inspect.specs.Answers.{command_of as call_of};
@@ -140,7 +140,7 @@ fn next(session: &Session) -> Option<Piece>
     session.beat.next(session.replica.is_running())
 }
 
-/// Does all the work that is due behind a line, piece by piece.
+/// Does all the work that is due after a line, piece by piece.
 pub fn work<D: Disk, W: Sink>(disk: &mut D, sink: &mut W, session: &mut Session) -> Turn
     requires live { session.old.replica.live ≡ true }
     ensures turns { (left : Option (List ℕ)) (bound : ℕ) → Turns session.old.pace bound

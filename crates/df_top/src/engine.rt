@@ -109,7 +109,7 @@ pub fn run<D: Disk, S: Source, W: Sink>(
         → MakesFile layout cluster (D.told disk.old) (D.told disk.new) result }
 
     // The words that open a file or survey it refuse it by the first reason of the order of open. `run` serves the script as the machine does, and
-    // keeps what it answered at every moment and at its end; `paced` does so too, with the work that is due behind each line; `recover` prints the summary of a file that is mended and
+    // keeps what it answered at every moment and at its end; `paced` does so too, with the work that is due after each line; `recover` prints the summary of a file that is mended and
     // whose boot is raised, as each word does it but `inspect`, which prints the report of what it finds, and adds nothing but the sync of its barrier; `scrub` prints
     // the referenced blocks that fail; `workload` carries out a generated run as the machine does, keeps what was answered, and
     // prints what it did.

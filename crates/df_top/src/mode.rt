@@ -134,7 +134,7 @@ fn mode_with(word: &str, one: &str, two: &str) -> Option<Mode>
     }
 }
 
-// What `workload` asks for with these words behind it.
+// What `workload` asks for with these words after it.
 fn workload_mode(seed: &str, count: &str) -> Option<Mode>
     ensures found { IfSome result (Means (codes "workload" ∷ seed.now ∷ count.now ∷ [])) }
     ensures none { IfNone result ((c : Mode) → Means (codes "workload" ∷ seed.now ∷ count.now ∷ []) c → ⊥) }
@@ -159,7 +159,7 @@ fn paced_words(word: &str, scrub: &str, every: &str, steps: &str) -> Option<Mode
     }
 }
 
-// What `paced` asks for with these words behind it.
+// What `paced` asks for with these words after it.
 fn paced_mode(scrub: &str, every: &str, steps: &str) -> Option<Mode>
     ensures found { IfSome result (Means (codes "paced" ∷ scrub.now ∷ every.now ∷ steps.now ∷ [])) }
     ensures none { IfNone result ((c : Mode) → Means (codes "paced" ∷ scrub.now ∷ every.now ∷ steps.now ∷ []) c → ⊥) }
@@ -189,7 +189,7 @@ fn pieces_of(word: &str) -> Option<u64>
     Some(pieces)
 }
 
-// What `format` asks for with these words behind it.
+// What `format` asks for with these words after it.
 fn format_mode(name: &str, cluster: &str) -> Option<Mode>
     ensures found { IfSome result (Means (codes "format" ∷ name.now ∷ cluster.now ∷ [])) }
     ensures none { IfNone result ((c : Mode) → Means (codes "format" ∷ name.now ∷ cluster.now ∷ []) c → ⊥) }

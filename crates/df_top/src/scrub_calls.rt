@@ -39,7 +39,7 @@ pub fn scrub<D: Disk, W: Sink>(disk: &mut D, sink: &mut W, replica: &mut Replica
     }
 }
 
-// Puts a finding behind the first `count` ones, where there is one, and says how many there are then.
+// Puts a finding after the first `count` ones, where there is one, and says how many there are then.
 fn keep(row: &mut [Finding], count: usize, found: Option<Finding>) -> usize
     requires { count < length row.old }
     ensures kept { take result row.new ≡ take count row.old ++ items_of found }

@@ -12,7 +12,7 @@ pub struct Session {
     pub lines: LineRoom,
     /// How many lines were executed.
     pub count: u64,
-    /// How much work is done behind each line.
+    /// How much work is done after each line.
     pub pace: Pace,
     /// Where that work stands.
     pub beat: Beat,

@@ -1,4 +1,4 @@
-// The session over a script: one turn for each line and the work behind it, until there is none, one is refused, or something fails.
+// The session over a script: one turn for each line and the work after it, until there is none, one is refused, or something fails.
 ghost use Rattle.std.specs.Prelude.{◌≡◌, ◌<◌, ◌≤◌, ◌+◌, ◌^◌, length, true};
 ghost use Rattle.df_inspect.specs.Answers.{command_of as call_of};
 ghost use Rattle.df_lines.specs.Grammar.{body_length, said_with};
@@ -110,7 +110,7 @@ fn execute<D: Disk, W: Sink>(disk: &mut D, sink: &mut W, session: &mut Session, 
     }
 }
 
-// Where the loop stands behind a line.
+// Where the loop stands after a line.
 fn behind(session: &Session) -> Beat
     ensures { result ≡ behind_line session.now.pace session.now.beat session.now.replica.head (runs session.now.replica) }
 {
@@ -172,7 +172,7 @@ fn take_line<D: Disk, S: Source, W: Sink>(
     }
 }
 
-/// Serves a script, line by line, to its end, and does the work that is due behind each.
+/// Serves a script, line by line, to its end, and does the work that is due after each.
 pub fn serve_script<D: Disk, S: Source, W: Sink>(
     disk: &mut D,
     source: &mut S,

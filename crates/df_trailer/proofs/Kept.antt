@@ -26,7 +26,7 @@ append_first (t ∷ a) b = pick t.0 (append_first a b)
     pick true e = refl
     pick false e = e
 
--- the tests behind the head, of as many bits as are kept
+-- the tests after the head, of as many bits as are kept
 abbrev kept_tests : (blocks head : ℕ) → List ℕ → ℕ → List (Bool × Failing)
 kept_tests blocks head bits behind = rest_tests blocks head (length bits) (bits_in bits) behind
 

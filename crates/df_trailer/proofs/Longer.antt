@@ -1,4 +1,4 @@
--- What stands in a text stays where more comes behind it.
+-- What stands in a text stays where more comes after it.
 use Rattle.std.proofs.Common.{◌≡◌, ℕ, ◌+◌, ◌-◌, ◌*◌, ◌/◌, ◌<◌, ◌≤◌, true, false, nat_lt, inl, inr, List, [], ◌∷◌, ◌++◌, length, take, get_or, refl, sym, ap, ◌∙◌, arith, append_assoc, append-nil, length-append}
 use Rattle.std.specs.Prelude.{nat_le, min}
 use Rattle.std.proofs.lemmas.Bool.{both_ways, cases_lt, lt-ltb, le-ltb, leb-true, leb-false, or_parts, or_cases}
@@ -64,7 +64,7 @@ pushed_fits h ys one more = elim (cases_lt (length (h ++ ys)) 4) [
 pub not_whole : (h : List ℕ) → is_whole h ≡ false → (length h < 3080) × (length h < head_end h)
 not_whole h is = let p = or_parts (nat_le 3080 (length h)) (nat_le (head_end h) (length h)) is in (leb-false 3080 (length h) p.0, leb-false (head_end h) (length h) p.1)
 
--- ---- the tests of a head, where more comes behind it
+-- ---- the tests of a head, where more comes after it
 
 -- what a whole head has
 pub record IsWhole (clients : ℕ) (h : List ℕ) : Type 0 where

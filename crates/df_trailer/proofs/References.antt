@@ -15,12 +15,12 @@ use Rattle.df_trailer.proofs.Kept.{append_first, bits_at_front, bits_kept, head_
 use Rattle.df_trailer.proofs.OneBit.{ones_more}
 use Rattle.df_trailer.proofs.Read.{fine, no_fault}
 
--- what bits and the checksums behind them say of the block at a place
+-- what bits and the checksums after them say of the block at a place
 abbrev pub reference_of : List ℕ → List ℕ → ℕ → Option ℕ
 reference_of bits checks place =
     if bit_at (bits_in bits) place == 1 then Some (field_at 16 (16 * ones (bits_of place (bits_in bits))) checks) else None
 
--- what is known of the block at a place: its bit, and the checksum behind those of the earlier ones
+-- what is known of the block at a place: its bit, and the checksum after those of the earlier ones
 pub block_at : (n x at : ℕ) (text : List ℕ) (k : ℕ) → k < n
     → at_place (read_blocks (bits_of n x) at text) k ≡ (if bit_at x k == 1 then Some (field_at 16 (at + 16 * ones (bits_of k x)) text) else None)
 block_at zero x at text k within = absurd (omega arith)

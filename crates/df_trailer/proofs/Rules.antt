@@ -5,7 +5,7 @@ use Rattle.std.proofs.lemmas.Bool.{ne_eqb, le-ltb, eqb-false, ltb-false, cases_B
 use Rattle.df_theory.specs.Units.{Session}
 use Rattle.df_trailer.specs.Text.{is_repeated, is_wrong, wrong_place}
 
--- the sessions keep the rules behind the earlier ones
+-- the sessions keep the rules after the earlier ones
 pub record KeepRules (op : ℕ) (earlier ss : List Session) : Type 0 where
   pub each : (k : ℕ) (s : Session) → slice_get ss k ≡ Some s → (0 < s.client) × (0 < s.request) × (s.request ≤ 2 ^ 62) × (0 < s.op) × (s.op ≤ op)
   pub fresh : (k : ℕ) (s : Session) → slice_get ss k ≡ Some s → is_repeated s.client s.op earlier ≡ false
@@ -54,7 +54,7 @@ none_wrong op earlier (s ∷ ss) keep =
         let b : (s.op == t.op) ≡ false = ne_eqb s.op t.op other in
         rw (a, b) fresh
 
--- where the first is right and the others are right behind it, all are
+-- where the first is right and the others are right after it, all are
 pub rules_behind : (op : ℕ) (earlier ss : List Session) (s : Session) → is_wrong op earlier s ≡ false → KeepRules op (s ∷ earlier) ss → KeepRules op earlier (s ∷ ss)
 rules_behind op earlier ss s here keep = record { each = each; fresh = fresh; clients = clients; ops = ops }
   where

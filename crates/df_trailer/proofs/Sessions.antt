@@ -22,7 +22,7 @@ pub length_read : (n at : ℕ) (text : List ℕ) → length (read_sessions n at 
 length_read zero at text = refl
 length_read (suc n) at text = ap suc (length_read n (at + 32) text)
 
--- the op stands behind the request
+-- the op stands after the request
 op_at : (at : ℕ) (text : List ℕ) → field_at 8 (at + 24) text ≡ field_at 8 (at + 16 + 8) text
 op_at at text = ap (λ (n : ℕ). field_at 8 n text) (let there : at + 24 ≡ at + 16 + 8 = omega arith in there)
 
@@ -44,7 +44,7 @@ sessions_spelled (suc n) at text rest are fits is =
     spelled_back session_pieces at text (spell_sessions ss ++ rest) (session at text) are (omega arith) (assumption (sym (op_at at text))) others
     ∙ sym (text-append session_pieces (session at text) (spell_sessions ss) rest)
 
--- what stands in a text stays where more comes behind it
+-- what stands in a text stays where more comes after it
 pub session_front : (at : ℕ) (xs ys : List ℕ) → at + 32 ≤ length xs → session at (xs ++ ys) ≡ session at xs
 session_front at xs ys fits =
     let client = field_front 16 at xs ys (omega arith) in

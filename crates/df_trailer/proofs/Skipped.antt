@@ -17,7 +17,7 @@ use Rattle.df_trailer.proofs.Shown.{checks_more, shown_all}
 pub shown_before : (from : ℕ) (room text : List ℕ) → length text ≤ from → IsShown text from room
 shown_before from room text ends i inside within = absurd (omega arith)
 
--- what stands behind the window
+-- what stands after the window
 shown_behind : (from : ℕ) (room a b : List ℕ) → from + length room ≤ length a → IsShown a from room → IsShown (a ++ b) from room
 shown_behind from room a b full were i inside within = were i inside (omega arith) ∙ sym (get_or_append_left a b 0 (from + i) (omega arith))
 

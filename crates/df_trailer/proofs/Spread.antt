@@ -1,4 +1,4 @@
--- Checksums that are moved from one behind the other to the places of their blocks, from the last place down.
+-- Checksums that are moved from one after the other to the places of their blocks, from the last place down.
 use Rattle.std.proofs.Common.{◌≡◌, ℕ, suc, ◌+◌, ◌<◌, ◌≤◌, ◌==◌, Bool, true, false, List, [], length, get_or, set, refl, sym, ap, ◌∙◌, arith, inl, inr}
 use Rattle.std.specs.Prelude.{replicate}
 use Rattle.std.specs.Int.{bit_at}

@@ -14,7 +14,7 @@ use Rattle.df_trailer.specs.declared.fault.Failing.{Failing}
 use Rattle.df_trailer.specs.declared.fault.Cause.TheVariants.{Ends, Says}
 use Rattle.df_trailer.specs.declared.reader.Reader.{Reader}
 
--- a text whose head is this, with these bits behind it as far as so many bytes go
+-- a text whose head is this, with these bits after it as far as so many bytes go
 pub record IsKept (l : Layout) (text head bits : List ℕ) (behind : ℕ) : Type 0 where
   pub rest : List ℕ
   pub is : text ≡ head ++ rest
@@ -24,11 +24,11 @@ pub record IsKept (l : Layout) (text head bits : List ℕ) (behind : ℕ) : Type
   pub room : length bits ≡ (l.blocks + 7) / 8
   pub bits_are : (i : ℕ) → i < length rest → i < length bits → slice_index bits i ≡ slice_index rest i
 
--- the bytes behind head and bits, as far as they came
+-- the bytes after head and bits, as far as they came
 abbrev pub AreChecksKept : List ℕ → ℕ → List ℕ → Type 0
 AreChecksKept text at checks = (i : ℕ) → i < length checks → at + i < length text → slice_index checks i ≡ slice_index text (at + i)
 
--- the tests of the bits behind a head of so many bytes: as many bytes as they need, which are this number
+-- the tests of the bits after a head of so many bytes: as many bytes as they need, which are this number
 abbrev pub bits_tests : (blocks head size bits behind : ℕ) → List (Bool × Failing)
 bits_tests blocks head size bits behind =
     (nat_lt behind size, fails Ends TrailerBits (head + behind))
@@ -39,7 +39,7 @@ bits_tests blocks head size bits behind =
 abbrev pub end_tests : (blocks head size bits behind : ℕ) → List (Bool × Failing)
 end_tests blocks head size bits behind = (not (behind == size + 16 * ones (bits_of blocks bits)), fails Ends TrailerEnd (head + behind)) ∷ []
 
--- the tests of what comes behind a head
+-- the tests of what comes after a head
 abbrev pub rest_tests : (blocks head size bits behind : ℕ) → List (Bool × Failing)
 rest_tests blocks head size bits behind = bits_tests blocks head size bits behind ++ end_tests blocks head size bits behind
 
@@ -71,7 +71,7 @@ HasBit r address = (1 ≤ address) × (address ≤ r.layout.blocks)
 abbrev pub referenced_below : Reader → ℕ → ℕ
 referenced_below r address = ones (bits_of (address - 1) (bits_in (bits_room r)))
 
--- what a reader keeps of the block at an address: its checksum stands behind those of the lower ones
+-- what a reader keeps of the block at an address: its checksum stands after those of the lower ones
 abbrev pub kept_at : Reader → ℕ → Option ℕ
 kept_at r address =
     if bit_at (bits_in (bits_room r)) (address - 1) == 1 then Some (field_at 16 (16 * referenced_below r address) (checks_room r)) else None
@@ -87,7 +87,7 @@ pub record HasRead (layout : file.Layout) (op : ℕ) (r : Reader) (text : List �
   pub kept : IsKept (layout_of layout) text r.front.head.items (bits_room r) r.behind
   pub checks : AreChecksKept text (length r.front.head.items + bits_size (layout_of layout)) (checks_room r)
 
--- a reader took a piece behind the head: its bytes stand in the rooms, as far as these go, and earlier ones stay
+-- a reader took a piece after the head: its bytes stand in the rooms, as far as these go, and earlier ones stay
 pub record IsRestTaken (old new : Reader) (piece : List ℕ) : Type 0 where
   pub bits_stay : (i : ℕ) → i < (old.layout.blocks + 7) / 8 → i < old.behind → byte_in_words new.parts.bits.items i ≡ byte_in_words old.parts.bits.items i
   pub bits_here : (i : ℕ) → i < length piece → old.behind + i < (old.layout.blocks + 7) / 8 → byte_in_words new.parts.bits.items (old.behind + i) ≡ slice_index piece i

@@ -12,7 +12,7 @@ use Rattle.df_trailer.specs.Text.{bits_in}
 abbrev pub byte_of_word : ℕ → ℕ → ℕ
 byte_of_word word place = slice_index (to_le_bytes w64 word) place
 
--- a byte of words that stand one behind the other
+-- a byte of words that stand one after the other
 abbrev pub byte_in_words : List ℕ → ℕ → ℕ
 byte_in_words words place = byte_of_word (slice_index words (place / 8)) (place % 8)
 
@@ -20,7 +20,7 @@ byte_in_words words place = byte_of_word (slice_index words (place / 8)) (place 
 abbrev pub bits_in_words : ℕ → List ℕ → ℕ
 bits_in_words bytes words = bits_in (listed (byte_in_words words) bytes)
 
--- a byte of checksums that stand one behind the other
+-- a byte of checksums that stand one after the other
 abbrev pub byte_in_checks : List (List ℕ) → ℕ → ℕ
 byte_in_checks checks place = slice_index (get_or checks (place / 16) []) (place % 16)
 

@@ -40,7 +40,7 @@ spell_checks [] = []
 spell_checks (None ∷ bs) = spell_checks bs
 spell_checks (Some checksum ∷ bs) = spelled 16 checksum ++ spell_checks bs
 
--- what stands before the checksums, with a root of so many bytes and so many sessions: both, each behind its count, and the bits of all
+-- what stands before the checksums, with a root of so many bytes and so many sessions: both, each after its count, and the bits of all
 -- blocks, as one number
 abbrev pub trailer_pieces : Layout → (root sessions : ℕ) → List (Piece Parts)
 trailer_pieces l root sessions =

@@ -106,12 +106,12 @@ abbrev pub is_repeated : ℕ → ℕ → List Session → Bool
 is_repeated client op [] = false
 is_repeated client op (t ∷ ts) = (t.client == client) || ((t.op == op) || is_repeated client op ts)
 
--- the session breaks a rule, behind the earlier ones
+-- the session breaks a rule, after the earlier ones
 abbrev pub is_wrong : ℕ → List Session → Session → Bool
 is_wrong op before s =
     (s.client == 0) || ((s.request == 0) || (nat_lt (2 ^ 62) s.request || ((s.op == 0) || (nat_lt op s.op || is_repeated s.client s.op before))))
 
--- the place of the first session that is wrong, behind the earlier ones; past the end where none is
+-- the place of the first session that is wrong, after the earlier ones; past the end where none is
 abbrev pub wrong_place : ℕ → List Session → List Session → ℕ
 wrong_place op before [] = 0
 wrong_place op before (s ∷ ss) = if is_wrong op before s then 0 else suc (wrong_place op (s ∷ before) ss)
@@ -173,7 +173,7 @@ answer (Some f) = Err f
 abbrev pub fault : Layout → ℕ → List ℕ → Option Fault
 fault l op text = fault_in (first_refusal (tests l op text))
 
--- what fails in a text, whatever comes behind it
+-- what fails in a text, whatever comes after it
 abbrev pub refusal : Layout → ℕ → List ℕ → Option Fault
 refusal l op text = refusal_in (first_refusal (tests l op text))
 

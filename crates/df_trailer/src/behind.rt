@@ -1,4 +1,4 @@
-// Bytes behind the head, put into the rooms for bits and checksums by how many bytes came before them.
+// Bytes after the head, put into the rooms for bits and checksums by how many bytes came before them.
 ghost use Rattle.std.specs.Prelude.{◌≡◌, ◌≢◌, ◌+◌, ◌*◌, ◌/◌, ◌<◌, ◌≤◌, ℕ, length};
 ghost use Rattle.df_trailer.specs.Rooms.{byte_in_checks, byte_in_words};
 
@@ -32,7 +32,7 @@ fn put_check_byte(checks: &mut [Check], place: usize, byte: u8)
     checks[place / 16] = check;
 }
 
-/// Puts a byte into the room for the checksums, if it stands behind the bits.
+/// Puts a byte into the room for the checksums, if it stands after the bits.
 pub(crate) fn put_checks(checks: &mut [Check], blocks: u32, behind: u64, byte: u8)
     requires { length checks.old ≡ blocks }
     ensures length { length checks.new ≡ length checks.old }

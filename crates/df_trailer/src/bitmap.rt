@@ -37,7 +37,7 @@ pub(crate) fn is_set(words: &[u64], place: u64) -> bool
     (words[(place / WORD) as usize] >> (place % WORD)) & 1 == 1
 }
 
-/// Tells whether a bit behind the first `blocks` is set, in as many whole bytes as these need.
+/// Tells whether a bit after the first `blocks` is set, in as many whole bytes as these need.
 pub(crate) fn has_unused(words: &[u64], blocks: u32) -> bool
     requires { blocks ≤ 64 * length words.now }
     ensures { result ≡ nat_le (2 ^ blocks) (bits_in_words ((blocks + 7) / 8) words.now) }

@@ -15,7 +15,7 @@ pub struct Fault {
 pub(crate) enum Cause {
     /// The text ends too early or too late: more of it could still mend that.
     Ends,
-    /// The text says what it may not say, whatever comes behind it.
+    /// The text says what it may not say, whatever comes after it.
     Says,
 }
 

@@ -16,7 +16,7 @@ pub fn spelling_is_a_codec()
     ensures { CodecLaw }
 {}
 
-/// What fails in a text, whatever comes behind it, is the first part that fails in each longer text.
+/// What fails in a text, whatever comes after it, is the first part that fails in each longer text.
 pub fn refusals_stay()
     ensures { RefusalLaw }
 {}

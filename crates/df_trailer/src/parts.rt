@@ -75,7 +75,7 @@ fn copy(checks: &mut [Check], from: usize, to: usize)
     checks[to] = checks[from];
 }
 
-/// Moves the checksums of the referenced blocks, which stand one behind the other, each to the place of its block, and
+/// Moves the checksums of the referenced blocks, which stand one after the other, each to the place of its block, and
 /// puts zeros where no block is referenced. From the last place down, so that none is overwritten before it is moved.
 pub(crate) fn spread(bits: &[u64], checks: &mut [Check], blocks: u32)
     requires bits { blocks ≤ 64 * length bits.now }

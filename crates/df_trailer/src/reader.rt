@@ -22,13 +22,13 @@ pub struct Reader {
     op: u64,
     front: Front,
     parts: Parts,
-    /// How many bytes came behind the head.
+    /// How many bytes came after the head.
     behind: u64,
     ghost bits_room: { vec_len parts.bits ≡ (layout.blocks + 63) / 64 },
     ghost checks_room: { vec_len parts.checks ≡ layout.blocks },
 }
 
-/// What fails, whatever comes behind it.
+/// What fails, whatever comes after it.
 fn refusal_of(failing: Option<Failing>) -> Result<(), Fault>
     ensures { result ≡ answer (refusal_in failing) }
 {
@@ -84,7 +84,7 @@ impl Reader {
         }
     }
 
-    /// Takes one byte behind the head.
+    /// Takes one byte after the head.
     fn take_byte(&mut self, byte: u8)
         requires { self.old.behind < 2 ^ 62 }
         ensures size { self.new.behind ≡ self.old.behind + 1 }
@@ -106,7 +106,7 @@ impl Reader {
         self.behind += 1;
     }
 
-    /// Takes bytes behind the head.
+    /// Takes bytes after the head.
     fn take_rest(&mut self, piece: &[u8])
         requires { self.old.behind + length piece.now < 2 ^ 62 }
         ensures size { self.new.behind ≡ self.old.behind + length piece.now }
@@ -152,7 +152,7 @@ impl Reader {
         }
     }
 
-    /// What fails in what came so far, whatever comes behind it: more of a text can still mend its end, so that isn't tested.
+    /// What fails in what came so far, whatever comes after it: more of a text can still mend its end, so that isn't tested.
     fn refused(&self) -> Result<(), Fault>
         requires { bytes_read self.now < 2 ^ 62 }
         ensures { result ≡ answer (refusal_in (failing_in self.now)) }
@@ -161,7 +161,7 @@ impl Reader {
     }
 
     /// Takes the next piece of the text. It refuses exactly where the text so far says what it may not say, whatever
-    /// comes behind it; a refusal stays for every later piece.
+    /// comes after it; a refusal stays for every later piece.
     pub fn feed(&mut self, piece: &[u8]) -> Result<(), Fault>
         requires { bytes_read self.old + length piece.now < 2 ^ 62 }
         ensures kept { (layout : FileLayout) (op : ℕ) (text : List ℕ) → HasRead layout op self.old text → HasRead layout op self.new (text ++ piece.now) }

@@ -1,4 +1,4 @@
-// What comes behind the head: bits, and what is told of the text by them.
+// What comes after the head: bits, and what is told of the text by them.
 ghost use Rattle.std.specs.Prelude.{◌≡◌, ◌+◌, ◌*◌, ◌/◌, ◌<◌, ◌≤◌, ◌^◌, length};
 ghost use Rattle.df_model.specs.Refusals.{first_refusal};
 ghost use Rattle.df_trailer.specs.Reading.{bits_tests, end_tests};
@@ -9,7 +9,7 @@ use crate::fault::Failing;
 use crate::head::{ends, says};
 use df_layout::Field;
 
-/// The first part of the bits that fails, where so many bytes came behind a head of so many.
+/// The first part of the bits that fails, where so many bytes came after a head of so many.
 pub(crate) fn failing_bits(blocks: u32, head: u64, words: &[u64], behind: u64) -> Option<Failing>
     requires room { blocks ≤ 64 * length words.now }
     requires some { 0 < blocks }
@@ -26,7 +26,7 @@ pub(crate) fn failing_bits(blocks: u32, head: u64, words: &[u64], behind: u64) -
     None
 }
 
-/// What fails where a text ends, so many bytes behind a head of so many, with these bits.
+/// What fails where a text ends, so many bytes after a head of so many, with these bits.
 pub(crate) fn failing_end(blocks: u32, head: u64, words: &[u64], behind: u64) -> Option<Failing>
     requires room { blocks ≤ 64 * length words.now }
     requires small { head + behind < 2 ^ 62 }

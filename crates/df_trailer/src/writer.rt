@@ -55,7 +55,7 @@ fn put_sessions(room: &mut [u8], from: u64, start: u64, sessions: &[Session]) ->
     at
 }
 
-/// The bit of the block at a place, 0 behind the last one.
+/// The bit of the block at a place, 0 after the last one.
 fn bit_of<G: CapturedBlocks>(grid: &G, blocks: u32, place: u64) -> u8
     ensures { result ≡ bit_at (captured_bits (G.captured grid.now) blocks) place }
 {
@@ -113,8 +113,8 @@ fn put_check<G: CapturedBlocks>(room: &mut [u8], from: u64, at: u64, grid: &G, a
     }
 }
 
-/// Puts the checksums of the referenced blocks that the window shows. The answer is where the checksums end, or an offset behind the window
-/// where they end behind it.
+/// Puts the checksums of the referenced blocks that the window shows. The answer is where the checksums end, or an offset after the window
+/// where they end after it.
 fn put_checks<G: CapturedBlocks>(
     room: &mut [u8],
     from: u64,
@@ -172,7 +172,7 @@ fn put_window<G: CapturedBlocks>(
 }
 
 /// Puts the piece with this index of the trailer's text at the front of a buffer, and answers its length in bytes: that
-/// of a block's body, but for the last piece, and 0 behind it.
+/// of a block's body, but for the last piece, and 0 after it.
 pub fn piece<G: CapturedBlocks>(
     layout: &Layout,
     root: &[u8],

@@ -1,4 +1,4 @@
-// Checksums of forged sectors: those of a superblock copy, and of a header with the body behind it.
+// Checksums of forged sectors: those of a superblock copy, and of a header with the body after it.
 ghost use Rattle.std.specs.Prelude.{◌≤◌};
 
 use crate::numbers::number;
@@ -7,10 +7,10 @@ use crate::trouble::Trouble;
 use df_base::{HEADER, SECTOR, check, u32_at};
 use df_memdisk::MemoryDisk;
 
-// Where a superblock copy's content begins, behind its checksum and its number.
+// Where a superblock copy's content begins, after its checksum and its number.
 const CONTENT: usize = 32;
 
-// The checksum of the body behind a header at this place, of which the header says the size.
+// The checksum of the body after a header at this place, of which the header says the size.
 fn seal_body(bytes: &mut [u8; SECTOR], at: usize)
     requires { at ≤ 3840 }
 {

@@ -130,7 +130,7 @@ zero_number a is none = one_number a no_checksum is zeros_check (none ∙ sym no
 
 -- ---- and back
 
--- what is behind some numbers that are zeros is none
+-- what is after some numbers that are zeros is none
 pub nothing_else : (xs : List ℕ) (o : Option ℕ) → ((i : ℕ) → slice_index (xs ++ offset_list o) i ≡ 0) → o ≡ None
 nothing_else xs None zeros = refl
 nothing_else [] (Some n) zeros = absurd (let one : suc n ≡ 0 = zeros 0 in omega arith)

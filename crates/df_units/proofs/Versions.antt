@@ -78,7 +78,7 @@ spare_zero checks clients k none from = elim (cases_lt k (length checks)) [
 cons_same : (x y : ℕ) (xs ys : List ℕ) → x ∷ xs ≡ y ∷ ys → (x ≡ y) × (xs ≡ ys)
 cons_same x y xs ys same = (cc, cc)
 
--- lists of one length with others behind them
+-- lists of one length with others after them
 pub parts_same : (xs ys behind after : List ℕ) → length xs ≡ length ys → xs ++ behind ≡ ys ++ after → (xs ≡ ys) × (behind ≡ after)
 parts_same [] [] behind after size same = (refl, same)
 parts_same [] (y ∷ ys) behind after size same = absurd (omega (arith, size))
@@ -108,7 +108,7 @@ nothing ns are = cond-true (are_zeros ns) [] ns are
 something : (ns : List ℕ) → are_zeros ns ≡ false → or_nothing ns ≡ ns
 something ns are = cond-false (are_zeros ns) [] ns are
 
--- zeros are there or not: with others behind them they are told apart from lists of their length
+-- zeros are there or not: with others after them they are told apart from lists of their length
 pub named_or_nothing : (xs ys behind after : List ℕ) → length xs ≡ length ys → length behind < length ys → length after < length xs → or_nothing xs ++ behind ≡ or_nothing ys ++ after → (xs ≡ ys) × (behind ≡ after)
 named_or_nothing xs ys behind after size few less same = by (cases_Bool (are_zeros xs)) (cases_Bool (are_zeros ys))
   where

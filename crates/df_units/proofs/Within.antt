@@ -1,4 +1,4 @@
--- Device calls that are steps lie within the zones of the file, and so do a part of such calls, and some of them behind others.
+-- Device calls that are steps lie within the zones of the file, and so do a part of such calls, and some of them after others.
 use Rattle.std.proofs.Common.{◌≡◌, ◌≤◌, ◌<◌, ◌+◌, inl, inr, ℕ, List, [], ◌∷◌, ◌++◌, Option, sym, ◌∙◌, ap, subst, arith}
 use Rattle.std.proofs.lemmas.Bool.{and_parts, leb-true, ltb-true}
 use Rattle.df_base.specs.Log.{Event, Stop, Sync, Write}
@@ -50,7 +50,7 @@ module _ (layout : Layout) where
   both_within [] fs one two = two
   both_within (e ∷ es) fs one two = (one.0, both_within es fs one.1 two)
 
-  -- and where others came behind
+  -- and where others came after
   pub then_within : (old mid new : Option Told) → AddsWithin layout old mid → AddsWithin layout mid new → AddsWithin layout old new
   then_within old mid new one two = record {
     events = one.events ++ two.events;

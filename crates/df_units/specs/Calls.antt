@@ -19,7 +19,7 @@ pub record IsCall (f : Format) (es : List Event) (ss : List Step) (before after 
   pub steps : AreSteps f es ss
   pub adds : AddsPart es (Some before) (Some after)
 
--- where the steps are good, one view before them and one behind, each moment of the call is good
+-- where the steps are good, one view before them and one after, each moment of the call is good
 abbrev pub CallIsGood : Type 0
 CallIsGood =
     (f : Format) (sh : Shape) (v u : View) (es : List Event) (ss : List Step) (before after : Told) → IsFormat f → IsCall f es ss before after

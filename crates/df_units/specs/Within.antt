@@ -14,7 +14,7 @@ use Rattle.df_units.specs.Format.{format_of}
 use Rattle.df_units.specs.Meaning.{place_of}
 
 -- A write has no sector beside those of one place of the layout: a copy of the superblock, a slot of the header ring, the slot of a prepare or of a reply, or a block. So it
--- reaches neither the padding nor what stands behind the file. A sync writes nothing, and a stop is no call.
+-- reaches neither the padding nor what stands after the file. A sync writes nothing, and a stop is no call.
 abbrev pub IsWithin : Layout → Event → Type 0
 IsWithin layout (Write at bytes) = (place : Place) × ((sector : ℕ) → covers at bytes sector ≡ true → has layout place sector ≡ true)
 IsWithin layout Sync = Unit {0}

@@ -1,4 +1,4 @@
--- Behind the mending each copy says what the choice did, and the superblock of an upgrade is above that.
+-- After the mending each copy says what the choice did, and the superblock of an upgrade is above that.
 use Rattle.std.proofs.Common.{◌≡◌, inl, inr, ℕ, ◌+◌, ◌*◌, ◌<◌, ◌≤◌, List, [], ◌∷◌, ◌++◌, length, get_or, Bool, true, false, Option, Some, None, refl, sym, ◌∙◌, ap, subst, arith}
 use Rattle.std.proofs.lemmas.Bool.{cases_Bool}
 use Rattle.std.proofs.lemmas.Bool.Decides.{nat_tests}
@@ -40,7 +40,7 @@ now_adds : (es : List Event) (log : Log) → now (adds es log) ≡ image_after e
 now_adds [] log = refl
 now_adds (e ∷ es) log = now_adds es (add e log)
 
--- ---- header sectors stand behind the copies
+-- ---- header sectors stand after the copies
 
 header_behind : (layout : Layout) (slot : ℕ) → 4 ≤ (span_of layout (place_in WalHeaders slot)).first
 unfolding span_of sectors_before first_sector zone_sectors

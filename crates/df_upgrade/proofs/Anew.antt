@@ -1,4 +1,4 @@
--- What an upgrade does behind its survey keeps the bare view in a log that is begun anew, whatever the copies showed, and leaves a file of version 2.
+-- What an upgrade does after its survey keeps the bare view in a log that is begun anew, whatever the copies showed, and leaves a file of version 2.
 use Rattle.std.proofs.Common.{◌≡◌, ◌⊎◌, inl, inr, ℕ, ◌||◌, false, List, [], ◌∷◌, length, slice_index, Option, Some, None, ◌∙◌, ap, subst, arith, refl, sym}
 use Rattle.std.specs.Prelude.{Ok}
 use Rattle.df_base.specs.Log as Log

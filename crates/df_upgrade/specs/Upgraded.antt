@@ -41,7 +41,7 @@ TellsHurtUpgraded layout told (Err e) = TellsHurtOld layout told (Err e)
 
 -- ---- what it leaves
 
--- these are the device calls of an upgrade behind its survey: the file that is found is of version 1, and gets a superblock of version 2
+-- these are the device calls of an upgrade after its survey: the file that is found is of version 1, and gets a superblock of version 2
 abbrev pub AreUpgrading : Told → State → List Event → Type 0
 AreUpgrading t found events = AreRaisingTo 1 (base_fields found) t found events
 
@@ -66,6 +66,6 @@ pub record UpgradesPartly (layout : Layout) (t : Told) (later : Option Told) : T
   pub anew : (view : View) → IsImage t.shown → IsFound (shape found.file) (unit_at found.file.layout found.file.cluster t.shown) view → AreDistinct (unit_at found.file.layout found.file.cluster t.shown)
       → EachMoment (begun t).log (told_after writes.events (begun t)).log (StaysBare found.file view (base_fields found)) × IsSameBare (as_version 2 view) (upgraded view (base_fields found))
 
--- it failed in the barrier, which added a sync or nothing, or in a read behind it; or within the upgrade
+-- it failed in the barrier, which added a sync or nothing, or in a read after it; or within the upgrade
 abbrev pub StopsUpgrading : Layout → Told → Option Told → Type 0
 StopsUpgrading layout t later = (later ≡ Some t) ⊎ (later ≡ Some (did Sync t)) ⊎ UpgradesPartly layout t later

@@ -1,4 +1,4 @@
--- What an upgrade does behind its survey, and what it leaves at each moment of that and at its end: of a log that is begun anew at the barrier, whatever the copies showed there.
+-- What an upgrade does after its survey, and what it leaves at each moment of that and at its end: of a log that is begun anew at the barrier, whatever the copies showed there.
 use Rattle.std.specs.Prelude.{◌≡◌, ◌⊎◌, ℕ, List}
 use Rattle.df_base.specs.Image.{Image}
 use Rattle.df_base.specs.Log.{Event, IsLeft, Log, now}
@@ -33,7 +33,7 @@ restoring_events s = mending_events s.state.file.layout s.state.headers s.mends 
 abbrev pub restoring_steps : Survey → List Step
 restoring_steps s = mending_steps s.state.file.layout s.state.headers s.mends s.state.fields s.chosen.members
 
--- and behind that the four copies of version 2, a sync after each
+-- and after that the four copies of version 2, a sync after each
 abbrev pub upgrading_events : Survey → List Event
 upgrading_events s = raising_events s.state.file.layout s.state.headers s.mends s.state.fields s.chosen.members (base_fields s.state)
 

@@ -49,7 +49,7 @@ fn upgrade_in<D: Disk>(
     }
 }
 
-/// Mends what was listed of a file of version 1, and behind that writes the copies 0, 1, 2 and 3 of its superblock of version 2, each
+/// Mends what was listed of a file of version 1, and after that writes the copies 0, 1, 2 and 3 of its superblock of version 2, each
 /// durable before the next one, and reads them back. A stop at any moment leaves the state that was found, by version 1 or by version 2,
 /// and so does a fault, by a log that is begun anew at what is shown, whatever the copies showed. The rooms come back with an error.
 pub fn upgrade_surveyed<D: Disk>(
@@ -80,7 +80,7 @@ pub fn upgrade_surveyed<D: Disk>(
 }
 
 /// Makes a file of version 1 one of version 2: surveys it with the refusals of an open that asks for version 1, mends what an open would,
-/// and behind that writes its superblock of version 2, with the same sequence and boot 1, which records the state as it was found. A file
+/// and after that writes its superblock of version 2, with the same sequence and boot 1, which records the state as it was found. A file
 /// of version 2 is refused, so an upgrade that was stopped is made again, or its file is opened. A fault of the disk may come before the
 /// mending, within it or within the update, and where a disk lies the update answers `Damaged`; every other refusal has written nothing.
 /// The rooms come back.

@@ -35,7 +35,7 @@ behind text rest more m n m_fits n_fits one other =
     let parts = one_comma (decimal m) rest (decimal n) more (are_digits m m_fits) (are_digits n n_fits) (sym one ∙ other) in
     (decimal_injective m n (omega arith) (omega arith) parts.0, parts.1)
 
--- ---- what is left of a layout's numbers behind each comma
+-- ---- what is left of a layout's numbers after each comma
 
 abbrev pub from_blocks : Layout → List ℕ
 from_blocks l = decimal l.blocks
@@ -66,7 +66,7 @@ fit l = record {
   blocks = omega (arith, l.blocks_within.1);
 }
 
--- the text begins with this number and a comma, and this is behind it
+-- the text begins with this number and a comma, and this is after it
 pub record Cuts (text : List ℕ) (n : ℕ) (rest : List ℕ) : Type 0 where
   pub is : text ≡ decimal n ++ (44 ∷ rest)
   pub fits : n < 2 ^ 32

@@ -35,7 +35,7 @@ fn layout_of_numbers(name: &str) -> Option<Layout>
     Layout::new(slots, message_size, clients, block_size, blocks).ok()
 }
 
-// The number before the first comma and the text behind it, or None where no number below 2^32 stands before one.
+// The number before the first comma and the text after it, or None where no number below 2^32 stands before one.
 fn number_before_comma(text: &str) -> Option<(u32, &str)>
     ensures found { IfSome result (λ parts. text.now ≡ decimal parts.0 ++ (44 ∷ parts.1.now)) }
     ensures fits { IfSome result (λ parts. parts.0 < 2 ^ 32) }

@@ -9,7 +9,7 @@ use df_model::{Answer, Progress};
 pub enum Outcome {
     /// The command was refused, for whatever reason.
     Refused,
-    /// It was carried out; a step has more steps behind it.
+    /// It was carried out; a step has more steps after it.
     Accepted,
     /// The block stands at this address.
     Wrote { address: u64 },

@@ -125,7 +125,7 @@ impl State {
         }
     }
 
-    /// Behind the reply to an op comes that to the next one, up to the round's.
+    /// After the reply to an op comes that to the next one, up to the round's.
     pub(crate) fn after_reply(&mut self, op: u64)
         requires { self.old.number < 2 ^ 31 }
         ensures { self.new ≡ after_reply op self.old }

@@ -7,7 +7,7 @@ use df_filedisk::FileDisk;
 use df_mirror::{Status, mirror};
 use std::process::ExitCode;
 
-// Puts the word behind the others that has no meaning in this program.
+// Puts the word after the others that has no meaning in this program.
 fn put_dash(rt: &HostRuntime, words: &mut Vec<String>) -> Result<(), OutOfMemory> {
     let Ok(word) = String::from_str(rt.alloc(), "-") else {
         return Err(OutOfMemory);

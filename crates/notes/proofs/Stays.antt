@@ -11,7 +11,7 @@ use Rattle.df_replica.proofs.Laws.{answered_is_there, nothing_is_served, one_mor
 use Rattle.notes.specs.Keeping.{AreKept, Begun, Kept, Moment}
 use Rattle.notes.specs.Staying.{AreThere, note_in, notes_in}
 
--- the notes of acts behind others
+-- the notes of acts after others
 notes_on : (acts more : List Act) → notes_in (acts ++ more) ≡ notes_in acts ++ notes_in more
 notes_on [] more = refl
 notes_on (a ∷ acts) more = ap (λ (l : List (List ℕ)). note_in a.command ++ l) (notes_on acts more) ∙ sym (append_assoc (note_in a.command) (notes_in acts) (notes_in more))

@@ -13,7 +13,7 @@ pub record IsShown (op : ℕ) (s : State) (told : Option Told) (old new : Option
   pub read : IsReadPrepare op s told (Ok message)
   pub printed : Appends old new (line_of message.body)
 
--- so were so many, in order of op, from the first one behind the checkpoint on
+-- so were so many, in order of op, from the first one after the checkpoint on
 pub data AreShown (s : State) (told : Option Told) (old : Option (List ℕ)) : (count : ℕ) → Option (List ℕ) → Type 0 where
   Begun : AreShown s told old 0 old
   Shown : (count op : ℕ) (mid new : Option (List ℕ)) → AreShown s told old count mid → op ≡ s.fields.op + count + 1 → IsShown op s told mid new → AreShown s told old (count + 1) new

@@ -1,4 +1,4 @@
--- What was printed is there: the notes that were kept are calls of the replica that were served, and a stop behind them, before the next call, loses none.
+-- What was printed is there: the notes that were kept are calls of the replica that were served, and a stop after them, before the next call, loses none.
 use Rattle.std.specs.Prelude.{◌≡◌, ℕ, true, List, [], ◌∷◌, ◌++◌, Option}
 use Rattle.df_base.specs.Log.{Event}
 use Rattle.df_disk.specs.Adds.{after_all}

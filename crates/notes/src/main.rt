@@ -18,7 +18,7 @@ use std::env;
 use std::io::{self, BufRead, BufReader};
 use std::process::ExitCode;
 
-// The path, the first word behind the program's name.
+// The path, the first word after the program's name.
 fn path(rt: &HostRuntime) -> io::Result<String> {
     let mut words = env::args(rt)?.skip(1);
     match words.next() {

@@ -44,7 +44,7 @@ fn print_note<D: Disk, W: Sink>(
     }
 }
 
-/// Prints the notes behind the last checkpoint, which the ring keeps, in order of op. Nothing is written to the file.
+/// Prints the notes after the last checkpoint, which the ring keeps, in order of op. Nothing is written to the file.
 pub fn print_notes<D: Disk, W: Sink>(
     disk: &mut D,
     sink: &mut W,

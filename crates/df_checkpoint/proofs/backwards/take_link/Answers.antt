@@ -1,4 +1,4 @@
--- A link that is read goes behind the others, unless it is refused.
+-- A link that is read goes after the others, unless it is refused.
 use Rattle.std.proofs.Common.{◌∙◌, List, sym, ap, subst}
 use Rattle.df_checkpoint.specs.declared.links.Link.{Link}
 use Rattle.df_checkpoint.specs.Chain.{AreApart, is_among}

@@ -1,4 +1,4 @@
--- The chain, the text and what the grid adopts, one behind the other.
+-- The chain, the text and what the grid adopts, one after the other.
 use Rattle.std.proofs.Common.{◌∙◌}
 use Rattle.std.specs.Prelude.{Err, Ok}
 use Rattle.df_checkpoint.proofs.Adopted.{adopted_idle}

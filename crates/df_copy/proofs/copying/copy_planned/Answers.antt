@@ -89,7 +89,7 @@ returns-in-Err-copy_units-clause-copies g c = λ apart.
 
 -- ---- what is left
 
--- the ring leaves the source as it was, and what is left behind it is left by all
+-- the ring leaves the source as it was, and what is left after it is left by all
 ring_leaves : (s : State) (told : Option Told) (faults before begun : ℕ) (now : Beside) (r : Result (Unit {0}) Ending) → begun ≡ before → Leaves (beside s told faults begun) now r → Leaves (beside s told faults before) now r
 ring_leaves s told faults before begun now r same leaves =
     leaves_then {a = beside s told faults before} {b = beside s told faults begun} {c = now} {x = tt {0}} {r = r} (record { kept = refl; same = refl; blames_source = refl; blames_target = same }) leaves

@@ -24,7 +24,7 @@ says : (layout l : Layout) (s : State) (rs bs : List Message) (n : Target) (f : 
     → IsWritten layout s rs bs n → length bs ≡ length (references (memory s)) → f ≡ superblock_of layout s rs bs
 says layout l s rs bs n f same is = subst (λ (x : Layout). (rs bs : List Message) → IsWritten x s rs bs n → length bs ≡ length (references (memory s)) → f ≡ superblock_of x s rs bs) same is rs bs
 
--- however it is written behind the trailer
+-- however it is written after the trailer
 ends : {T E : Type 0} (s : State) (rs bs : List Message) (t n : Target) (f : SuperFields) (old mid new : Option Told) (x : Unit {0}) (r : Result T E) → n.layout ≡ t.layout → AddsTrailer s rs bs t n old mid (Ok x)
     → ((rs bs : List Message) → IsWritten n.layout s rs bs n → length bs ≡ length (references (memory s)) → f ≡ superblock_of n.layout s rs bs) → length bs ≡ length (references (memory s)) → Adds (Sync ∷ update_events f) mid new r
     → Adds (all_events (made_events t.layout) (trailer_of t.layout s (moved_from 1 bs)) ++ superblock_events t.layout s rs bs) old new r

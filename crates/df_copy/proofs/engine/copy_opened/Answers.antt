@@ -1,4 +1,4 @@
--- A copy behind its open: what was written and judged is what is said of it.
+-- A copy after its open: what was written and judged is what is said of it.
 use Rattle.std.proofs.Common.{◌≡◌, Option, Ok, Err, subst, sym}
 use Rattle.df_disk.specs.Told.{Told}
 use Rattle.df_layout.specs.declared.layout.Layout.{Layout}

@@ -1,4 +1,4 @@
--- The trailer is begun behind the blocks, and its pieces are written.
+-- The trailer is begun after the blocks, and its pieces are written.
 use Rattle.std.proofs.Common.{◌≡◌, ◌∙◌, List, length, take, ap, arith, refl, subst}
 use Rattle.df_base.specs.Log.{Event}
 use Rattle.df_disk.specs.Adds.{AddsPart, after_all}

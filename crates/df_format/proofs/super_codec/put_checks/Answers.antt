@@ -9,7 +9,7 @@ front_none : (checks : List (List ℕ)) (entry : List ℕ) → take (192 + 16 * 
 unfolding checks_bytes
 front_none checks entry = sym (append-nil (take 192 entry))
 
--- one checksum more stands behind the others
+-- one checksum more stands after the others
 front_more : (checks : List (List ℕ)) (k : ℕ) (past entry old new : List ℕ) → k < length checks → take (192 + 16 * k + 16) new ≡ take (192 + 16 * k) old ++ get_or checks k past
     → take (192 + 16 * k) old ≡ take 192 entry ++ checks_bytes (take k checks) → take (192 + 16 * (k + 1)) new ≡ take 192 entry ++ checks_bytes (take (k + 1) checks)
 front_more checks k past entry old new inside is before =
@@ -20,7 +20,7 @@ front_more checks k past entry old new inside is before =
     ∙ append_assoc (take 192 entry) (checks_bytes (take k checks)) (get_or checks k past)
     ∙ ap (λ (l : List ℕ). take 192 entry ++ l) (sym (checks_more checks k past (take_more checks k past inside)))
 
--- behind the last they are all there
+-- after the last they are all there
 front_all : (checks : List (List ℕ)) (k : ℕ) (entry new : List ℕ) → length checks ≡ 64 → k ≡ 64 → take (192 + 16 * k) new ≡ take 192 entry ++ checks_bytes (take k checks) → take 1216 new ≡ take 192 entry ++ checks_bytes checks
 front_all checks k entry new size end is =
     let all : 1216 ≡ 192 + 16 * k = omega (arith, end) in

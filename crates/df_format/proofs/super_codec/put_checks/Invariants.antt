@@ -1,4 +1,4 @@
--- The checksums before this place stand one behind the other.
+-- The checksums before this place stand one after the other.
 use Rattle.std.proofs.Common.{◌≡◌, ◌≤◌, ◌+◌, ◌-◌, ◌*◌, ◌++◌, length, take}
 use Rattle.df_format.specs.Super.{checks_bytes}
 use Rattle.df_format.proofs.super_codec.put_checks.Given as goal

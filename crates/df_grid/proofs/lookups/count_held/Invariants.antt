@@ -1,4 +1,4 @@
--- Those behind the place are of the rest.
+-- Those after the place are of the rest.
 use Rattle.std.proofs.Common.{◌≡◌, ◌≤◌, ◌+◌, ◌-◌, drop, length}
 use Rattle.df_grid.specs.Table.{is_held_for, picked}
 use Rattle.df_grid.proofs.lookups.count_held.Given as goal

@@ -1,4 +1,4 @@
--- The prepares that were passed fit: whole groups, which end at the tail's end, and behind them a part of one.
+-- The prepares that were passed fit: whole groups, which end at the tail's end, and after them a part of one.
 use Rattle.std.proofs.Common.{◌≡◌, ◌+◌}
 use Rattle.df_theory.specs.Shape.{Shape}
 use Rattle.df_theory.specs.View.{Checkpoint}

@@ -1,4 +1,4 @@
--- The ring begins behind the superblock's copies.
+-- The ring begins after the superblock's copies.
 use Rattle.std.proofs.Common.{arith}
 use Rattle.df_headers.proofs.Offsets.{ring_first}
 use Rattle.df_headers.proofs.sectors.first_of.Goals as goal

@@ -11,7 +11,7 @@ one_more headers i past inside =
     let one : i + 1 ≡ suc i = omega arith in
     sym (ap (λ (n : ℕ). headers_bytes (take n headers)) one ∙ bytes_more headers i (slice_index_or headers i past) (slice_get-get_or headers i past inside))
 
--- so they stand at the front behind its write
+-- so they stand at the front after its write
 pub front_more : (headers : List Header) (i : ℕ) (past : Header) (old new : List ℕ) → i < length headers → take (256 * i + 256) new ≡ take (256 * i) old ++ headers_bytes (slice_index_or headers i past ∷ [])
     → take (256 * i) old ≡ headers_bytes (take i headers) → take (256 * (i + 1)) new ≡ headers_bytes (take (i + 1) headers)
 front_more headers i past old new inside is before =

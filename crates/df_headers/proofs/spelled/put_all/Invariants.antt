@@ -1,4 +1,4 @@
--- The headers so far stand one behind the other.
+-- The headers so far stand one after the other.
 use Rattle.std.proofs.Common.{◌≡◌, ◌≤◌, ◌*◌, ◌-◌, length, take}
 use Rattle.df_format.specs.UnitLaws.{headers_bytes}
 use Rattle.df_headers.proofs.spelled.put_all.Given as goal

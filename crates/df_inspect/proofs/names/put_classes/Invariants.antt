@@ -1,4 +1,4 @@
--- The classes gone over are put behind what the line had.
+-- The classes gone over are put after what the line had.
 use Rattle.std.proofs.Common.{◌≡◌, ◌≤◌, ◌+◌, ◌*◌, ◌++◌, length, take}
 use Rattle.df_inspect.specs.Opening.{classes_text}
 use Rattle.df_inspect.proofs.names.put_classes.Given as goal

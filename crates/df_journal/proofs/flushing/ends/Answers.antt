@@ -1,4 +1,4 @@
--- The last of them is the one behind which there is none.
+-- The last of them is the one after which there is none.
 use Rattle.std.proofs.Common.{◌/◌, ◌-◌, ℕ, length, ◌∙◌, ap, arith}
 use Rattle.df_format.specs.declared.header.Header.{Header}
 use Rattle.df_journal.proofs.GroupWrites.{last_held, stands_at}

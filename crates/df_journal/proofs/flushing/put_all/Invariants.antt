@@ -1,4 +1,4 @@
--- All puts from the start are those from this prepare on, behind what was told, and so are the headers behind the table.
+-- All puts from the start are those from this prepare on, after what was told, and so are the headers after the table.
 use Rattle.std.proofs.Common.{◌≡◌, ◌≤◌, ◌-◌, ℕ, length, drop}
 use Rattle.df_headers.specs.Ring.{IsTable}
 use Rattle.df_journal.specs.Flush.{MayPut, group_puts, units_of, with_headers}

@@ -1,4 +1,4 @@
--- The prepares that were passed are taken and fit: whole groups, which end at the tail's end, and behind them a part of one.
+-- The prepares that were passed are taken and fit: whole groups, which end at the tail's end, and after them a part of one.
 use Rattle.std.proofs.Common.{◌≡◌, ◌+◌, ◌-◌, ◌≤◌, ◌^◌}
 use Rattle.df_format.specs.Spelling.{IsCheck}
 use Rattle.df_theory.specs.Units.{Units}

@@ -1,4 +1,4 @@
--- All writes from the start are those from this sector on, behind what was told.
+-- All writes from the start are those from this sector on, after what was told.
 use Rattle.std.proofs.Common.{◌≡◌, ◌≤◌, ◌-◌, length, drop}
 use Rattle.df_headers.specs.Ring.{sector_writes}
 use Rattle.df_journal.proofs.RingWrites.{LeadsAs}

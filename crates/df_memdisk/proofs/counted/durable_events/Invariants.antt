@@ -1,4 +1,4 @@
--- The events behind the index are writes.
+-- The events after the index are writes.
 use Rattle.std.proofs.Common.{◌≡◌, take}
 use Rattle.df_memdisk.specs.History.{events_of}
 use Rattle.df_memdisk.specs.Settled.{durable}

@@ -1,4 +1,4 @@
--- The changes behind the index are of other sectors.
+-- The changes after the index are of other sectors.
 use Rattle.std.proofs.Common.{◌≡◌, take}
 use Rattle.df_memdisk.specs.History.{changes_of}
 use Rattle.df_memdisk.specs.Newest.{last_change}

@@ -1,4 +1,4 @@
--- The events behind the index are writes elsewhere.
+-- The events after the index are writes elsewhere.
 use Rattle.std.proofs.Common.{◌≡◌, take}
 use Rattle.df_base.specs.Log.{loose_of}
 use Rattle.df_memdisk.specs.History.{events_of}

@@ -1,4 +1,4 @@
--- The events behind the index gave the sector nothing.
+-- The events after the index gave the sector nothing.
 use Rattle.std.proofs.Common.{◌≡◌, take}
 use Rattle.df_memdisk.specs.History.{events_of}
 use Rattle.df_memdisk.specs.Newest.{newest_of}

@@ -1,4 +1,4 @@
--- The superblock is found behind the barrier, or it isn't.
+-- The superblock is found after the barrier, or it isn't.
 use Rattle.std.proofs.Common.{◌∙◌, ℕ, inl, inr, Option, Ok, ap, refl, subst}
 use Rattle.df_base.specs.Log.{Sync}
 use Rattle.df_disk.specs.Told.{Told, after, did}

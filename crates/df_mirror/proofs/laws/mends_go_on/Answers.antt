@@ -1,4 +1,4 @@
--- Mends go on behind others.
+-- Mends go on after others.
 use Rattle.df_mirror.proofs.Joined.{mends_go_on}
 use Rattle.df_mirror.proofs.laws.mends_go_on.Goals as goal
 

@@ -1,4 +1,4 @@
--- The walks come one behind the other, and behind the last one all is shown.
+-- The walks come one after the other, and after the last one all is shown.
 use Rattle.std.proofs.Common.{◌≡◌, ◌+◌, ◌∙◌, ℕ, arith, subst, sym, Ok, Err}
 use Rattle.df_format.specs.declared.kind.Kind.TheVariants.{Block as AsBlock, Trailer}
 use Rattle.df_opening.specs.Below.{shape}

@@ -1,4 +1,4 @@
--- Where the client is known or a place is left, the request is noted; else it stands behind the places.
+-- Where the client is known or a place is left, the request is noted; else it stands after the places.
 use Rattle.std.proofs.Common.{◌∙◌, arith, refl, sym, subst, Option, ℕ, IsSome}
 use Rattle.df_units.specs.Meaning.{header_of}
 use Rattle.df_mirror.proofs.HeadSessions.{noted_known, noted_last, noted_no, none_if}

@@ -1,4 +1,4 @@
--- Blanked behind its unit a room still holds it.
+-- Blanked after its unit a room still holds it.
 use Rattle.std.proofs.Common.{◌∙◌, ap}
 use Rattle.df_buffers.specs.Rooms.{Room}
 use Rattle.df_mirror.proofs.Tidied.{still}

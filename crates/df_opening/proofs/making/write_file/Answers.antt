@@ -1,4 +1,4 @@
--- The writes of the ring, and the sync and the copies behind them.
+-- The writes of the ring, and the sync and the copies after them.
 use Rattle.df_disk.proofs.Laws.{part_then, adds_then}
 use Rattle.df_units.specs.Making.{header_writes}
 use Rattle.df_opening.specs.Making.{sectors_in}

@@ -1,4 +1,4 @@
--- The boot that is set is that of the superblock that was written, and what is behind it makes sense.
+-- The boot that is set is that of the superblock that was written, and what is after it makes sense.
 use Rattle.std.proofs.Common.{◌≡◌, ◌∙◌, ◌+◌, ℕ, true, ap, subst, sym, arith}
 use Rattle.df_format.specs.SuperRules.{IsUsable}
 use Rattle.df_format.specs.declared.superblock.SuperFields.{SuperFields}

@@ -1,4 +1,4 @@
--- The header sectors, and the copies behind them.
+-- The header sectors, and the copies after them.
 use Rattle.df_disk.proofs.Laws.{part_then, adds_then}
 use Rattle.df_superblock.specs.Events.{repair_events}
 use Rattle.df_opening.specs.Mending.{header_events, sectors_of}

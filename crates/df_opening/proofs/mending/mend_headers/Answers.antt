@@ -1,4 +1,4 @@
--- The sectors, and a sync behind them where there is one.
+-- The sectors, and a sync after them where there is one.
 use Rattle.std.proofs.Common.{◌∷◌, [], List, sym, ◌∙◌, subst}
 use Rattle.df_base.specs.Log.{Event, Sync}
 use Rattle.df_disk.specs.Adds.{Adds}

@@ -1,4 +1,4 @@
--- What was surveyed behind the barrier is mended and raised, and the state is that of the survey, but for its boot.
+-- What was surveyed after the barrier is mended and raised, and the state is that of the survey, but for its boot.
 use Rattle.std.proofs.Common.{◌≡◌, ◌∙◌, ℕ, List, ◌∷◌, Option, Some, inr, refl, ap, subst, sym}
 use Rattle.std.specs.Prelude.{Ok, Err}
 use Rattle.df_base.specs.Causes.{Blamed}

@@ -1,4 +1,4 @@
--- What was surveyed of version 2 has its parts, and is planned from what was read behind the barrier.
+-- What was surveyed of version 2 has its parts, and is planned from what was read after the barrier.
 use Rattle.std.proofs.Common.{◌∙◌, Ok, Err, ap, subst, sym}
 use Rattle.df_opening.specs.Survey.{Survey}
 use Rattle.df_opening.specs.Surveying.{TellsMends, TellsSurvey}

@@ -1,4 +1,4 @@
--- The put's steps with a sync behind them.
+-- The put's steps with a sync after them.
 use Rattle.df_places.proofs.Steps.{with_sync}
 use Rattle.df_places.proofs.units.write_unit.Goals as goal
 

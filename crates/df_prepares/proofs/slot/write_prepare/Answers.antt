@@ -1,4 +1,4 @@
--- The put's steps with a sync behind them.
+-- The put's steps with a sync after them.
 use Rattle.df_prepares.proofs.slot.write_prepare.Goals as goal
 
 pub returns-clause-steps : goal.returns-clause-steps

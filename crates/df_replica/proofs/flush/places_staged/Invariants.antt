@@ -1,4 +1,4 @@
--- The sessions behind the requests before the index are counted.
+-- The sessions after the requests before the index are counted.
 use Rattle.std.proofs.Common.{◌≡◌, ◌≤◌, ◌+◌, ◌-◌, length}
 use Rattle.df_replica.specs.Flushing.{sessions_staged}
 use Rattle.df_replica.proofs.flush.places_staged.Given as goal

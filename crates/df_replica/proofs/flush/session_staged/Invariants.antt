@@ -1,4 +1,4 @@
--- The session is that behind the requests before the index.
+-- The session is that after the requests before the index.
 use Rattle.std.proofs.Common.{◌≡◌, ◌≤◌, ◌-◌, ◌^◌}
 use Rattle.std.specs.Prelude.{IfSome, option_map}
 use Rattle.df_sessions.specs.Requests.{session_of}

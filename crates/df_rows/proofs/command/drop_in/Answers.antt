@@ -1,4 +1,4 @@
--- What stands behind the first byte is a key.
+-- What stands after the first byte is a key.
 use Rattle.std.proofs.Common.{◌∷◌, List, ℕ, length, ap, sym, ◌∙◌, arith}
 use Rattle.df_base.specs.Fields.{spelled}
 use Rattle.df_base.proofs.Laws.{length-spelled}

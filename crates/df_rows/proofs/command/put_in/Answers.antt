@@ -1,4 +1,4 @@
--- What stands behind the first byte is a key and a value.
+-- What stands after the first byte is a key and a value.
 use Rattle.std.proofs.Common.{◌∷◌, ◌++◌, ℕ, List, ap, sym, ◌∙◌, arith}
 use Rattle.std.proofs.lemmas.List.{take_rest}
 use Rattle.df_base.specs.Fields.{spelled}

@@ -1,4 +1,4 @@
--- The sessions, the blocks, and what stands behind the checkpoint.
+-- The sessions, the blocks, and what stands after the checkpoint.
 use Rattle.std.proofs.Common.{◌∙◌, ◌++◌, inr, ℕ, [], Err, ap, subst, sym}
 use Rattle.std.specs.Prelude.{OnOk}
 use Rattle.std.proofs.lemmas.List.{length-map}

@@ -1,4 +1,4 @@
--- A finding stands behind those before it.
+-- A finding stands after those before it.
 use Rattle.std.proofs.Common.{◌++◌, ◌∙◌, Option, ap, sym, take}
 use Rattle.df_layout.specs.declared.damage.Finding.{Finding}
 use Rattle.df_top.specs.Findings.{items_of}

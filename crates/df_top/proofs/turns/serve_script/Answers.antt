@@ -1,4 +1,4 @@
--- Each turn goes on with one line more and the work behind it, or ends the session.
+-- Each turn goes on with one line more and the work after it, or ends the session.
 use Rattle.std.proofs.Common.{[], ◌++◌, refl, ◌∙◌, ap, subst, ℕ}
 use Rattle.df_pace.specs.declared.pace.Pace.{Pace}
 use Rattle.df_top.specs.Outside.{Outside, around}

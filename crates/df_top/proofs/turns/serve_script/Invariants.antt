@@ -1,4 +1,4 @@
--- The lines so far were executed, with the work behind each, and nothing has failed.
+-- The lines so far were executed, with the work after each, and nothing has failed.
 use Rattle.std.proofs.Common.{◌≡◌, List}
 use Rattle.df_top.specs.Lines.{Turned}
 use Rattle.df_top.specs.Pacing.{IsIdle}

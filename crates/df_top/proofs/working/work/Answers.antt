@@ -1,4 +1,4 @@
--- The rounds, and then the steps of the checkpoint that runs behind them.
+-- The rounds, and then the steps of the checkpoint that runs after them.
 use Rattle.df_top.proofs.Runs.{comes_more}
 use Rattle.df_top.proofs.working.work.Goals as goal
 

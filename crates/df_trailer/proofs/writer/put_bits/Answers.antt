@@ -26,7 +26,7 @@ loop-number-preserved g c =
           (c.put.ensures.shown (text ++ spelled n x) (omega (arith, length-append text (spelled n x), length-spelled n x)) (c.loop-number.invariant.1 text size were)),
     )
 
--- no byte is put behind the bits, unless the window begins behind them
+-- no byte is put after the bits, unless the window begins after them
 behind : (first last n size from start : ℕ) → (first ≤ last → n ≤ last) → last ≤ size → (last < first → start + size ≤ from) → size < n → start + size ≤ from
 behind first last n size from start until most late past = elim (cases_lt last first) [
   | inl none ↦ late none

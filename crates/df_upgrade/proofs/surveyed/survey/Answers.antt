@@ -1,4 +1,4 @@
--- What was surveyed of version 1 is planned from what was read behind the barrier.
+-- What was surveyed of version 1 is planned from what was read after the barrier.
 use Rattle.std.proofs.Common.{Err}
 use Rattle.df_opening.proofs.Laws.{survey_planned, told_mends}
 use Rattle.df_upgrade.proofs.Asked.{hurt_old}

@@ -1,4 +1,4 @@
--- What was surveyed behind the barrier is mended and gets its superblock of version 2.
+-- What was surveyed after the barrier is mended and gets its superblock of version 2.
 use Rattle.std.proofs.Common.{◌≡◌, ◌∙◌, ℕ, List, Option, Some, inr, refl, ap, subst, sym}
 use Rattle.std.specs.Prelude.{Ok, Err}
 use Rattle.df_base.specs.Causes.{Blamed}

@@ -1,4 +1,4 @@
--- What is listed is mended, and the four copies are written behind it: the device calls are steps, so what they leave is the theory's.
+-- What is listed is mended, and the four copies are written after it: the device calls are steps, so what they leave is the theory's.
 use Rattle.std.proofs.Common.{subst, sym}
 use Rattle.std.specs.Prelude.{Ok, Err}
 use Rattle.df_disk.proofs.Laws.{part_then}

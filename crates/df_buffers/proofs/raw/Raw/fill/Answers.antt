@@ -1,4 +1,4 @@
--- The body fits the room, and is what stands behind the place of the header.
+-- The body fits the room, and is what stands after the place of the header.
 use Rattle.std.proofs.Common.{◌≡◌, ◌≤◌, ◌+◌, ◌++◌, ℕ, List, length, take, drop, sym, ◌∙◌, ap, subst, arith}
 use Rattle.df_layout.specs.declared.layout.Layout.{Layout}
 use Rattle.df_format.specs.Whole.{greatest_size}

@@ -1,4 +1,4 @@
--- The refusal is the machine's, by the client's session, and behind it by what is staged.
+-- The refusal is the machine's, by the client's session, and after it by what is staged.
 use Rattle.std.proofs.Common.{◌≡◌, ◌≤◌, ◌^◌, ℕ, nat_lt, [], ◌∷◌, length, map, Option, Some, None, refl, ◌∙◌, sym, ap}
 use Rattle.std.specs.Prelude.{IfSome, option_map}
 use Rattle.std.specs.List.{position}

@@ -1,4 +1,4 @@
--- The rooms hold the group of all that is staged, and what is noted of them is the state behind it.
+-- The rooms hold the group of all that is staged, and what is noted of them is the state after it.
 use Rattle.std.proofs.Common.{◌≡◌, ◌+◌, ◌∙◌, true, length, ℕ, List, sym, ap, subst, arith}
 use Rattle.df_format.specs.declared.header.Header.{Header}
 use Rattle.df_format.specs.Message.{Message}

@@ -1,4 +1,4 @@
--- The state behind a prepare that is noted makes sense.
+-- The state after a prepare that is noted makes sense.
 use Rattle.std.proofs.Common.{◌≡◌, ◌+◌, ℕ, List, [], length, refl, sym, ap, subst, ◌∙◌, arith}
 use Rattle.std.proofs.lemmas.List.{length_push}
 use Rattle.df_journal.specs.Tail.{AreNumbered}

@@ -1,4 +1,4 @@
--- The state behind a reply that is noted makes sense.
+-- The state after a reply that is noted makes sense.
 use Rattle.std.proofs.Common.{◌≡◌, ◌<◌, ◌+◌, length, refl, sym, subst, ◌∙◌, arith}
 use Rattle.df_sessions.specs.Requests.{sessions_of}
 use Rattle.df_theory.specs.Sessions.{Tracks}

@@ -1,4 +1,4 @@
--- Each release is the machine's, and the state behind it makes sense.
+-- Each release is the machine's, and the state after it makes sense.
 use Rattle.std.proofs.Common.{◌≡◌, ℕ, false, true, Some, sym, ap, subst, ◌∙◌}
 use Rattle.std.specs.Prelude.{Err}
 use Rattle.df_grid.specs.Grid.{GridState, with_blocks}

@@ -1,4 +1,4 @@
--- The state behind a block that is written makes sense.
+-- The state after a block that is written makes sense.
 use Rattle.df_model.specs.Blocks.{block_written, with_entry}
 use Rattle.df_units.specs.Meaning.{number_of}
 use Rattle.df_grid.specs.Grid.{GridState}

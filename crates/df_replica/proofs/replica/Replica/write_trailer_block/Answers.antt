@@ -1,4 +1,4 @@
--- The block that is written is the trailer's next one, and the state behind it makes sense.
+-- The block that is written is the trailer's next one, and the state after it makes sense.
 use Rattle.std.proofs.Common.{◌≡◌, ℕ, ◌+◌, ◌∙◌, List, Some, refl, sym, ap, subst}
 use Rattle.df_base.specs.Log.{Event}
 use Rattle.df_disk.specs.Adds.{AddsPart, after_all}

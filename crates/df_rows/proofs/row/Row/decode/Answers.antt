@@ -1,4 +1,4 @@
--- The key, the value and the zeros behind it are those of the row.
+-- The key, the value and the zeros after it are those of the row.
 use Rattle.std.proofs.Common.{refl, ap, sym, ◌∙◌, arith}
 use Rattle.df_rows.specs.Rows.{row_of}
 use Rattle.df_rows.proofs.Entries.{row_read}

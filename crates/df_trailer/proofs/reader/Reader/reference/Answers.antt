@@ -1,4 +1,4 @@
--- A block's checksum stands behind those of the lower ones.
+-- A block's checksum stands after those of the lower ones.
 use Rattle.std.proofs.Common.{◌∙◌, ℕ, true, false, [], get_or, refl, sym, ap, arith}
 use Rattle.df_trailer.proofs.Said.{below_few, below_next, inside_of, kept_here, kept_said}
 use Rattle.df_trailer.proofs.reader.Reader.reference.Goals as goal
