@@ -72,9 +72,9 @@ module _ (version : ℕ) (d e : SuperFields) (t : Told) (s u : State) (es ds : L
       let same : first.content ≡ second.content = one_law (content_at t.shown) first.content second.content first.is second.is in
       ext_get_or false one.chosen.members other.chosen.members (one.planned.four ∙ sym other.planned.four)
       (λ n inside. let below : n < 4 = omega (arith, inside, one.planned.four) in
-          same_bit (get_or one.chosen.members n false) (get_or other.chosen.members n false)
-          (λ is. (second.members n below).1 ((first.members n below).0 is ∙ ap Some same))
-          (λ is. (first.members n below).1 ((second.members n below).0 is ∙ ap Some (sym same))))
+      same_bit (get_or one.chosen.members n false) (get_or other.chosen.members n false)
+      (λ is. (second.members n below).1 ((first.members n below).0 is ∙ ap Some same))
+      (λ is. (first.members n below).1 ((second.members n below).0 is ∙ ap Some (sym same))))
 
   table : s.headers ≡ u.headers
   table = one.planned.table ∙ (λ i. headers_of (layout i) t.shown (fields i) (head i)) ∙ sym other.planned.table
