@@ -4,9 +4,8 @@ use Rattle.std.specs.Prelude.{take, drop}
 use Rattle.std.proofs.lemmas.List.{append-nil}
 use Rattle.df_base.specs.Image.{Image}
 use Rattle.df_base.specs.Log.{IsLeft, Log, Sync}
-use Rattle.df_base.specs.Moments.{EachMoment, Extends, IsMoment}
+use Rattle.df_base.specs.Moments.{EachMoment, Extends}
 use Rattle.df_base.proofs.Laws.{extends_self}
-use Rattle.df_disk.specs.Adds.{after_all}
 use Rattle.df_disk.specs.Told.{IsHonest, Told, did}
 use Rattle.df_format.specs.Copies.{content_with}
 use Rattle.df_layout.specs.declared.layout.Layout.{Layout}
@@ -21,9 +20,8 @@ use Rattle.df_units.specs.Bytes.{unit_at}
 use Rattle.df_units.specs.Meaning.{content_of}
 use Rattle.df_model.specs.Commands.{Answer}
 use Rattle.df_model.specs.Sense.{IsWork}
-use Rattle.df_model.specs.Views.{SomeKeeps}
-use Rattle.df_model.specs.Work.{Work, kept}
-use Rattle.df_replica.specs.Below.{AreDistinct, DataFile, IsOpened, State as Replica, begun, shape, spelling, told_after}
+use Rattle.df_model.specs.Work.{Work}
+use Rattle.df_replica.specs.Below.{AreDistinct, DataFile, IsOpened, shape, spelling, told_after}
 use Rattle.df_replica.specs.HeldBlocks.{AreInputs}
 use Rattle.df_replica.specs.Opened.{HistoryBegins}
 use Rattle.df_replica.specs.Serving.{Firm, Grade, StandsFor, Whole, format}
@@ -42,7 +40,7 @@ use Rattle.df_lifetime.specs.Life.{AreMade, Extent, IsInOrder, ShowsFile, ToAMom
 use Rattle.df_lifetime.proofs.Acts.{ends_inputs, first_answers, front_and_rest, has_front, work_on}
 use Rattle.df_lifetime.proofs.Along.{grows}
 use Rattle.df_lifetime.proofs.Files.{one_file, one_told}
-use Rattle.df_lifetime.proofs.Orders.{Has, in_order}
+use Rattle.df_lifetime.proofs.Orders.{in_order}
 
 -- ---- what an open found
 

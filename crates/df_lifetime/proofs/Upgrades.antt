@@ -8,11 +8,10 @@ use Rattle.df_base.proofs.Laws.{started}
 use Rattle.df_disk.specs.Told.{Told, did}
 use Rattle.df_disk.specs.Adds.{after_all}
 use Rattle.df_layout.specs.declared.layout.Layout.{Layout}
-use Rattle.df_theory.specs.Device.{NoChanceOf, units_log}
+use Rattle.df_theory.specs.Device.{NoChanceOf}
 use Rattle.df_theory.specs.Found.{IsClean, IsFound}
 use Rattle.df_theory.specs.Holds.{Stands}
 use Rattle.df_theory.specs.Next.{IsSameBare}
-use Rattle.df_theory.specs.UnitLog.{UnitLog}
 use Rattle.df_theory.specs.Units.{BlockPlace, Units}
 use Rattle.df_theory.specs.Upgrades.{as_version}
 use Rattle.df_theory.specs.View.{View}
