@@ -56,9 +56,9 @@ module _ (file : DataFile) (first : View) (t : Told) (shows : ShowsFile Whole fi
   outcome_begins : (mode : Mode) (old new : Outside) (status : Status) → new.told ≡ Some n → (outcome : Outcome mode t old new status) → (c : CallsMade) → calls_in mode t old new status outcome ≡ Some c → Begins c
   outcome_begins mode old new status to (inl nothing) c is = absurd (no_calls c is)
   outcome_begins mode old new status to (inr (inl refuses)) c is = absurd (no_calls c is)
-  outcome_begins mode old new status to (inr (inr (layout, of, inl refuses))) c is = absurd (no_calls c is)
-  outcome_begins mode old new status to (inr (inr (layout, of, inr (inl fails)))) c is = absurd (no_calls c is)
-  outcome_begins mode old new status to (inr (inr (layout, of, inr (inr works)))) c is = works_begin mode layout works.0 old new status to works.1 c is
+  outcome_begins mode old new status to (inr (inr (layout, (of, inl refuses)))) c is = absurd (no_calls c is)
+  outcome_begins mode old new status to (inr (inr (layout, (of, inr (inl fails))))) c is = absurd (no_calls c is)
+  outcome_begins mode old new status to (inr (inr (layout, (of, inr (inr works))))) c is = works_begin mode layout works.0 old new status to works.1 c is
 
 pub every_open_begins : EveryOpenBegins
 every_open_begins file first t n word c shows is =

@@ -93,15 +93,15 @@ pub record Came (file : DataFile) (g : Grade) (w : Work) (answered perhaps : Lis
 
 module _ (file : DataFile) (g : Grade) (w : Work) where
   all_came : (acts : List Act) (failed : Option Act) (n : Told) → LeavesAll file g w acts failed n → (image : Image) → IsLeft n.log image → NoChanceOf (format file) n.log image → Came file g w acts (list_of failed) image
-  all_came acts None n all image left no = record { came = acts; more = []; rest = []; are = sym (append-nil acts); some = refl; has = all image left no }
-  all_came acts (Some a) n all image left no = elim (all image left no) [
+  all_came acts None n all image left fair = record { came = acts; more = []; rest = []; are = sym (append-nil acts); some = refl; has = all image left fair }
+  all_came acts (Some a) n all image left fair = elim (all image left fair) [
     | inl before ↦ record { came = acts; more = []; rest = a ∷ []; are = sym (append-nil acts); some = refl; has = before }
     | inr after ↦ record { came = acts ++ a ∷ []; more = a ∷ []; rest = []; are = refl; some = refl; has = after }
   ]
 
   some_came : (acts perhaps : List Act) (log : Log) → IsMidway file g (work_after file w acts) perhaps log → (image : Image) → IsLeft log image → NoChanceOf (format file) log image → Came file g w acts perhaps image
-  some_came acts perhaps log mid image left no =
-      let front = has_front file g (work_after file w acts) perhaps image (mid.left image left no) in
+  some_came acts perhaps log mid image left fair =
+      let front = has_front file g (work_after file w acts) perhaps image (mid.left image left fair) in
       record { came = acts ++ front.front; more = front.front; rest = front.rest; are = refl; some = front.are; has = subst (λ (u : Work). HasView file g u image) (sym (work_on file w acts front.front)) front.has }
 
   module _ (b : Told) (c : CallsMade) (keeps : KeepsFile file g w b c.acts c.answers c.failed (over [] (events_made c) b)) (answered : KeepsAnswered file g w (over [] [] b) c) where
@@ -216,8 +216,8 @@ pub stopped_opens_begin : StoppedOpensBegin
 stopped_opens_begin g file view t m image layout found c shows calls moment left chance =
     let same : found.replica.file ≡ file = one g file view t layout found c shows calls in
     let keeps = anew g file view t layout found c shows calls in
-    let no = subst (λ (f : DataFile). NoChanceOf (format f) m.log image) (sym same) chance in
-    let is = (keeps.opening m.log moment).left image left no in
+    let fair = subst (λ (f : DataFile). NoChanceOf (format f) m.log image) (sym same) chance in
+    let is = (keeps.opening m.log moment).left image left fair in
     let stands : StandsFor g (unit_at file.layout file.cluster image) view = subst (λ (f : DataFile). StandsFor g (unit_at f.layout f.cluster image) view) same is.1 in
     elim is.0 [
       | inl before ↦ (

@@ -13,6 +13,7 @@ use Rattle.df_theory.specs.View.{View}
 use Rattle.df_theory.proofs.Laws.{tidy_sync_law}
 use Rattle.df_units.specs.Bytes.{unit_at}
 use Rattle.df_model.specs.Commands.{Answer}
+use Rattle.df_model.specs.Laws.{IsKeptBy}
 use Rattle.df_model.specs.Work.{Work, kept}
 use Rattle.df_result.specs.Begun.{begun_work}
 use Rattle.df_result.specs.Below.{AreDistinct, State as Replica, begun, shape, spelling, told_after}
@@ -28,10 +29,13 @@ use Rattle.df_session.proofs.Kept.{OpenedOver, keeps_over}
 
 -- ---- a sync keeps what is kept
 
+synced_firm : (sh : Shape) (spell : Parts → List ℕ) (log : UnitLog) (w : Work) → IsKeptBy sh spell log w → IsKeptBy sh spell (add Synced log) w
+synced_firm sh spell log w by = record { sense = by.sense; tidy = (tidy_sync_law sh log (kept w) by.tidy).0.tidy; written = by.written }
+
 synced_for : (g : Grade) (sh : Shape) (spell : Parts → List ℕ) (log : UnitLog) (w : Work) → KeptFor g sh spell log w → KeptFor g sh spell (add Synced log) w
-synced_for Firm sh spell log w by = record { sense = by.sense; tidy = (tidy_sync_law sh log (kept w) by.tidy).0.tidy; written = by.written }
+synced_for Firm sh spell log w by = synced_firm sh spell log w by
 synced_for Whole sh spell log w by = (
-  synced_for Firm sh spell log w by.0,
+  synced_firm sh spell log w by.0,
   record { standing = record { shown = by.1.standing.shown; firm = λ a c is. refl }; live = by.1.live; captured = by.1.captured },
 )
 
