@@ -10,6 +10,7 @@ pub mod Grids
 pub mod Holding
 pub mod Images
 pub mod Joining
+pub mod Laws
 pub mod Listed
 pub mod Lives
 pub mod Named

@@ -11,7 +11,7 @@ use Rattle.df_replica.specs.Below.{AreDistinct, DataFile, begun, told_after}
 use Rattle.df_replica.proofs.Laws.{added_is_told}
 use Rattle.df_copy.specs.Lives.{MayGoOn}
 use Rattle.df_copy.specs.Views.{HoldsCopy, ShowsCopy, file_in}
-use Rattle.df_copy.proofs.Lives.{copied_begins}
+use Rattle.df_copy.proofs.Laws.{copied_begins}
 use Rattle.df_lifetime.specs.Again.Again.{Once}
 use Rattle.df_lifetime.specs.Copied.{CopiedBegins, IsCopied, MadeIsCopied, StoppedIsCopied, file_of, view_of}
 use Rattle.df_lifetime.specs.Life.{GoesAlong}
