@@ -1,5 +1,5 @@
 -- What is read of the rings is what they show.
-use Rattle.std.proofs.Common.{◌≡◌, inl, inr, ℕ, ◌+◌, ◌*◌, ◌/◌, ◌%◌, ◌<◌, ◌≤◌, List, length, set, Option, Some, None, refl, sym, ◌∙◌, ap, subst, arith}
+use Rattle.std.proofs.Common.{◌≡◌, inl, inr, ℕ, ◌+◌, ◌*◌, ◌/◌, ◌%◌, ◌<◌, ◌≤◌, List, length, set, Option, Some, None, Result, Ok, Err, OnOk, refl, sym, ◌∙◌, ap, subst, arith}
 use Rattle.std.specs.List.{slice_get}
 use Rattle.std.proofs.lemmas.Bool.{cases_eq}
 use Rattle.std.proofs.lemmas.Option.{slice_get_cases, slice_get_within}
@@ -25,7 +25,7 @@ use Rattle.df_places.specs.Units.{IsSeen as IsPlaceSeen}
 use Rattle.df_journal.specs.Seen.{class_of as class_where}
 use Rattle.df_journal.specs.Shows.{IsSlot, ShowsHeader, ShowsPrepare, ShowsTable}
 use Rattle.df_journal.specs.Scan.{Scan, entry, or_blank}
-use Rattle.df_journal.specs.Scanned.{AreSeen, ClassIsShown, IsScanned, IsSeen, RingsAreShown, header_first, seen_at}
+use Rattle.df_journal.specs.Scanned.{AreSeen, ClassIsShown, HoldsSector, IsScanned, IsSeen, RingsAreShown, header_first, seen_at}
 
 -- ---- bytes
 
@@ -51,13 +51,19 @@ slot_seen layout cluster slot (Some t) sector seen size shows header prepare =
 
 -- ---- a header sector
 
-first_same : (layout : Layout) (from slot : ℕ) → from % 16 ≡ 0 → from ≤ slot → slot < from + 16 → header_first layout (16 * (from / 16)) ≡ header_first layout slot
-unfolding span_of sectors_before
-first_same layout from slot even low high = let same : 16 * (from / 16) / 16 ≡ slot / 16 = omega arith in omega (arith, same)
+-- the sector that was read for the first of its slots is that slot's
+pub holds_read : (layout : Layout) (slot : ℕ) (told : Option Told) (bytes : List ℕ) {E : Type 0} (result : Result (Unit {0}) E) → slot % 16 ≡ 0 → OnOk result (Shows told (header_first layout (16 * (slot / 16))) bytes) → length bytes ≡ 4096
+    → OnOk result (HoldsSector layout told slot bytes)
+holds_read layout slot told bytes (Err e) first shows size = tt
+holds_read layout slot told bytes (Ok x) first shows size = let same : 16 * (slot / 16) ≡ slot = omega arith in record { shows = subst (λ (n : ℕ). Shows told (header_first layout n) bytes) same shows; size = size }
 
-pub shows_still : (layout : Layout) (from slot : ℕ) (before now : Option Told) (bytes : List ℕ) → from % 16 ≡ 0 → from ≤ slot → slot < from + 16 → now ≡ before → Shows before (header_first layout (16 * (from / 16))) bytes → Shows now (header_first layout slot) bytes
-shows_still layout from slot before now bytes even low high same shows =
-    subst (λ (t : Option Told). Shows t (header_first layout slot) bytes) (sym same) (subst (λ (n : ℕ). Shows before n bytes) (first_same layout from slot even low high) shows)
+-- and the next slot's, if that isn't the first of one
+same_sector : (layout : Layout) (slot : ℕ) → 0 < (slot + 1) % 16 → header_first layout slot ≡ header_first layout (slot + 1)
+unfolding span_of sectors_before
+same_sector layout slot some = let same : slot / 16 ≡ (slot + 1) / 16 = omega arith in omega (arith, same)
+
+pub held_still : (layout : Layout) (slot : ℕ) (told : Option Told) (bytes : List ℕ) → 0 < (slot + 1) % 16 → HoldsSector layout told slot bytes → HoldsSector layout told (slot + 1) bytes
+held_still layout slot told bytes some holds = record { shows = subst (λ (n : ℕ). Shows told n bytes) (same_sector layout slot some) holds.shows; size = holds.size }
 
 -- ---- the table
 

@@ -1,7 +1,7 @@
 -- The table of slots as a disk shows them.
-use Rattle.std.specs.Prelude.{◌≡◌, ◌<◌, ℕ, List, slice_get, Option, Some, None}
+use Rattle.std.specs.Prelude.{◌≡◌, ◌<◌, ◌%◌, ℕ, List, length, slice_get, Option, Some, None}
 use Rattle.df_base.specs.Image.{Image}
-use Rattle.df_disk.specs.Told.{Told}
+use Rattle.df_disk.specs.Told.{Shows, Told}
 use Rattle.df_layout.specs.declared.layout.Layout.{Layout}
 use Rattle.df_layout.specs.declared.places.Zone.TheVariants.{WalHeaders, WalPrepares}
 use Rattle.df_layout.specs.Spans.{span_of}
@@ -36,6 +36,20 @@ pub record IsScanned (layout : Layout) (told : Option Told) (scan : Scan) : Type
 -- the first sector of a slot's header
 abbrev pub header_first : Layout → ℕ → ℕ
 header_first layout slot = (span_of layout (place_in WalHeaders slot)).first
+
+-- these bytes are a whole sector, the one of a slot's header
+pub record HoldsSector (layout : Layout) (told : Option Told) (slot : ℕ) (bytes : List ℕ) : Type 0 where
+  pub shows : Shows told (header_first layout slot) bytes
+  pub size : length bytes ≡ 4096
+
+-- unless the slot is the first of its sector, which is to be read then
+abbrev pub IsHeld : Layout → Option Told → ℕ → List ℕ → Type 0
+IsHeld layout told slot bytes = 0 < slot % 16 → HoldsSector layout told slot bytes
+
+-- a table has the start and the number of entries that it had
+pub record KeepsTable (before after : Scan) : Type 0 where
+  pub start : after.start ≡ before.start
+  pub size : length after.slots ≡ length before.slots
 
 -- a table that was scanned says what the image shows, in the words of the theory
 abbrev pub RingsAreShown : Type 0

@@ -19,6 +19,6 @@ pub use df_group::{Reach, Tail};
 pub use flushing::flush;
 pub use known::{lacking_known, slot_of};
 pub use reach::find_reach;
-pub use reads::{scan, scanned_is_shown};
+pub use reads::{scan, scan_shelf, scanned_is_shown};
 pub use settling::settle;
 pub use table::{SlotTable, Start};

@@ -71,13 +71,16 @@ fn read_named<A: Disk>(
     ensures cause { IsBlamed is_first (A.faults first.old) (A.faults first.new) result }
     ensures own { IfErr result IsOfFirst }
 {
+    let Some(room) = rooms.reader else {
+        unreachable!()
+    };
     let parts = Parts {
         root: ArrayVec::new(),
         sessions: ArrayVec::new(),
-        bits: rooms.bits,
-        checks: rooms.checks,
+        bits: room.bits,
+        checks: room.checks,
     };
-    let mut reader = Reader::new(rooms.layout, base.content.fields().op, parts);
+    let mut reader = Reader::new(room.layout, base.content.fields().op, parts);
     match read_chain(first, &base.content, grid, &mut reader) {
         Ok(()) => Ok(reader.into_parts().sessions),
         Err(fault) => Err(ending_of(fault)),

@@ -27,7 +27,7 @@ IsPlannedOn s t = IsPlanned s.state.file s.state.headers s.mends s.state.fields 
 module _ (version : ℕ) (y : Surveyed) (layout : Layout) (plan : IsPlannedFor y) where
   shown_planned : (t : Told) → IsReadOf version layout (Some t) y.scanned → TellsSurveyAs version layout (Some t) (Ok (state_found y)) → IsPlannedOn (survey_found y) (did Sync t)
   shown_planned t read answer =
-      let scan : Scan = y.scanned.log.slots in
+      let scan : Scan = y.scanned.rooms.log.slots in
       let found : IsFoundAs version t.shown y.scanned.copies.found = read.found in
       let own : scan.start.cluster ≡ y.scanned.file.cluster = ap (λ (x : Start). x.cluster) read.start ∙ sym read.file.cluster_is in
       let asked : version ≡ y.scanned.file.version = sym (read.file.version_is ∙ read.copies.version_is) in

@@ -13,7 +13,7 @@ use Rattle.df_opening.specs.Survey.{Survey}
 
 -- the survey of a file that was read, whose state was found
 abbrev pub survey_found : Surveyed → Survey
-survey_found s = record { state = state_found s; chosen = s.scanned.copies.found.chosen; mends = s.scanned.log.mends.items }
+survey_found s = record { state = state_found s; chosen = s.scanned.copies.found.chosen; mends = s.scanned.rooms.log.mends.items }
 
 -- The choice is the image's, of each of its four copies; the table in memory has the header that each slot is to have, by the decision on it: that of a prepare that is taken, the one that an empty slot
 -- shows, as it is, or a reserved one; and the list is what is to be mended.

@@ -9,7 +9,7 @@ ghost use Rattle.df_opening.specs.Surveying.{TellsMends, TellsSurvey, state_of, 
 
 use crate::{OpenError, Parts, Rooms};
 use arrayvec::ArrayVec;
-use df_damage::{Scanned, Surveyed, survey_version};
+use df_damage::{FileRooms, Scanned, Surveyed, survey_version};
 use df_disk::Disk;
 use df_layout::ROOT;
 use df_quorum::Chosen;
@@ -48,14 +48,18 @@ fn parts_of(surveyed: Surveyed) -> SurveyedFile
     let Scanned {
         file,
         copies,
-        log: rooms,
+        rooms,
+        root,
+        sessions,
+    } = scanned;
+    let FileRooms {
+        layout: _,
+        log,
         grid,
         trailer,
         scrub,
         mut staging,
-        root,
-        sessions,
-    } = scanned;
+    } = rooms;
     let scrub = scrub.cleared();
     staging.clear();
     let chosen = copies.found.chosen;
@@ -72,7 +76,7 @@ fn parts_of(surveyed: Surveyed) -> SurveyedFile
         sessions,
         waiting,
         live: false,
-        rooms,
+        rooms: log,
         grid,
         running: None,
         trailer,

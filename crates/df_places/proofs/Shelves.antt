@@ -1,5 +1,6 @@
 -- What was read into a room is what the disk shows at the place.
 use Rattle.std.proofs.Common.{◌≡◌, ◌≢◌, ℕ, List, ◌++◌, length, take, drop, arith, Option, Some, None, refl, sym, ◌∙◌, ap, subst}
+use Rattle.std.specs.Prelude.{Result}
 use Rattle.std.proofs.lemmas.Grind.{common_steps}
 use Rattle.df_base.specs.Fields.{AreBytes}
 use Rattle.df_disk.specs.Told.{Shows, Told}
@@ -11,8 +12,9 @@ use Rattle.df_layout.specs.declared.places.Zone.TheVariants.{Superblock, WalHead
 use Rattle.df_layout.specs.Spans.{span_of}
 use Rattle.df_format.specs.declared.kind.Kind.{Kind}
 use Rattle.df_format.specs.declared.kind.Kind.TheVariants.{Reserved, Prepare, Reply, Block, Trailer}
+use Rattle.df_format.specs.declared.header.Header.{Header}
 use Rattle.df_format.specs.Message.{Message}
-use Rattle.df_format.specs.Shown.{bytes_of, class_at, class_of, unit_at, unit_in}
+use Rattle.df_format.specs.Shown.{bytes_of, class_at, class_of, header_or_class, unit_at, unit_in}
 use Rattle.df_format.specs.UnitLaws.{place_size}
 use Rattle.df_format.proofs.Laws.{one_unit}
 use Rattle.df_buffers.specs.declared.identity.Identity.{Identity}
@@ -21,6 +23,7 @@ use Rattle.df_buffers.specs.Rooms.{FillsRoom, StandsIn, room_size}
 use Rattle.df_buffers.specs.Sounds.{Holding}
 use Rattle.df_buffers.proofs.Laws.{is_no_ring}
 use Rattle.df_places.specs.Shelves.{IsRead, shown_at}
+use Rattle.df_places.specs.Units.{IsThere as IsThereSeen}
 use Rattle.df_places.proofs.Rooms.{place_part, read_part}
 
 -- bytes that were lent and not written are as they were
@@ -88,3 +91,12 @@ module _ (kind : Kind) (zone : Zone) (identity : Identity) (bytes : List ℕ) (s
       is ∙ class_shown t shows,
     );
   }
+
+-- a header that bytes show is that of a unit which is valid at their place
+pub shown_there : (layout : Layout) (cluster : ℕ) (place : Place) (bytes : List ℕ) (seen : Result Header Class) → length bytes ≡ place_size layout place.zone → AreBytes bytes
+    → seen ≡ header_or_class (unit_in layout cluster place bytes) (class_of layout cluster place bytes) → IsThereSeen layout cluster place seen
+shown_there layout cluster place bytes seen size each is = subst (IsThereSeen layout cluster place) (sym is) (by (unit_in layout cluster place bytes) refl)
+  where
+    by : (o : Option Message) → unit_in layout cluster place bytes ≡ o → IsThereSeen layout cluster place (header_or_class o (class_of layout cluster place bytes))
+    by None shown = tt
+    by (Some u) shown = (u.body, ((one_unit layout cluster place bytes u size each).0 shown).is)

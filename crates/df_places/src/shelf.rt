@@ -1,8 +1,8 @@
 // The room of a kind of unit, as it lies between two calls: with any bytes, or with a sound unit in it, which it lends.
-ghost use Rattle.std.specs.Prelude.{◌≡◌, ◌≤◌, ◌+◌, None, Some, length, IfOk, IsSome};
-ghost use Rattle.df_places.specs.Below.{HasCause, AreBytes, HasPlace, for_body, own_place, ObeysRules, greatest_size};
+ghost use Rattle.std.specs.Prelude.{◌≡◌, ◌≢◌, ◌≤◌, ◌+◌, None, Some, length, IfOk, IsSome};
+ghost use Rattle.df_places.specs.Below.{HasCause, AreBytes, HasPlace, Zone, class_of, for_body, header_or_class, own_place, ObeysRules, greatest_size, place_size, unit_in};
 ghost use Rattle.df_places.specs.Shelves.{HoldsFound, HoldsMade, IsRead, IsShelf};
-ghost use Rattle.df_places.specs.Units.{IsSeen};
+ghost use Rattle.df_places.specs.Units.{IsSeen, IsThere};
 
 use crate::read_place;
 use df_base::Failed;
@@ -44,6 +44,17 @@ impl<K: UnitKind> Model for Shelf<K> {
 fn are_bytes(bytes: &[u8])
     ensures { AreBytes bytes.now }
 {}
+
+// What the bytes of a place show.
+fn shown_in(layout: &Layout, cluster: u128, place: Place, bytes: &[u8]) -> Result<Header, Class>
+    requires size { length bytes.now ≡ place_size layout.now place.zone }
+    requires copy { place.zone ≢ Zone.Superblock }
+    ensures shown { result ≡ header_or_class (unit_in layout.now cluster place bytes.now) (class_of layout.now cluster place bytes.now) }
+    ensures there { IsThere layout.now cluster place result }
+{
+    are_bytes(bytes);
+    decode_unit(layout, cluster, place, bytes)
+}
 
 // The room, whatever is in it.
 fn room_of<K: UnitKind>(_layout: &Layout, loose: Option<Raw<K>>, held: Option<Sound<K>>) -> Raw<K>
@@ -123,7 +134,7 @@ impl<K: UnitKind> Shelf<K> {
     }
 
     /// Reads a place into the room, and answers what is shown there: the header of the unit that is valid there, of whatever kind, or a
-    /// class. The shelf holds nothing then.
+    /// class. The shelf holds nothing then. A header that is seen is that of a valid unit, whatever the disk tells.
     pub fn see<D: Disk>(
         &mut self,
         disk: &mut D,
@@ -134,6 +145,7 @@ impl<K: UnitKind> Shelf<K> {
         requires zone { place.zone ≡ K.ZONE }
         ensures room { self.new ≡ record { layout = self.old.layout; held = None } }
         ensures seen { IfOk result (IsSeen self.old.layout cluster (D.told disk.old) place) }
+        ensures there { IfOk result (IsThere self.old.layout cluster place) }
         ensures same { D.told disk.new ≡ D.told disk.old }
         ensures cause { HasCause (D.faults disk.old) (D.faults disk.new) result }
     {
@@ -144,7 +156,7 @@ impl<K: UnitKind> Shelf<K> {
                 Err(failed)
             }
             Ok(()) => {
-                let seen = decode_unit(&self.layout, cluster, place, room.bytes_mut());
+                let seen = shown_in(&self.layout, cluster, place, room.bytes_mut());
                 self.loose = Some(room);
                 Ok(seen)
             }

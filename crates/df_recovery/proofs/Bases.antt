@@ -1,6 +1,6 @@
 -- The checkpoint of a superblock: with the trailer that was read, or with none.
 use Rattle.std.proofs.Common.{◌≡◌, ◌≢◌, inl, inr, ℕ, zero, suc, ◌-◌, ◌<◌, List, [], ◌∷◌, Option, Some, None, refl, sym, ◌∙◌, ap, subst, arith}
-use Rattle.std.specs.Prelude.{Ok, Err}
+use Rattle.std.specs.Prelude.{Ok, Err, IfSome}
 use Rattle.df_base.specs.Image.{Image}
 use Rattle.df_disk.specs.Told.{Told}
 use Rattle.df_layout.specs.declared.fields.Field.TheVariants.{Pending}
@@ -28,7 +28,7 @@ use Rattle.df_trailer.specs.declared.parts.Parts as rooms
 use Rattle.df_trailer.specs.declared.reader.Reader.{Reader}
 use Rattle.df_grid.specs.Grid.{GridState}
 use Rattle.df_grid.specs.Reads.{shown_of}
-use Rattle.df_grid.specs.Table.{no_blocks}
+use Rattle.df_grid.specs.Table.{IsIdle, no_blocks}
 use Rattle.df_checkpoint.specs.Chain.{OfTold, content_in}
 use Rattle.df_checkpoint.specs.Reads.{ChainAnswer, IsAdopted, IsComplete, blocks_read}
 use Rattle.df_checkpoint.specs.Waiting.{IsPending, IsUntracked}
@@ -37,8 +37,26 @@ use Rattle.df_checkpoint.specs.declared.fault.TrailerFault.TheVariants.{BadField
 use Rattle.df_checkpoint.proofs.Laws.{its_text, some_chain}
 use Rattle.df_rooms.specs.State.{shape}
 use Rattle.df_rooms.specs.declared.file.DataFile.{DataFile}
+use Rattle.df_rooms.specs.declared.trailer_rooms.ReaderRoom.{ReaderRoom}
 use Rattle.df_recovery.specs.Checkpoints.{Base, HasCheckpoint, HasText, RefusesTrailer, TellsCheckpoint, TellsText, error_of}
+use Rattle.df_recovery.specs.Scanning.{AreRoomsOf, FitsFile}
 use Rattle.df_recovery.proofs.Tracked.{has_is, has_not, sessions_back, tracked}
+
+-- ---- the rooms
+
+-- an empty grid of a file fits it
+pub empty_fits : (file : DataFile) (g : GridState) (rooms : Layout) → AreRoomsOf file g rooms → FitsFile file g rooms
+empty_fits file g rooms are = record {
+  layout_is = ap (λ (x : GridState). x.layout) are.grid_is;
+  cluster_is = ap (λ (x : GridState). x.cluster) are.grid_is;
+  boot_is = ap (λ (x : GridState). x.boot) are.grid_is;
+  idle = subst (λ (x : GridState). IsIdle x.blocks) (sym are.grid_is) (record { captured = refl; written = refl; left = refl });
+  rooms_are = are.rooms_are;
+}
+
+-- the room that a reader takes is of the trailer's layout
+pub room_fits : (o : Option ReaderRoom) (room : ReaderRoom) (layout : Layout) → IfSome o (λ r. r.layout ≡ layout) → Some room ≡ o → room.layout ≡ layout
+room_fits o room layout fits is = subst (λ (x : Option ReaderRoom). IfSome x (λ r. r.layout ≡ layout)) (sym is) fits
 
 -- ---- no trailer
 

@@ -1,5 +1,5 @@
 -- What is read after the barrier is what the disk showed before it, and a refusal is the answer to the open.
-use Rattle.std.proofs.Common.{◌≡◌, ◌∙◌, ℕ, ◌<◌, Option, Some, None, Result, Ok, Err, refl, sym, ap, subst}
+use Rattle.std.proofs.Common.{◌≡◌, ◌∙◌, ℕ, List, Option, Some, None, Result, Ok, Err, refl, sym, ap, subst}
 use Rattle.std.specs.Prelude.{IfErr, IfOk}
 use Rattle.df_base.specs.Image.{Image, IsImage}
 use Rattle.df_base.specs.Log.{Sync}
@@ -7,7 +7,9 @@ use Rattle.df_disk.specs.Told.{Told, after}
 use Rattle.df_layout.specs.declared.layout.Layout.{Layout}
 use Rattle.df_format.specs.declared.superblock.SuperFields.{SuperFields}
 use Rattle.df_model.specs.declared.errors.OpenError.{OpenError}
-use Rattle.df_model.specs.declared.errors.OpenError.TheVariants.{DiskFault}
+use Rattle.df_format.specs.declared.header.Header.{Header}
+use Rattle.df_layout.specs.declared.damage.Class.{Class}
+use Rattle.df_journal.specs.Scan.{Scan}
 use Rattle.df_journal.specs.Scanned as rings
 use Rattle.df_journal.specs.declared.table.Start.{Start}
 use Rattle.df_replies.specs.Shown as slots
@@ -17,24 +19,23 @@ use Rattle.df_recovery.specs.Checkpoints.{Base, TellsCheckpoint}
 use Rattle.df_recovery.specs.Finding.{IsOfFile, read_of}
 use Rattle.df_recovery.specs.Found.{IsFound, IsFoundAs}
 use Rattle.df_recovery.specs.Opening.{HasSuperAs, IsLayoutOf}
-use Rattle.df_recovery.specs.Scanning.{AreCopies, IsFileOf, IsReadBehind, IsScan, IsScanAs, IsServed, RefusesBase, TellsReadAs, base_scanned, without_rooms}
+use Rattle.df_recovery.specs.Starting.{start_of}
+use Rattle.df_recovery.specs.Scanning.{AreCopies, AreScanned, IsFileOf, IsReadBehind, IsScan, IsScanAs, IsServed, RefusesBase, TellsReadAs, base_scanned, without_rooms}
 use Rattle.df_recovery.specs.Surveys.{SurveysAs}
 use Rattle.df_recovery.specs.declared.scanned.Scanned.{Scanned}
 use Rattle.df_recovery.specs.declared.scanning.Copies.{Copies}
 use Rattle.df_recovery.proofs.Asked.{super_as}
-use Rattle.df_recovery.proofs.Bases.{told_fault}
 use Rattle.df_recovery.proofs.Refusals.{trailer_refused}
 use Rattle.df_recovery.proofs.Synced.{synced}
 
 pub refuses_base : (layout : Layout) (f : SuperFields) (told : Option Told) (e : OpenError) (file : DataFile) → TellsCheckpoint file told f (Err e) → IsFileOf layout f file → RefusesBase layout f told e
 refuses_base layout f told e file tells of = record { file = file; of = of; tells = tells }
 
--- where the disk failed
-pub fault_refuses : (layout : Layout) (f : SuperFields) (told : Option Told) (result : Result Scanned (Rooms × OpenError)) → 0 < f.cluster → IfErr result (λ refused. refused.1 ≡ DiskFault) → IfErr result (λ refused. RefusesBase layout f told refused.1)
-fault_refuses layout f told (Ok s) named fault = fault
-fault_refuses layout f told (Err refused) named fault =
-    let file : DataFile = record { layout = layout; cluster = f.cluster; version = f.version; named = named } in
-    record { file = file; of = record { layout_is = refl; cluster_is = refl; version_is = refl }; tells = subst (λ (e : OpenError). TellsCheckpoint file told f (Err e)) (sym fault) (told_fault file told f) }
+-- the tables have what the file shows
+pub tables_of : (l layout : Layout) (start : Start) (f : SuperFields) (now told : Option Told) (scan : Scan) (replies : List (Result Header Class)) → AreScanned l start.cluster now scan replies → l ≡ layout → start ≡ start_of f → now ≡ told → AreScanned layout f.cluster told scan replies
+tables_of l layout start f now told scan replies are same from still =
+    subst (λ (k : Layout). AreScanned k f.cluster told scan replies) same
+    (subst (λ (s : Start). AreScanned l s.cluster told scan replies) from (subst (λ (t : Option Told). AreScanned l start.cluster t scan replies) still are))
 
 tells_synced : (file : DataFile) (told : Option Told) (f : SuperFields) (result : Result Base OpenError) → TellsCheckpoint file (after Sync told) f result → TellsCheckpoint file told f result
 tells_synced file None f result tells = tt
@@ -49,7 +50,7 @@ behind_synced layout told s read = record {
   places = read.places;
   idle = read.idle;
   start = read.start;
-  tables = synced layout s.copies.found.content.cluster told s.log.slots s.log.replies read.tables;
+  tables = synced layout s.copies.found.content.cluster told s.rooms.log.slots s.rooms.log.replies read.tables;
 }
 
 pub scan_read : (version : ℕ) (layout : Layout) (copies : Copies) (old new : Option Told) (result : Result Scanned (Rooms × OpenError)) → new ≡ after Sync old → AreCopies version old copies → IsServed layout copies.found.content
@@ -86,7 +87,7 @@ pub scanned_as : (version : ℕ) (t : Told) (layout : Layout) (s : Scanned) → 
 scanned_as version t layout s whole found scan =
     let read = scan.behind in
     let asked = file_asked version t.shown s.copies.found.content s.file found.super read.file.version_is in
-    let cluster : s.log.slots.start.cluster ≡ s.copies.found.content.cluster = ap (λ (x : Start). x.cluster) read.start in
+    let cluster : s.rooms.log.slots.start.cluster ≡ s.copies.found.content.cluster = ap (λ (x : Start). x.cluster) read.start in
     record {
       image = whole;
       has = record { super = asked.1; layout = subst (λ (l : Layout). IsLayoutOf l s.copies.found.content) (sym read.file.layout_is) scan.served.layout_is; cluster = sym read.file.cluster_is };
@@ -96,8 +97,8 @@ scanned_as version t layout s whole found scan =
       cluster = cluster ∙ sym read.file.cluster_is;
       start = read.start;
       scanned = record {
-        slots = subst (λ (l : Layout). rings.IsScanned l (Some t) s.log.slots) (sym read.file.layout_is) read.tables.rings;
-        replies = subst (λ (l : Layout). slots.IsScanned l s.log.slots.start.cluster (Some t) s.log.replies) (sym read.file.layout_is) (subst (λ (n : ℕ). slots.IsScanned layout n (Some t) s.log.replies) (sym cluster) read.tables.replies_are);
+        slots = subst (λ (l : Layout). rings.IsScanned l (Some t) s.rooms.log.slots) (sym read.file.layout_is) read.tables.rings;
+        replies = subst (λ (l : Layout). slots.IsScanned l s.rooms.log.slots.start.cluster (Some t) s.rooms.log.replies) (sym read.file.layout_is) (subst (λ (n : ℕ). slots.IsScanned layout n (Some t) s.rooms.log.replies) (sym cluster) read.tables.replies_are);
       };
       checkpoint = read.checkpoint;
       sessions = refl;

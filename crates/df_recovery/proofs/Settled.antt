@@ -60,7 +60,7 @@ use Rattle.df_recovery.proofs.Scans.{scanned_as}
 pub lawful : (version : ℕ) (layout : Layout) (told : Option Told) (x : Scanned) → IsScanAs version layout told x → IsLawful x
 lawful version layout told x scan =
     let read = scan.behind in
-    let cluster : x.log.slots.start.cluster ≡ x.file.cluster = ap (λ (y : Start). y.cluster) read.start ∙ sym read.file.cluster_is in
+    let cluster : x.rooms.log.slots.start.cluster ≡ x.file.cluster = ap (λ (y : Start). y.cluster) read.start ∙ sym read.file.cluster_is in
     record {
       named = read.file.cluster_is;
       version = read.file.version_is;
@@ -74,7 +74,7 @@ lawful version layout told x scan =
         cluster_is = sym read.file.cluster_is;
       };
       start = read.start;
-      slots = subst (λ (l : Layout). AreSlots l x.file.cluster x.log.slots.slots) (sym read.file.layout_is) (subst (λ (n : ℕ). AreSlots layout n x.log.slots.slots) cluster read.tables.rings.is_table);
+      slots = subst (λ (l : Layout). AreSlots l x.file.cluster x.rooms.log.slots.slots) (sym read.file.layout_is) (subst (λ (n : ℕ). AreSlots layout n x.rooms.log.slots.slots) cluster read.tables.rings.is_table);
       places = read.places ∙ ap (λ (l : Layout). l.clients) (sym read.file.layout_is);
       idle = read.idle;
     }
@@ -107,9 +107,9 @@ module _ (t : Told) (x : Scanned) (is : IsOfFile t x.file (read_of x) (base_scan
       ∙ ap (λ (b : Checkpoint). b.content.op + length finds.view.tail) finds.checkpoint ∙ sym finds.ends.op
 
   module _ (traces : Traces) (after : List Session) (settled : Scanned) (y : Surveyed) (answers : Answers (read_of x) (Ok traces) after) (unstored : AreUnstored after)
-      (stores : StoresTo traces.replies x.log.replies (length after) after settled.sessions.sessions) (of : KeepsFile x settled)
-      (root_is : settled.root ≡ x.root) (blocks_are : settled.grid.blocks ≡ x.grid.blocks) (keeps : KeepsRead settled y.scanned) (traces_are : y.traces ≡ traces)
-      (waiting : y.waiting.items ≡ waiting_in settled.file.layout.slots settled.log.slots y.scanned.log.headers traces.replies traces.tail.op) (plan : IsPlannedFor y) where
+      (stores : StoresTo traces.replies x.rooms.log.replies (length after) after settled.sessions.sessions) (of : KeepsFile x settled)
+      (root_is : settled.root ≡ x.root) (blocks_are : settled.rooms.grid.blocks ≡ x.rooms.grid.blocks) (keeps : KeepsRead settled y.scanned) (traces_are : y.traces ≡ traces)
+      (waiting : y.waiting.items ≡ waiting_in settled.file.layout.slots settled.rooms.log.slots y.scanned.rooms.log.headers traces.replies traces.tail.op) (plan : IsPlannedFor y) where
     abbrev s : State
     s = state_found y
 
@@ -132,9 +132,9 @@ module _ (t : Told) (x : Scanned) (is : IsOfFile t x.file (read_of x) (base_scan
       head_checksum = ap (λ (r : Traces). r.tail.checksum) traces_are;
       replies = ap (λ (r : Traces). r.replies) traces_are;
       unstored = unstored;
-      stored = subst (λ table. StoresTo traces.replies x.log.replies (length after) after table.sessions) (sym keeps.sessions) stores;
+      stored = subst (λ table. StoresTo traces.replies x.rooms.log.replies (length after) after table.sessions) (sym keeps.sessions) stores;
       count = plan.plan.is_table.count;
-      waiting = waiting ∙ (λ i. waiting_in ((sym keeps.file) i).layout.slots (of.slots i) y.scanned.log.headers ((sym traces_are) i).replies ((sym traces_are) i).tail.op);
+      waiting = waiting ∙ (λ i. waiting_in ((sym keeps.file) i).layout.slots (of.slots i) y.scanned.rooms.log.headers ((sym traces_are) i).replies ((sym traces_are) i).tail.op);
       starts = record { staged = refl; running = refl; tour = refl; findings = refl };
     }
 
@@ -143,9 +143,9 @@ module _ (t : Told) (x : Scanned) (is : IsOfFile t x.file (read_of x) (base_scan
         let read = file_is_read t s.file (read_of x) (base_with s x.sessions.sessions) own in
         let base : Checkpoint = base_of x.copies.found.content own.checkpoint.chain own.checkpoint.parts in
         let content : v.checkpoint.content ≡ base.content = one_chosen_law image v.checkpoint.content base.content is_found.chosen read.readable.chosen in
-        let start : y.scanned.log.slots.start ≡ start_of x.copies.found.content = ap (λ (r : Scan). r.start) (keeps.slots ∙ of.slots) ∙ is.start in
-        let tells : TellsRings s.file.layout image y.scanned.log.slots =
-        subst (λ (r : Scan). TellsRings s.file.layout image r) (sym (keeps.slots ∙ of.slots)) (subst (λ (file : DataFile). TellsRings file.layout image x.log.slots) (sym file_is) read.tells) in
+        let start : y.scanned.rooms.log.slots.start ≡ start_of x.copies.found.content = ap (λ (r : Scan). r.start) (keeps.slots ∙ of.slots) ∙ is.start in
+        let tells : TellsRings s.file.layout image y.scanned.rooms.log.slots =
+        subst (λ (r : Scan). TellsRings s.file.layout image r) (sym (keeps.slots ∙ of.slots)) (subst (λ (file : DataFile). TellsRings file.layout image x.rooms.log.slots) (sym file_is) read.tells) in
         let here = plan.plan.from (shape s.file) image v (record {
           slots_are = refl;
           op = ap (λ (c : Content). c.op) content ∙ sym (ap (λ (r : Start). r.op) start);
@@ -191,7 +191,7 @@ module _ (t : Told) (x : Scanned) (is : IsOfFile t x.file (read_of x) (base_scan
   f = x.copies.found.content
 
   abbrev scan : Scan
-  scan = x.log.slots
+  scan = x.rooms.log.slots
 
   cluster : scan.start.cluster ≡ f.cluster
   cluster = is.cluster ∙ sym is.has.cluster
@@ -228,21 +228,21 @@ module _ (t : Told) (x : Scanned) (is : IsOfFile t x.file (read_of x) (base_scan
       let image = unit_at layout f.cluster t.shown in
       let members = x.copies.found.chosen.members in
       let top = y.traces.tail.op in
-      let here : ArePlannedFrom x.file.layout x.file.cluster scan top x.copies.slots members y.scanned.log.headers y.scanned.log.mends.items =
-      subst (λ (file : DataFile). ArePlannedFrom file.layout file.cluster scan top x.copies.slots members y.scanned.log.headers y.scanned.log.mends.items) of.file
-      (subst (λ (r : Scan). ArePlannedFrom y.scanned.file.layout y.scanned.file.cluster r top x.copies.slots members y.scanned.log.headers y.scanned.log.mends.items) of.slots
-      (subst (λ (c : Copies). ArePlannedFrom y.scanned.file.layout y.scanned.file.cluster y.scanned.log.slots top c.slots c.found.chosen.members y.scanned.log.headers y.scanned.log.mends.items) of.copies plan.plan)) in
-      let each : ArePlanned x.file.cluster scan top layout.slots y.scanned.log.headers =
-      subst (λ (file : DataFile). ArePlanned file.cluster scan top file.layout.slots y.scanned.log.headers) of.file
-      (subst (λ (r : Scan). ArePlanned y.scanned.file.cluster r top y.scanned.file.layout.slots y.scanned.log.headers) of.slots plan.each) in
+      let here : ArePlannedFrom x.file.layout x.file.cluster scan top x.copies.slots members y.scanned.rooms.log.headers y.scanned.rooms.log.mends.items =
+      subst (λ (file : DataFile). ArePlannedFrom file.layout file.cluster scan top x.copies.slots members y.scanned.rooms.log.headers y.scanned.rooms.log.mends.items) of.file
+      (subst (λ (r : Scan). ArePlannedFrom y.scanned.file.layout y.scanned.file.cluster r top x.copies.slots members y.scanned.rooms.log.headers y.scanned.rooms.log.mends.items) of.slots
+      (subst (λ (c : Copies). ArePlannedFrom y.scanned.file.layout y.scanned.file.cluster y.scanned.rooms.log.slots top c.slots c.found.chosen.members y.scanned.rooms.log.headers y.scanned.rooms.log.mends.items) of.copies plan.plan)) in
+      let each : ArePlanned x.file.cluster scan top layout.slots y.scanned.rooms.log.headers =
+      subst (λ (file : DataFile). ArePlanned file.cluster scan top file.layout.slots y.scanned.rooms.log.headers) of.file
+      (subst (λ (r : Scan). ArePlanned y.scanned.file.cluster r top y.scanned.file.layout.slots y.scanned.rooms.log.headers) of.slots plan.each) in
       let tells : TellsRings layout image scan = subst (λ (n : ℕ). TellsRings layout (unit_at layout n t.shown) scan) cluster (rings_shown layout t scan is.scanned.slots) in
       let list = here.list image tells ∙ ap (λ (xs : List Mend). xs ++ slot_mends (needs_header layout scan.start top image) (shown_class scan) layout.slots) (copies_listed members)
       ∙ ap (λ (xs : List Mend). map (copy_mend_at t.shown) (filter (λ n. not (get_or members n false)) (range_with_len 0 4)) ++ xs) (slots_listed top) in
       record {
         choice = subst (λ (c : Copies). IsChoiceOf t.shown c.found.chosen) (sym of.copies) is.choice;
         four = plan.four;
-        table = subst (λ (c : Copies). y.scanned.log.headers ≡ headers_of layout t.shown c.found.content top) (sym of.copies) (headers_shown top y.scanned.log.headers here.is_table.count tells each);
-        mends = subst (λ (c : Copies). y.scanned.log.mends.items ≡ mends_of layout t.shown c.found.content top c.found.chosen.members) (sym of.copies) list;
+        table = subst (λ (c : Copies). y.scanned.rooms.log.headers ≡ headers_of layout t.shown c.found.content top) (sym of.copies) (headers_shown top y.scanned.rooms.log.headers here.is_table.count tells each);
+        mends = subst (λ (c : Copies). y.scanned.rooms.log.mends.items ≡ mends_of layout t.shown c.found.content top c.found.chosen.members) (sym of.copies) list;
       }
 
 -- ---- what a disk tells

@@ -15,6 +15,7 @@ pub use Rattle.df_journal.specs.Seen.{class_of, header_of_seen}
 pub use Rattle.df_journal.specs.Shows.{ShowsTable, TellsRings}
 pub use Rattle.df_journal.specs.Tail.{AreNumbered, AreUnstored, IsWithin, KeepsRules}
 pub use Rattle.df_checkpoint.specs.Below.{AreFieldsOf, IsBlamed, parse_of}
+pub use Rattle.df_trailer.specs.Sessions.{AreRead}
 pub use Rattle.df_rooms.specs.Below.{IsMachineStep, IsMachines, IsStep, IsVerdict, ListsFailing, ScrubState, after_step, failing_among, failing_in, left_in, verdict_in, with_check}
 pub use Rattle.df_rooms.specs.Courses.{running_of, running_state}
 pub use Rattle.df_rooms.specs.Parts.{AreFound, AreWhole, FitsGrid, state_in, summary_of}

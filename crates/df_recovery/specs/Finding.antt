@@ -70,7 +70,7 @@ pub record Read : Type 0 where
 
 -- of a file that was scanned
 abbrev pub read_of : Scanned → Read
-read_of s = record { layout = s.file.layout; found = s.copies.found; slots = s.log.slots; replies = s.log.replies; sessions = s.sessions.sessions }
+read_of s = record { layout = s.file.layout; found = s.copies.found; slots = s.rooms.log.slots; replies = s.rooms.log.replies; sessions = s.sessions.sessions }
 
 -- it was read from an image with this checkpoint: the superblock names it and can be used
 pub record IsReadFrom (sh : Shape) (image : Units.Units) (b : Checkpoint) (read : Read) : Type 0 where

@@ -19,16 +19,13 @@ use Rattle.df_recovery.specs.declared.superblock.Found.{Found}
 use Rattle.df_recovery.specs.declared.scanning.Copies.{Copies}
 use Rattle.df_recovery.specs.declared.scanned.Scanned.{Scanned}
 use Rattle.df_recovery.specs.declared.checkpoint.Checkpoint.{Checkpoint}
-use Rattle.df_recovery.specs.declared.checkpoint.Text.{Text}
-use Rattle.df_recovery.specs.declared.checkpoint.Unread.{Unread}
 use Rattle.df_recovery.specs.Checkpoints.{AreOfCheckpoint, Base, TellsCheckpoint, TellsText}
 use Rattle.df_superblock.specs.Calls.{ShowsCopies, ShowsSlots}
 use Rattle.df_trailer.specs.Sessions.{AreRead}
 use Rattle.df_grid.specs.Grid.{GridState}
 use Rattle.df_grid.specs.Table.{IsIdle, no_blocks}
 use Rattle.df_rooms.specs.declared.file.DataFile.{DataFile}
-use Rattle.df_rooms.specs.declared.grid_rooms.GridRooms.{GridRooms}
-use Rattle.df_rooms.specs.declared.trailer_rooms.TrailerRooms.{TrailerRooms}
+use Rattle.df_rooms.specs.declared.file_rooms.FileRooms.{FileRooms}
 
 -- the rooms of a layout serve the file of a superblock: it is of their layout
 pub record IsServed (layout : Layout) (f : SuperFields) : Type 0 where
@@ -78,64 +75,70 @@ pub record AreCopies (version : ℕ) (told : Option Told) (copies : Copies) : Ty
 
 -- ---- the checkpoint
 
--- what was read of a checkpoint, without the rooms
-abbrev pub base_in : Checkpoint → Base
-base_in c = record { root = c.root.items; sessions = c.sessions.sessions; blocks = c.grid.blocks }
-
--- nothing is kept of it
-abbrev pub IsEmpty : Checkpoint → Type 0
-IsEmpty c = base_in c ≡ record { root = []; sessions = []; blocks = no_blocks }
-
--- of a trailer's text
-abbrev pub base_of_text : Text → Base
-base_of_text x = record { root = x.root.items; sessions = x.sessions.items; blocks = x.grid.blocks }
+-- what was read of a checkpoint, with the blocks that the grid holds
+abbrev pub base_in : GridState → Checkpoint → Base
+base_in g c = record { root = c.root.items; sessions = c.sessions.sessions; blocks = g.blocks }
 
 -- and of all that was read
 abbrev pub base_scanned : Scanned → Base
-base_scanned s = record { root = s.root.items; sessions = s.sessions.sessions; blocks = s.grid.blocks }
+base_scanned s = record { root = s.root.items; sessions = s.sessions.sessions; blocks = s.rooms.grid.blocks }
 
--- the rooms for the grid and for the trailer serve the file
-pub record AreRoomsOf (file : DataFile) (grid : GridRooms) (trailer : TrailerRooms) : Type 0 where
-  pub grid_is : grid.layout ≡ file.layout
-  pub trailer_is : trailer.layout ≡ file.layout
+-- the grid of a file in which no address is held, before a boot is set
+abbrev pub empty_grid : DataFile → GridState
+empty_grid file = record { layout = file.layout; cluster = file.cluster; boot = 0; blocks = no_blocks }
 
--- so do the rooms that a checkpoint was read into; no other one runs, and no boot is set
-pub record FitsFile (file : DataFile) (grid : GridState) (trailer : TrailerRooms) : Type 0 where
+-- the grid is the file's and empty, and the rooms beside it serve the file
+pub record AreRoomsOf (file : DataFile) (grid : GridState) (rooms : Layout) : Type 0 where
+  pub grid_is : grid ≡ empty_grid file
+  pub rooms_are : rooms ≡ file.layout
+
+-- so they do whatever was read; no checkpoint runs, and no boot is set
+pub record FitsFile (file : DataFile) (grid : GridState) (rooms : Layout) : Type 0 where
   pub layout_is : grid.layout ≡ file.layout
   pub cluster_is : grid.cluster ≡ file.cluster
   pub boot_is : grid.boot ≡ 0
-  pub trailer_is : trailer.layout ≡ file.layout
   pub idle : IsIdle grid.blocks
+  pub rooms_are : rooms ≡ file.layout
 
 -- the text of the trailer that a superblock names was read
-pub record IsText (file : DataFile) (told : Option Told) (f : SuperFields) (x : Text) : Type 0 where
+pub record IsText (file : DataFile) (told : Option Told) (f : SuperFields) (g : GridState) (c : Checkpoint) : Type 0 where
   -- it is the one that the disk shows
-  pub tells : TellsText file told f (base_of_text x)
+  pub tells : TellsText file told f (base_in g c)
   -- whatever the disk tells, the sessions are in their ranges, and no two are one
-  pub sessions : AreRead file.layout.clients f.op x.sessions.items
-  -- it is in rooms of the file
-  pub fits : FitsFile file x.grid x.trailer
+  pub sessions : AreRead file.layout.clients f.op c.sessions.sessions
+  -- there are as many places for them as the file has clients
+  pub places : c.sessions.max ≡ file.layout.clients
 
 -- the checkpoint of a superblock was read
-pub record IsCheckpoint (file : DataFile) (told : Option Told) (f : SuperFields) (c : Checkpoint) : Type 0 where
+pub record IsCheckpoint (file : DataFile) (told : Option Told) (f : SuperFields) (g : GridState) (c : Checkpoint) : Type 0 where
   -- it is the one that the disk shows
-  pub tells : TellsCheckpoint file told f (Ok (base_in c))
+  pub tells : TellsCheckpoint file told f (Ok (base_in g c))
   -- whatever the disk tells, the sessions make sense
   pub sessions : AreOfCheckpoint f c.sessions.sessions
   -- there are as many places for them as the file has clients
   pub places : c.sessions.max ≡ file.layout.clients
-  -- it is in rooms of the file
-  pub fits : FitsFile file c.grid c.trailer
 
--- it wasn't read: the disk failed, or the trailer is refused, and the rooms of the file come back
-pub record IsUnread (file : DataFile) (told : Option Told) (f : SuperFields) (u : Unread) : Type 0 where
-  pub tells : TellsCheckpoint file told f (Err u.error)
-  pub rooms : AreRoomsOf file u.grid u.trailer
+-- or it wasn't: the disk failed, or the trailer is refused
+abbrev pub ReadsText : DataFile → Option Told → SuperFields → GridState → Result Checkpoint OpenError → Type 0
+ReadsText file told f g (Ok c) = IsText file told f g c
+ReadsText file told f g (Err e) = TellsCheckpoint file told f (Err e)
 
--- what was read, or the refusal without the rooms
-abbrev pub error_in : {T : Type 0} → Result T Unread → Result T OpenError
-error_in (Ok x) = Ok x
-error_in (Err unread) = Err unread.error
+abbrev pub ReadsCheckpoint : DataFile → Option Told → SuperFields → GridState → Result Checkpoint OpenError → Type 0
+ReadsCheckpoint file told f g (Ok c) = IsCheckpoint file told f g c
+ReadsCheckpoint file told f g (Err e) = TellsCheckpoint file told f (Err e)
+
+-- what stands after a superblock was read into the rooms of its file
+pub record IsBehind (file : DataFile) (told : Option Told) (f : SuperFields) (rooms : FileRooms) (c : Checkpoint) : Type 0 where
+  -- the checkpoint
+  pub checkpoint : IsCheckpoint file told f rooms.grid c
+  -- the scan started after the superblock
+  pub start : rooms.log.slots.start ≡ start_of f
+  -- the tables have what the rings and the reply slots show
+  pub tables : AreScanned file.layout f.cluster told rooms.log.slots rooms.log.replies
+
+abbrev pub ReadsBehind : DataFile → Option Told → SuperFields → FileRooms → Result Checkpoint OpenError → Type 0
+ReadsBehind file told f rooms (Ok c) = IsBehind file told f rooms c
+ReadsBehind file told f rooms (Err e) = TellsCheckpoint file told f (Err e)
 
 -- ---- the whole file
 
@@ -162,11 +165,11 @@ pub record IsReadBehind (layout : Layout) (told : Option Told) (s : Scanned) : T
   -- there are as many places for them as the layout has clients
   pub places : s.sessions.max ≡ layout.clients
   -- no checkpoint runs
-  pub idle : IsIdle s.grid.blocks
+  pub idle : IsIdle s.rooms.grid.blocks
   -- the scan started after the superblock
-  pub start : s.log.slots.start ≡ start_of s.copies.found.content
+  pub start : s.rooms.log.slots.start ≡ start_of s.copies.found.content
   -- the tables have what the rings and the reply slots show
-  pub tables : AreScanned layout s.copies.found.content.cluster told s.log.slots s.log.replies
+  pub tables : AreScanned layout s.copies.found.content.cluster told s.rooms.log.slots s.rooms.log.replies
 
 -- a file of the version that is asked for was read into rooms of a layout
 pub record IsScanAs (version : ℕ) (layout : Layout) (told : Option Told) (s : Scanned) : Type 0 where

@@ -52,13 +52,13 @@ pub record IsLawful (s : Scanned) : Type 0 where
   -- and all else that the superblock says of its layout
   pub fields : AreFieldsOf s.file.layout s.file.cluster s.copies.found.content
   -- the scan started after the superblock
-  pub start : s.log.slots.start ≡ start_of s.copies.found.content
+  pub start : s.rooms.log.slots.start ≡ start_of s.copies.found.content
   -- each slot has units that may stand there
-  pub slots : AreSlots s.file.layout s.file.cluster s.log.slots.slots
+  pub slots : AreSlots s.file.layout s.file.cluster s.rooms.log.slots.slots
   -- there are as many places for sessions as the layout has clients
   pub places : s.sessions.max ≡ s.file.layout.clients
   -- no checkpoint runs
-  pub idle : IsIdle s.grid.blocks
+  pub idle : IsIdle s.rooms.grid.blocks
 
 -- the end of the tail after a superblock is in its ranges
 pub record EndsBehind (layout : Layout) (f : SuperFields) (traces : Traces) : Type 0 where
@@ -100,15 +100,15 @@ pub record KeepsRead (before after : Scanned) : Type 0 where
   pub file : after.file ≡ before.file
   pub copies : after.copies ≡ before.copies
   pub root : after.root ≡ before.root
-  pub blocks : after.grid.blocks ≡ before.grid.blocks
-  pub slots : after.log.slots ≡ before.log.slots
+  pub blocks : after.rooms.grid.blocks ≡ before.rooms.grid.blocks
+  pub slots : after.rooms.log.slots ≡ before.rooms.log.slots
   pub sessions : after.sessions ≡ before.sessions
 
 -- and of which the sessions may differ, too
 pub record KeepsFile (before after : Scanned) : Type 0 where
   pub file : after.file ≡ before.file
   pub copies : after.copies ≡ before.copies
-  pub slots : after.log.slots ≡ before.log.slots
+  pub slots : after.rooms.log.slots ≡ before.rooms.log.slots
 
 -- of a disk, what was read of the copies and of the rings, whatever sessions are kept
 pub record IsReadOf (version : ℕ) (layout : Layout) (told : Option Told) (s : Scanned) : Type 0 where
@@ -119,9 +119,9 @@ pub record IsReadOf (version : ℕ) (layout : Layout) (told : Option Told) (s : 
   -- which is the one that the disk shows
   pub found : TellsFoundAs version told (Ok s.copies.found)
   -- the scan started after it
-  pub start : s.log.slots.start ≡ start_of s.copies.found.content
+  pub start : s.rooms.log.slots.start ≡ start_of s.copies.found.content
   -- the table has what the rings show
-  pub rings_are : rings.IsScanned layout told s.log.slots
+  pub rings_are : rings.IsScanned layout told s.rooms.log.slots
 
 -- ---- the answer
 
@@ -137,8 +137,8 @@ state_found s = record {
   table = s.scanned.sessions;
   waiting = s.waiting.items;
   staged = [];
-  headers = s.scanned.log.headers;
-  blocks = s.scanned.grid.blocks;
+  headers = s.scanned.rooms.log.headers;
+  blocks = s.scanned.rooms.grid.blocks;
   running = None;
   tour = first_tour;
   findings = [];
@@ -167,8 +167,8 @@ pub record ArePlannedFrom (layout : Layout) (cluster : ℕ) (scan : Scan) (top :
 
 -- those of a surveyed file are, each slot has the header that its decision says, and of each of the four copies it is said whether it is a member
 pub record IsPlannedFor (s : Surveyed) : Type 0 where
-  pub plan : ArePlannedFrom s.scanned.file.layout s.scanned.file.cluster s.scanned.log.slots s.traces.tail.op s.scanned.copies.slots s.scanned.copies.found.chosen.members s.scanned.log.headers s.scanned.log.mends.items
-  pub each : ArePlanned s.scanned.file.cluster s.scanned.log.slots s.traces.tail.op s.scanned.file.layout.slots s.scanned.log.headers
+  pub plan : ArePlannedFrom s.scanned.file.layout s.scanned.file.cluster s.scanned.rooms.log.slots s.traces.tail.op s.scanned.copies.slots s.scanned.copies.found.chosen.members s.scanned.rooms.log.headers s.scanned.rooms.log.mends.items
+  pub each : ArePlanned s.scanned.file.cluster s.scanned.rooms.log.slots s.traces.tail.op s.scanned.file.layout.slots s.scanned.rooms.log.headers
   pub four : length s.scanned.copies.found.chosen.members ≡ 4
 
 -- a copy with the class of what its place shows: a sound copy of its own place is a stale one
@@ -193,8 +193,8 @@ headers_of layout image f top = map (planned_header layout image f top) (range_w
 pub record IsMendable (layout : Layout) (image : Image) (s : Surveyed) : Type 0 where
   pub choice : IsChoiceOf image s.scanned.copies.found.chosen
   pub four : length s.scanned.copies.found.chosen.members ≡ 4
-  pub table : s.scanned.log.headers ≡ headers_of layout image s.scanned.copies.found.content s.traces.tail.op
-  pub mends : s.scanned.log.mends.items ≡ mends_of layout image s.scanned.copies.found.content s.traces.tail.op s.scanned.copies.found.chosen.members
+  pub table : s.scanned.rooms.log.headers ≡ headers_of layout image s.scanned.copies.found.content s.traces.tail.op
+  pub mends : s.scanned.rooms.log.mends.items ≡ mends_of layout image s.scanned.copies.found.content s.traces.tail.op s.scanned.copies.found.chosen.members
 
 -- of what a disk shows, where it tells that and its sectors are whole
 abbrev pub TellsMends : Layout → Option Told → Surveyed → Type 0

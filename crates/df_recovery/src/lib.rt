@@ -17,7 +17,7 @@ mod zones;
 
 pub use answers::{one_answer, one_refusal_is_given, super_is_written};
 pub use df_model::OpenError;
-pub use df_rooms::{DataFile, LogRooms, Parts, Rooms, RunningCheckpoint, Staging, rooms_of};
+pub use df_rooms::{DataFile, FileRooms, LogRooms, Parts, Rooms, RunningCheckpoint, Staging};
 pub use finding::{Traces, file_is_read, find_state, found_is_answer, state_is_opened};
 pub use opening::{probe, probe_version, read_superblock, survey_superblock};
 pub use planning::plan;

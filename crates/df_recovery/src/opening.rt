@@ -41,10 +41,8 @@ pub fn probe_version<D: Disk>(
     ensures of_copies { IfErr result IsOfCopies }
     ensures cause { IsBlamed is_open_fault (D.faults disk.old) (D.faults disk.new) result }
 {
-    match read_superblock(disk, room, version) {
-        Ok(found) => Ok(found.content.layout()),
-        Err(refusal) => Err(refusal),
-    }
+    let found = read_superblock(disk, room, version)?;
+    Ok(found.content.layout())
 }
 
 /// The same, where version 2 is asked for, as an open does.

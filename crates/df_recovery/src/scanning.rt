@@ -1,11 +1,11 @@
 // What an open reads of a file: after the barrier the four copies of the superblock, the trailer, both rings and the reply slots.
 ghost use Rattle.std.specs.Prelude.{◌≡◌, IfOk, IfErr, Ok, OnOk};
-ghost use Rattle.df_recovery.specs.Below.{IsBlamed, is_open_fault};
+ghost use Rattle.df_recovery.specs.Below.{AreFieldsOf, IsBlamed, is_open_fault};
 ghost use Rattle.df_recovery.specs.Found.{Syncs, TellsFoundAs};
 ghost use Rattle.df_recovery.specs.Starting.{start_of};
-ghost use Rattle.df_recovery.specs.Scanning.{AreCopies, IsCheckpoint, IsFileOf, IsReadBehind, IsScanAs, IsServed, IsUnserved, RefusesBase, TellsReadAs, found_in, without_rooms};
+ghost use Rattle.df_recovery.specs.Scanning.{AreCopies, AreRoomsOf, FitsFile, IsReadBehind, IsScanAs, IsServed, IsUnserved, ReadsBehind, RefusesBase, TellsReadAs, found_in, without_rooms};
 
-use crate::checkpoint::{Checkpoint, Unread, read_checkpoint};
+use crate::checkpoint::{Checkpoint, read_checkpoint};
 use crate::known::pin_of;
 use crate::superblock::superblock_of;
 use crate::zones::scan_zones;
@@ -16,7 +16,7 @@ use df_format::{Super, SuperFields};
 use df_journal::Start;
 use df_layout::Layout;
 use df_quorum::Slot;
-use df_rooms::{DataFile, GridRooms, LogRooms, Rooms, ScrubRooms, Staging};
+use df_rooms::{DataFile, FileRooms, LogRooms, Rooms};
 use df_superblock::read_all;
 
 /// The superblock of a file, and what the four places of its copies show.
@@ -38,10 +38,10 @@ fn read_copies<D: Disk>(
     ensures cause { IsBlamed is_open_fault (D.faults disk.old) (D.faults disk.new) result }
 {
     match read_all(disk, room) {
-        Ok(slots) => match superblock_of(&slots, version) {
-            Ok(found) => Ok(Copies { found, slots }),
-            Err(refusal) => Err(refusal),
-        },
+        Ok(slots) => {
+            let found = superblock_of(&slots, version)?;
+            Ok(Copies { found, slots })
+        }
         Err(_) => Err(OpenError::DiskFault),
     }
 }
@@ -82,22 +82,19 @@ fn find_copies<D: Disk>(
 fn find_served<D: Disk>(
     disk: &mut D,
     layout: &Layout,
-    room: &mut ProbeRoom,
+    rooms: &mut LogRooms,
     version: u32,
 ) -> Result<Copies, OpenError>
     ensures copies { IfOk result (AreCopies version (D.told disk.old)) }
+    ensures rooms { rooms.new.layout ≡ rooms.old.layout }
     ensures served { IfOk result (λ copies. IsServed layout.now copies.found.content) }
     ensures answer { TellsReadAs version (λ copies. copies.found) layout.now (D.told disk.old) result }
     ensures barrier { Syncs (D.told disk.old) (D.told disk.new) result }
     ensures cause { IsBlamed is_open_fault (D.faults disk.old) (D.faults disk.new) result }
 {
-    match find_copies(disk, room, version) {
-        Ok(copies) => match test_served(layout, &copies.found.content) {
-            Ok(()) => Ok(copies),
-            Err(refusal) => Err(refusal),
-        },
-        Err(refusal) => Err(refusal),
-    }
+    let copies = find_copies(disk, &mut rooms.superblock, version)?;
+    test_served(layout, &copies.found.content)?;
+    Ok(copies)
 }
 
 // Where the scan of a file starts.
@@ -112,58 +109,24 @@ fn start_of(fields: &SuperFields) -> Start
     }
 }
 
-// Scans the rings and the reply slots of a file whose checkpoint was read.
-fn scan_log<D: Disk>(
+// Reads what stands after a superblock: its checkpoint, and then the rings and the reply slots.
+fn read_behind<D: Disk>(
     disk: &mut D,
     file: &DataFile,
-    copies: &Copies,
-    log: LogRooms,
-    scrub: ScrubRooms,
-    staging: Staging,
-    base: Checkpoint,
-) -> Result<Scanned, (Rooms, OpenError)>
-    requires file { IsFileOf log.layout copies.now.found.content file.now }
-    requires scrub { scrub.layout ≡ log.layout }
-    requires staging { staging.layout ≡ log.layout }
-    requires base { IsCheckpoint file.now (D.told disk.old) copies.now.found.content base }
-    ensures read { IfOk result (IsReadBehind log.layout (D.told disk.old)) }
-    ensures copies { IfOk result (λ s. s.copies ≡ copies.now) }
-    ensures given_back { IfErr result (λ refused. refused.0.layout ≡ log.layout) }
-    ensures fault { IfErr result (λ refused. refused.1 ≡ OpenError.DiskFault) }
+    content: &Super,
+    rooms: &mut FileRooms,
+) -> Result<Checkpoint, OpenError>
+    requires rooms { AreRoomsOf file.now rooms.old.grid rooms.old.layout }
+    requires file { AreFieldsOf file.now.layout file.now.cluster content.now }
+    ensures reads { ReadsBehind file.now (D.told disk.old) content.now rooms.new result }
+    ensures fits { FitsFile file.now rooms.new.grid rooms.new.layout }
     ensures same { D.told disk.new ≡ D.told disk.old }
-    ensures cause { IsBlamed is_open_fault (D.faults disk.old) (D.faults disk.new) (without_rooms result) }
+    ensures cause { IsBlamed is_open_fault (D.faults disk.old) (D.faults disk.new) result }
 {
-    let start = start_of(copies.found.content.fields());
-    let (log, done) = scan_zones(disk, &start, log);
-    let Checkpoint {
-        grid,
-        trailer,
-        root,
-        sessions,
-    } = base;
-    match done {
-        Ok(()) => Ok(Scanned {
-            file: *file,
-            copies: *copies,
-            log,
-            grid,
-            trailer,
-            scrub,
-            staging,
-            root,
-            sessions,
-        }),
-        Err(_) => Err((
-            Rooms {
-                layout: file.layout,
-                log,
-                grid: GridRooms::of(grid),
-                trailer,
-                scrub,
-                staging,
-            },
-            OpenError::DiskFault,
-        )),
+    let base = read_checkpoint(disk, file, content, &mut rooms.grid, &mut rooms.trailer)?;
+    match scan_zones(disk, &start_of(content.fields()), &mut rooms.log) {
+        Ok(()) => Ok(base),
+        Err(_) => Err(OpenError::DiskFault),
     }
 }
 
@@ -187,26 +150,16 @@ fn scan_served<D: Disk>(
         cluster: content.fields().cluster,
         version: content.fields().version,
     };
-    let layout = rooms.layout;
-    let (log, grid, trailer, scrub, staging) = rooms.into_parts();
-    match read_checkpoint(disk, &file, &content, grid, trailer) {
-        Ok(base) => scan_log(disk, &file, copies, log, scrub, staging, base),
-        Err(unread) => {
-            let Unread {
-                grid,
-                trailer,
-                error,
-            } = unread;
-            let rooms = Rooms {
-                layout,
-                log,
-                grid,
-                trailer,
-                scrub,
-                staging,
-            };
-            Err((rooms, error))
-        }
+    let mut rooms = rooms.into_file(file.cluster);
+    match read_behind(disk, &file, &content, &mut rooms) {
+        Ok(Checkpoint { root, sessions }) => Ok(Scanned {
+            file,
+            copies: *copies,
+            rooms,
+            root,
+            sessions,
+        }),
+        Err(refusal) => Err((rooms.into_rooms(), refusal)),
     }
 }
 
@@ -224,18 +177,9 @@ pub fn scan_file<D: Disk>(
     ensures barrier { Syncs (D.told disk.old) (D.told disk.new) (without_rooms result) }
     ensures cause { IsBlamed is_open_fault (D.faults disk.old) (D.faults disk.new) (without_rooms result) }
 {
+    let mut rooms = rooms;
     let layout = rooms.layout;
-    let (mut log, grid, trailer, scrub, staging) = rooms.into_parts();
-    let found = find_served(disk, &layout, &mut log.superblock, version);
-    let rooms = Rooms {
-        layout,
-        log,
-        grid,
-        trailer,
-        scrub,
-        staging,
-    };
-    match found {
+    match find_served(disk, &layout, &mut rooms.log, version) {
         Ok(copies) => scan_served(disk, &copies, rooms),
         Err(refusal) => Err((rooms, refusal)),
     }

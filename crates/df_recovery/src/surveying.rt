@@ -21,7 +21,7 @@ use crate::{OpenError, Scanned};
 use arrayvec::ArrayVec;
 use df_base::Check;
 use df_disk::Disk;
-use df_rooms::{DataFile, LogRooms, Rooms, rooms_of};
+use df_rooms::{DataFile, FileRooms, LogRooms, Rooms};
 
 /// A file that was surveyed: what was read of it, with the sessions and their stored replies after the tail, and in its rooms the
 /// header that each slot of the header ring is to have and the list of what is to be mended; where the tail ends, how many replies
@@ -59,6 +59,21 @@ fn plan_log(file: &DataFile, copies: &Copies, head: u64, rooms: &mut LogRooms)
     );
 }
 
+// The same, in the rooms of the file.
+fn plan_rooms(file: &DataFile, copies: &Copies, head: u64, rooms: &mut FileRooms)
+    requires layout { rooms.old.layout ≡ file.now.layout }
+    requires cluster { rooms.old.log.slots.start.cluster ≡ file.now.cluster }
+    requires slots { AreSlots file.now.layout file.now.cluster rooms.old.log.slots.slots }
+    ensures planned { ArePlannedFrom file.now.layout file.now.cluster rooms.new.log.slots head copies.now.slots copies.now.found.chosen.members rooms.new.log.headers rooms.new.log.mends.items }
+    ensures each { ArePlanned file.now.cluster rooms.new.log.slots head file.now.layout.slots rooms.new.log.headers }
+    ensures four { length copies.now.found.chosen.members ≡ 4 }
+    ensures layout { rooms.new.layout ≡ rooms.old.layout }
+    ensures slots { rooms.new.log.slots ≡ rooms.old.log.slots }
+    ensures grid { rooms.new.grid ≡ rooms.old.grid }
+{
+    plan_log(file, copies, head, &mut rooms.log);
+}
+
 // The checksums of the prepares that wait, by the tables of the rooms.
 fn waits_in(
     file: &DataFile,
@@ -92,39 +107,20 @@ fn with_plan(traces: &Traces, scanned: Scanned) -> Surveyed
     ensures planned { IsPlannedFor result }
     ensures traces { result.traces ≡ traces.now }
     ensures kept { KeepsRead scanned result.scanned }
-    ensures waiting { result.waiting.items ≡ waiting_in scanned.file.layout.slots scanned.log.slots result.scanned.log.headers traces.now.replies traces.now.tail.op }
+    ensures waiting { result.waiting.items ≡ waiting_in scanned.file.layout.slots scanned.rooms.log.slots result.scanned.rooms.log.headers traces.now.replies traces.now.tail.op }
 {
-    let Scanned {
-        file,
-        copies,
-        mut log,
-        grid,
-        trailer,
-        scrub,
-        staging,
-        root,
-        sessions,
-    } = scanned;
-    plan_log(&file, &copies, traces.tail.op, &mut log);
+    let mut scanned = scanned;
+    let file = scanned.file;
+    let copies = scanned.copies;
     let head = traces.tail.op;
+    plan_rooms(&file, &copies, head, &mut scanned.rooms);
     let waiting = waits_in(
         &file,
-        &log,
+        &scanned.rooms.log,
         copies.found.content.fields().op,
         traces.replies,
         head,
     );
-    let scanned = Scanned {
-        file,
-        copies,
-        log,
-        grid,
-        trailer,
-        scrub,
-        staging,
-        root,
-        sessions,
-    };
     Surveyed {
         scanned,
         traces: *traces,
@@ -146,41 +142,30 @@ fn settle(scanned: Scanned) -> Result<Surveyed, (Rooms, OpenError)>
     let Scanned {
         file,
         copies,
-        log,
-        grid,
-        trailer,
-        scrub,
-        staging,
+        rooms,
         root,
         mut sessions,
     } = scanned;
     let found = find_state(
         &file.layout,
         &copies.found,
-        &log.slots,
-        &log.replies,
+        &rooms.log.slots,
+        &rooms.log.replies,
         &mut sessions,
     );
     match found {
         Ok(traces) => {
-            store_replies(&mut sessions, traces.replies, &log.replies);
+            store_replies(&mut sessions, traces.replies, &rooms.log.replies);
             let settled = Scanned {
                 file,
                 copies,
-                log,
-                grid,
-                trailer,
-                scrub,
-                staging,
+                rooms,
                 root,
                 sessions,
             };
             Ok(with_plan(&traces, settled))
         }
-        Err(refusal) => Err((
-            rooms_of(file.layout, log, grid, trailer, scrub, staging),
-            refusal,
-        )),
+        Err(refusal) => Err((rooms.into_rooms(), refusal)),
     }
 }
 

@@ -1,4 +1,4 @@
-// The reads of all reply slots, each once, into one room.
+// The reads of all reply slots, each once, onto one shelf, which is lent.
 ghost use Rattle.std.specs.Prelude.{◌≡◌, ◌<◌, length, OnOk};
 ghost use Rattle.df_replies.specs.Below.{HasCause};
 ghost use Rattle.df_replies.specs.Slots.{reply_place};
@@ -6,11 +6,11 @@ ghost use Rattle.df_replies.specs.Shown.{AreSeen};
 
 use crate::slot::reply_place;
 use df_base::Failed;
-use df_buffers::{Raw, Reply};
+use df_buffers::Reply;
 use df_disk::Disk;
 use df_format::Header;
 use df_layout::{Class, Layout};
-use df_places::scan_place;
+use df_places::Shelf;
 
 // Fills the list with what the slots show, also those that no session has yet.
 pub(crate) fn scan_replies<D: Disk>(
@@ -18,26 +18,20 @@ pub(crate) fn scan_replies<D: Disk>(
     layout: &Layout,
     cluster: u128,
     replies: &mut [Result<Header, Class>],
-    room: Raw<Reply>,
-) -> (Raw<Reply>, Result<(), Failed>)
+    shelf: &mut Shelf<Reply>,
+) -> Result<(), Failed>
     requires replies { length replies.old ≡ layout.now.clients }
-    requires room { room.layout ≡ layout.now }
-    ensures seen { OnOk result.1 (AreSeen layout.now cluster (D.told disk.old) layout.now.clients replies.new) }
+    requires shelf { shelf.old.layout ≡ layout.now }
+    ensures seen { OnOk result (AreSeen layout.now cluster (D.told disk.old) layout.now.clients replies.new) }
     ensures count { length replies.new ≡ length replies.old }
-    ensures room { result.0.layout ≡ layout.now }
+    ensures shelf { shelf.new.layout ≡ layout.now }
     ensures same { D.told disk.new ≡ D.told disk.old }
-    ensures cause { HasCause (D.faults disk.old) (D.faults disk.new) result.1 }
+    ensures cause { HasCause (D.faults disk.old) (D.faults disk.new) result }
 {
-    let mut room = room;
     let mut place = 0;
     while place < layout.clients {
-        let (back, seen) = scan_place(disk, layout, cluster, reply_place(place), room);
-        room = back;
-        match seen {
-            Ok(seen) => replies[place as usize] = seen,
-            Err(failed) => return (room, Err(failed)),
-        }
+        replies[place as usize] = shelf.see(disk, cluster, reply_place(place))?;
         place += 1;
     }
-    (room, Ok(()))
+    Ok(())
 }

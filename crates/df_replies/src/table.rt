@@ -10,10 +10,11 @@ use crate::answers::{first_lacking, greatest_op};
 use crate::counts::count_replies;
 use crate::scans::scan_replies;
 use df_base::{Failed, OutOfMemory};
-use df_buffers::{Raw, Reply};
+use df_buffers::Reply;
 use df_disk::Disk;
 use df_format::{Header, SuperFields};
 use df_layout::{Class, Layout};
+use df_places::Shelf;
 use df_sessions::SessionTable;
 use df_stamps::Counters;
 use std::alloc::Global;
@@ -54,24 +55,24 @@ impl ReplyTable {
         self.replies[place as usize]
     }
 
-    /// Reads each slot of the layout once, also those that no session has yet, and keeps what they show. The room comes back with
-    /// either result; after an error the table holds any entries.
+    /// Reads each slot of the layout once, also those that no session has yet, onto the shelf, and keeps what they show. After an
+    /// error the table holds any entries.
     pub fn scan<D: Disk>(
         &mut self,
         disk: &mut D,
         layout: &Layout,
         cluster: u128,
-        room: Raw<Reply>,
-    ) -> (Raw<Reply>, Result<(), Failed>)
+        shelf: &mut Shelf<Reply>,
+    ) -> Result<(), Failed>
         requires size { length self.old ≡ layout.now.clients }
-        requires room { room.layout ≡ layout.now }
-        ensures scanned { OnOk result.1 (IsScanned layout.now cluster (D.told disk.old) self.new) }
+        requires shelf { shelf.old.layout ≡ layout.now }
+        ensures scanned { OnOk result (IsScanned layout.now cluster (D.told disk.old) self.new) }
         ensures size { length self.new ≡ length self.old }
-        ensures room { result.0.layout ≡ layout.now }
+        ensures shelf { shelf.new.layout ≡ layout.now }
         ensures same { D.told disk.new ≡ D.told disk.old }
-        ensures cause { HasCause (D.faults disk.old) (D.faults disk.new) result.1 }
+        ensures cause { HasCause (D.faults disk.old) (D.faults disk.new) result }
     {
-        scan_replies(disk, layout, cluster, &mut self.replies, room)
+        scan_replies(disk, layout, cluster, &mut self.replies, shelf)
     }
 
     /// The counters of the rings with those of the replies: none is above a number exactly where no reply is; the op and the mark

@@ -2,6 +2,7 @@
 #![tactic(auto)]
 
 mod file;
+mod file_rooms;
 mod grid_rooms;
 mod log_rooms;
 mod parts;
@@ -13,12 +14,13 @@ mod staging;
 mod trailer_rooms;
 
 pub use file::DataFile;
+pub use file_rooms::FileRooms;
 pub use grid_rooms::GridRooms;
 pub use log_rooms::LogRooms;
-pub use parts::{Parts, rooms_of};
+pub use parts::Parts;
 pub use recorded::stored_checks;
 pub use rooms::Rooms;
 pub use running::RunningCheckpoint;
 pub use scrub_rooms::ScrubRooms;
 pub use staging::Staging;
-pub use trailer_rooms::TrailerRooms;
+pub use trailer_rooms::{ReaderRoom, TrailerRooms};

@@ -3,13 +3,13 @@ ghost use Rattle.std.specs.Prelude.{◌≡◌};
 ghost use Rattle.df_rooms.specs.Parts.{AreWhole, state_in, summary_of};
 
 use crate::{
-    DataFile, GridRooms, LogRooms, Rooms, RunningCheckpoint, ScrubRooms, Staging, TrailerRooms,
+    DataFile, FileRooms, LogRooms, Rooms, RunningCheckpoint, ScrubRooms, Staging, TrailerRooms,
 };
 use arrayvec::ArrayVec;
 use df_base::Check;
 use df_format::Super;
 use df_grid::Grid;
-use df_layout::{Layout, ROOT};
+use df_layout::ROOT;
 use df_model::Summary;
 use df_sessions::SessionTable;
 
@@ -59,32 +59,6 @@ impl Drop for Parts {
     }
 }
 
-/// All the rooms of a file that is done with.
-pub fn rooms_of(
-    layout: Layout,
-    log: LogRooms,
-    grid: Grid,
-    trailer: TrailerRooms,
-    scrub: ScrubRooms,
-    staging: Staging,
-) -> Rooms
-    requires log { log.layout ≡ layout }
-    requires grid { grid.layout ≡ layout }
-    requires trailer { trailer.layout ≡ layout }
-    requires scrub { scrub.layout ≡ layout }
-    requires staging { staging.layout ≡ layout }
-    ensures { result.layout ≡ layout }
-{
-    Rooms {
-        layout,
-        log,
-        grid: GridRooms::of(grid),
-        trailer,
-        scrub,
-        staging,
-    }
-}
-
 impl Parts {
     /// The numbers of the state.
     pub fn summary(&self) -> Summary
@@ -125,6 +99,14 @@ impl Parts {
             sessions: _,
             waiting: _,
         } = self;
-        rooms_of(file.layout, rooms, grid, trailer, scrub, staging)
+        let all = FileRooms {
+            layout: file.layout,
+            log: rooms,
+            grid,
+            trailer,
+            scrub,
+            staging,
+        };
+        all.into_rooms()
     }
 }

@@ -1,7 +1,7 @@
 // All the rooms of a replica, whose memory is taken in one call.
 ghost use Rattle.std.specs.Prelude.{◌≡◌, IfOk};
 
-use crate::{GridRooms, LogRooms, ScrubRooms, Staging, TrailerRooms};
+use crate::{FileRooms, GridRooms, LogRooms, ScrubRooms, Staging, TrailerRooms};
 use df_base::OutOfMemory;
 use df_layout::Layout;
 use std::alloc::Global;
@@ -36,6 +36,9 @@ impl Drop for Rooms {
 }
 
 impl Rooms {
+    ghost use Rattle.std.specs.Prelude.{◌<◌};
+    ghost use Rattle.df_rooms.specs.Below.{no_blocks};
+
     /// The rooms for a layout, or the refusal of memory for one of them. No other call of a replica takes memory.
     pub fn reserve(alloc: Global, layout: &Layout) -> Result<Rooms, OutOfMemory>
         ensures { IfOk result (λ rooms. rooms.layout ≡ layout.now) }
@@ -72,6 +75,30 @@ impl Rooms {
             staging,
         } = self;
         (log, grid, trailer, scrub, staging)
+    }
+
+    /// The rooms with the grid of a file of this cluster, in which no address is held, whatever they served before.
+    pub fn into_file(self, cluster: u128) -> FileRooms
+        requires { 0 < cluster }
+        ensures layout { result.layout ≡ self.layout }
+        ensures grid { result.grid ≡ record { layout = self.layout; cluster = cluster; boot = 0; blocks = no_blocks } }
+    {
+        let Rooms {
+            layout,
+            log,
+            grid,
+            trailer,
+            scrub,
+            staging,
+        } = self;
+        FileRooms {
+            layout,
+            log,
+            grid: grid.into_grid(cluster),
+            trailer,
+            scrub,
+            staging,
+        }
     }
 
     /// The layout that the rooms were reserved for.

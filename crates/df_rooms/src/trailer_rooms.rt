@@ -1,5 +1,6 @@
 // The rooms that a trailer is read into and written from, and in which a new block is made.
-ghost use Rattle.std.specs.Prelude.{◌≡◌, ◌+◌, ◌-◌, ◌/◌, vec_len, IfOk};
+ghost use Rattle.std.specs.Prelude.{◌≡◌, ◌+◌, ◌-◌, ◌/◌, vec_len, IfOk, IfSome, IsSome};
+ghost use Rattle.std.proofs.Props.{props};
 
 use df_base::{Check, HEADER, OutOfMemory};
 use df_buffers::{Block, Raw};
@@ -7,19 +8,28 @@ use df_layout::Layout;
 use df_places::Shelf;
 use std::alloc::Global;
 
+/// Where a reader of a trailer keeps the bits and the checksums of the referenced blocks.
+#[derive(Drop)]
+pub struct ReaderRoom {
+    pub layout: Layout,
+    pub bits: Vec<u64>,
+    pub checks: Vec<Check>,
+    pub ghost bits_fit: { vec_len bits ≡ (layout.blocks + 63) / 64 },
+    pub ghost checks_fit: { vec_len checks ≡ layout.blocks },
+}
+
 /// The memory that serves a checkpoint's trailer, and the block that is made next.
 #[derive(Drop)]
 pub struct TrailerRooms {
     pub layout: Layout,
-    // Where a reader keeps the bits and the checksums of the referenced blocks.
-    pub bits: Vec<u64>,
-    pub checks: Vec<Check>,
+    // A reader owns its room while it reads: it is taken from here, and put back.
+    pub reader: Option<ReaderRoom>,
     // A piece of the trailer's text: as long as a block's body.
     pub piece: Vec<u8>,
     // Where the next block is made.
     pub block: Shelf<Block>,
-    pub ghost bits_fit: { vec_len bits ≡ (layout.blocks + 63) / 64 },
-    pub ghost checks_fit: { vec_len checks ≡ layout.blocks },
+    pub ghost reader_there: { IsSome reader },
+    pub ghost reader_fits: { IfSome reader (λ room. room.layout ≡ layout) } by { Prim.hlevel props },
     pub ghost piece_fits: { vec_len piece ≡ layout.block_size - 256 },
     pub ghost block_fits: { block.layout ≡ layout },
 }
@@ -51,10 +61,14 @@ impl TrailerRooms {
         let checks = checks(alloc, layout)?;
         let piece = piece(alloc, layout)?;
         let block = Raw::reserve(alloc, layout)?;
-        Ok(TrailerRooms {
+        let reader = ReaderRoom {
             layout: *layout,
             bits,
             checks,
+        };
+        Ok(TrailerRooms {
+            layout: *layout,
+            reader: Some(reader),
             piece,
             block: Shelf::over(*layout, block),
         })

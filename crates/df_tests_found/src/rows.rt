@@ -22,7 +22,7 @@ pub(crate) fn surveyed(
         Ok(found) => Ok((
             found.traces.tail.op,
             found.traces.replies,
-            found.scanned.log.mends.len(),
+            found.scanned.rooms.log.mends.len(),
         )),
         Err((_, refusal)) => Err(refusal),
     }

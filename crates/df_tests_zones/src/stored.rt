@@ -11,6 +11,7 @@ use df_buffers::{Raw, Reply};
 use df_disk::Disk;
 use df_format::{Header, Kind, SuperFields};
 use df_layout::{Layout, Zone};
+use df_places::Shelf;
 use df_replies::{ReplyTable, write_reply};
 use df_sessions::SessionTable;
 use std::alloc::Global;
@@ -163,8 +164,8 @@ pub(crate) fn scan(
     ensures { length table.new ≡ 4 }
 {
     let layout = Layout::small();
-    let (_room, scanned) = table.scan(board, &layout, 7, room_for(rt, alloc, &layout));
-    scanned
+    let mut shelf = Shelf::over(layout, room_for(rt, alloc, &layout));
+    table.scan(board, &layout, 7, &mut shelf)
 }
 
 // Notes a client's request, where the table has room for it.

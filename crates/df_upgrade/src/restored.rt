@@ -6,7 +6,7 @@ ghost use Rattle.df_upgrade.specs.Upgrading.{restoring_events, restoring_steps};
 
 use crate::{Rooms, Surveyed};
 use df_base::Failed;
-use df_damage::{DataFile, Found, LogRooms, Scanned, Surveyed as SurveyedFile, rooms_of};
+use df_damage::{DataFile, Found, LogRooms, Scanned, Surveyed as SurveyedFile};
 use df_disk::Disk;
 use df_opening::write_mends;
 
@@ -65,15 +65,11 @@ impl Surveyed {
         let Scanned {
             file,
             copies,
-            mut log,
-            grid,
-            trailer,
-            scrub,
-            staging,
+            mut rooms,
             ..
         } = scanned;
-        let written = restore_rooms(disk, &file, &copies.found, &mut log);
-        let rooms = rooms_of(file.layout, log, grid, trailer, scrub, staging);
+        let written = restore_rooms(disk, &file, &copies.found, &mut rooms.log);
+        let rooms = rooms.into_rooms();
         match written {
             Ok(()) => Ok(rooms),
             Err(failed) => Err((rooms, failed)),

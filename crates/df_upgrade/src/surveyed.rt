@@ -41,7 +41,7 @@ impl Surveyed {
     pub fn to_mend(&self) -> &[Mend]
         ensures { result.now ≡ self.now.mends }
     {
-        self.found.scanned.log.mends.as_slice()
+        self.found.scanned.rooms.log.mends.as_slice()
     }
 
     /// The superblock of version 2 that records the state: the same checkpoint and sequence, boot 1, the head that was found and that

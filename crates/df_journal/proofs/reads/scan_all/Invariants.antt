@@ -1,17 +1,18 @@
 -- The slots before this one are in the table.
-use Rattle.std.proofs.Common.{◌≡◌, ◌-◌, ◌%◌, length}
-use Rattle.df_journal.specs.Scanned.{AreSeen}
+use Rattle.std.proofs.Common.{◌≡◌, ◌-◌, ◌≤◌, length}
+use Rattle.df_journal.specs.Scanned.{AreSeen, IsHeld}
 use Rattle.df_journal.proofs.reads.scan_all.Given as goal
 
 abbrev pub invariant-loop-slot : goal.invariant-loop-slot
 invariant-loop-slot g l = record {
-  first : l.slot % 16 ≡ 0;
+  within : l.slot ≤ l.layout.slots;
   size : length l.found.slots ≡ l.layout.slots;
   start : l.found.start ≡ l.initial.found.start;
-  room : l.room.layout ≡ l.layout;
+  shelf : l.shelf.layout ≡ l.layout;
   sector : l.sector.layout ≡ l.initial.sector.layout;
   same : g.D.Disk.told l.disk ≡ g.D.Disk.told l.initial.disk;
   faults : g.D.Disk.faults l.disk ≡ g.D.Disk.faults l.initial.disk;
+  held : IsHeld l.layout (g.D.Disk.told l.initial.disk) l.slot l.sector.bytes;
   seen : AreSeen l.layout l.initial.found.start.cluster (g.D.Disk.told l.initial.disk) l.slot l.found.slots;
 }
 

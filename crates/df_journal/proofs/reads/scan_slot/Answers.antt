@@ -2,15 +2,18 @@
 use Rattle.std.proofs.Common.{Result, subst, IfOk}
 use Rattle.df_base.specs.declared.Failed.{Failed}
 use Rattle.df_layout.specs.declared.damage.Class.{Class}
+use Rattle.df_layout.specs.declared.layout.Layout.{Layout}
 use Rattle.df_layout.specs.declared.places.Place.{Place}
 use Rattle.df_format.specs.declared.header.Header.{Header}
 use Rattle.df_places.specs.Units.{IsSeen}
 use Rattle.df_journal.proofs.Scans.{slot_seen}
 use Rattle.df_journal.proofs.reads.scan_slot.Goals as goal
 
-pub returns-in-Ok-clause-seen : goal.returns-in-Ok-clause-seen
-returns-in-Ok-clause-seen g c =
+pub returns-clause-seen : goal.returns-clause-seen
+returns-clause-seen g c =
     let told = g.D.Disk.told c.args.disk.now in
-    let read = subst (λ (r : Result (Result Header Class) Failed). IfOk r (IsSeen c.args.layout.now c.args.cluster told c.place_in-place.result)) c.in-Ok.is c.scan_place-room.ensures.seen in
-    slot_seen c.args.layout.now c.args.cluster c.args.slot told c.args.sector.now.bytes (record { header = c.header_seen-header.result; prepare = c.in-Ok.prepare })
-    c.requires.size c.requires.sector c.header_seen-header.ensures.seen (subst (λ (p : Place). IsSeen c.args.layout.now c.args.cluster told p c.in-Ok.prepare) c.place_in-place.ensures read)
+    let layout = c.args.layout.now in
+    let prepare = c.in_ok-prepare.prepare in
+    let there = subst (λ (l : Layout). IsSeen l c.args.cluster told c.place_in.result prepare) c.requires.shelf c.in_ok-prepare.ensures.seen in
+    slot_seen layout c.args.cluster c.args.slot told c.args.sector.now.bytes (record { header = c.header_seen-header.result; prepare = prepare })
+    c.requires.sector.size c.requires.sector.shows c.header_seen-header.ensures.seen (subst (λ (p : Place). IsSeen layout c.args.cluster told p prepare) c.place_in.ensures there)

@@ -33,12 +33,12 @@ returns-clause-found c =
           course = found.read.idle;
         };
         rooms = record {
-          rooms_fit = c.args.surveyed.scanned.log_fits;
-          trailer_fits = c.args.surveyed.scanned.trailer_fits;
-          scrub_fits = c.cleared-scrub.ensures.layout ∙ c.args.surveyed.scanned.scrub_fits;
-          staging_fits = ap (λ (x : Staged). x.layout) c.clear.ensures ∙ c.args.surveyed.scanned.staging_fits;
+          rooms_fit = c.args.surveyed.scanned.rooms.log_fits ∙ c.args.surveyed.scanned.rooms_fit;
+          trailer_fits = c.args.surveyed.scanned.rooms.trailer_fits ∙ c.args.surveyed.scanned.rooms_fit;
+          scrub_fits = c.cleared-scrub.ensures.layout ∙ c.args.surveyed.scanned.rooms.scrub_fits ∙ c.args.surveyed.scanned.rooms_fit;
+          staging_fits = ap (λ (x : Staged). x.layout) c.clear.ensures ∙ c.args.surveyed.scanned.rooms.staging_fits ∙ c.args.surveyed.scanned.rooms_fit;
         };
-        grid = record { grid_fits = c.args.surveyed.scanned.grid_fits; grid_named = c.args.surveyed.scanned.grid_named };
+        grid = record { grid_fits = c.args.surveyed.scanned.rooms.grid_fits ∙ c.args.surveyed.scanned.rooms_fit; grid_named = c.args.surveyed.scanned.grid_named };
       };
       dead = refl;
       unspent = found.ends.unspent;
@@ -63,8 +63,8 @@ returns-clause-seen c =
         table = s.sessions;
         waiting = c.args.surveyed.waiting.items;
         staged = requests;
-        headers = s.log.headers;
-        blocks = s.grid.blocks;
+        headers = s.rooms.log.headers;
+        blocks = s.rooms.grid.blocks;
         running = None;
         tour = x.tour;
         findings = x.findings;
@@ -72,6 +72,6 @@ returns-clause-seen c =
         live = false;
       };
       chosen = s.copies.found.chosen;
-      mends = s.log.mends.items;
+      mends = s.rooms.log.mends.items;
     } in
     (λ i. seen (c.clear.ensures i).requests (c.cleared-scrub.ensures.cleared i) (s.grid_unbooted i))

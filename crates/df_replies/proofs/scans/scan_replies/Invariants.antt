@@ -7,7 +7,7 @@ abbrev pub invariant-loop-place : goal.invariant-loop-place
 invariant-loop-place g l = record {
   within : l.place ≤ l.layout.clients;
   size : length l.replies ≡ l.layout.clients;
-  room : l.room.layout ≡ l.layout;
+  shelf : l.shelf.layout ≡ l.layout;
   same : g.D.Disk.told l.disk ≡ g.D.Disk.told l.initial.disk;
   faults : g.D.Disk.faults l.disk ≡ g.D.Disk.faults l.initial.disk;
   seen : AreSeen l.layout l.cluster (g.D.Disk.told l.initial.disk) l.place l.replies;

@@ -1,0 +1,39 @@
+-- Each turn puts one slot into the table.
+use Rattle.std.proofs.Common.{◌≡◌, ℕ, Option, length, sym, ◌∙◌, ap, subst, arith}
+use Rattle.std.proofs.lemmas.List.{length-set}
+use Rattle.df_disk.specs.Told.{Told}
+use Rattle.df_buffers.specs.declared.slots.SlotSeen.{SlotSeen}
+use Rattle.df_journal.specs.Scan.{Scan}
+use Rattle.df_journal.specs.Shows.{IsSlot}
+use Rattle.df_journal.specs.Scanned.{AreSeen, HoldsSector, IsSeen}
+use Rattle.df_journal.specs.declared.table.Start.{Start}
+use Rattle.df_journal.proofs.Scans.{held_still, seen_all, seen_more}
+use Rattle.df_journal.proofs.reads.scan_all.Goals as goal
+
+pub loop-slot-preserved : goal.loop-slot-preserved
+loop-slot-preserved g c =
+    let seen : SlotSeen = c.in_ok-seen.seen in
+    let told = g.D.Disk.told c.args.disk.now in
+    let layout = c.args.layout.now in
+    let put = c.set.ensures in
+    let before = c.hold_sector.ensures.same ∙ c.loop-slot.invariant.same in
+    let own : c.found.inside.start.cluster ≡ c.args.found.now.start.cluster = ap (λ (scan : Scan). scan.start.cluster) c.found.view_is in
+    let holds : HoldsSector layout told c.loop-slot.slot c.hold_sector.new.sector.bytes = subst (λ (t : Option Told). HoldsSector layout t c.loop-slot.slot c.hold_sector.new.sector.bytes) c.loop-slot.invariant.same c.in_ok-hold_sector.ensures.holds in
+    record {
+      within = omega (arith, c.loop-slot-test.true);
+      size = ap (λ (scan : Scan). length scan.slots) put ∙ length-set c.loop-slot.found.slots c.loop-slot.slot seen ∙ c.loop-slot.invariant.size;
+      start = ap (λ (scan : Scan). scan.start) put ∙ c.loop-slot.invariant.start;
+      shelf = c.scan_slot.ensures.shelf;
+      sector = c.hold_sector.ensures.sector ∙ c.loop-slot.invariant.sector;
+      same = c.scan_slot.ensures.same ∙ before;
+      faults = c.in_ok-seen.ensures.cause.same ∙ c.in_ok-hold_sector.ensures.cause.same ∙ c.loop-slot.invariant.faults;
+      held = λ some. held_still layout c.loop-slot.slot told c.hold_sector.new.sector.bytes some holds;
+      seen = seen_more layout c.args.found.now.start.cluster told c.loop-slot.slot c.loop-slot.found.slots c.set.new.self.slots seen
+          (omega (arith, c.loop-slot.invariant.size, c.loop-slot-test.true)) (ap (λ (scan : Scan). scan.slots) put)
+          (subst (λ (t : Option Told). IsSeen layout c.args.found.now.start.cluster t c.loop-slot.slot seen) before (subst (λ (n : ℕ). IsSeen layout n (g.D.Disk.told c.hold_sector.new.disk) c.loop-slot.slot seen) own c.in_ok-seen.ensures.seen)) (subst (λ (n : ℕ). IsSlot layout n c.loop-slot.slot seen) own c.in_ok-seen.ensures.valid) c.loop-slot.invariant.seen;
+    }
+
+pub returns-clause-scanned : goal.returns-clause-scanned
+returns-clause-scanned g c =
+    seen_all c.args.layout.now (g.D.Disk.told c.args.disk.now) c.loop-slot.slot c.loop-slot.found c.loop-slot.invariant.size (omega (arith, c.loop-slot-test.false))
+    (subst (λ (n : ℕ). AreSeen c.args.layout.now n (g.D.Disk.told c.args.disk.now) c.loop-slot.slot c.loop-slot.found.slots) (sym (ap (λ (s : Start). s.cluster) c.loop-slot.invariant.start)) c.loop-slot.invariant.seen)
