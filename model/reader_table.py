@@ -46,10 +46,6 @@ class Table:
         """Whether a table wrote it, and another program wrote behind it what no table has."""
         return self.closed.startswith("NotTable") and bool(self.stored or self.front)
 
-    def lacks(self, place, name, text):
-        self.missing.append((f"{place} {name}", text))
-        self.closed = self.closed or f"Damaged {place} {name}"
-
     def has_foreign(self, place, text):
         self.foreign.append((place, text))
         self.closed = self.closed or f"NotTable {place}"
@@ -101,16 +97,8 @@ def line_of(key, value):
 def table_in(file, state, refusal, past=False):
     """The table of a file of which the reader found this much, and which an open refuses with these words, if it does. With `past` also
     what can be read behind an op that is missing changes the rows."""
-    if "headers" not in state:
-        state = {**state, **rings_of(file, state["fields"], bodies=False)}
     table = Table(state["fields"])
-    if later_of(state):
-        state = older(file, state, table)
-    again = None if "references" in state else references_again(file, state)
-    if again is not None:
-        state = {**state, "references": again, "chain": [], "root": b""}
-        table.notes.append(f"{refusal}: this block, the trailer of the checkpoint, was made again from the blocks of rows, and has the checksum that "
-                           "the superblock names: it lacks nothing")
+    state = completed(file, state, refusal, table)
     for place, client in enumerate(state.get("sessions", state.get("known", {}))):
         if client != CLIENT:
             table.has_foreign(f"ClientReplies {place}", f"a session of client {client}")
@@ -127,6 +115,20 @@ def table_in(file, state, refusal, past=False):
     return table
 
 
+def completed(file, state, refusal, table):
+    """What the reader found, and what it would have found behind the first reason to refuse the file."""
+    if "headers" not in state:
+        state = {**state, **rings_of(file, state["fields"], bodies=False)}
+    if later_of(state):
+        state = older(file, state, table)
+    again = None if "references" in state else references_again(file, state)
+    if again is None:
+        return state
+    table.notes.append(f"{refusal}: this block, the trailer of the checkpoint, was made again from the blocks of rows, and has the checksum that the "
+                       "superblock names: it lacks nothing")
+    return {**state, "references": again, "chain": [], "root": b""}
+
+
 def read_later(file, table, later, past):
     """Takes down what can be read behind a missing op, and lets it change the rows if it is to."""
     for one in later:
@@ -140,8 +142,8 @@ def read_later(file, table, later, past):
 def read_blocks(file, state, table, refusal):
     """Puts the rows of the blocks of the checkpoint."""
     if "references" not in state:
-        table.missing.append((refusal.removeprefix("Damaged "), "the checkpoint's trailer, so that nothing says which blocks have the table: each row of it that wasn't put "
-                                     "again since"))
+        table.missing.append((refusal.removeprefix("Damaged "), "the checkpoint's trailer, so that nothing says which blocks have the table: each row "
+                                                                "that wasn't put again since"))
         return
     ends = [take_block(file, table, number, *one) for number, one in enumerate(sorted(state["references"].items()))]
     table.stored = len(table.rows)
