@@ -2,6 +2,7 @@
 
 from dataclasses import replace
 
+from doctor_case import cases_by_copy
 from doctor_words import next_lines
 
 PRINTS = "`python3 model/rows.py FILE > lines` prints its rows as the lines that make it again"
@@ -49,6 +50,8 @@ def advice(case):
 def table_next(case):
     """What to do about a table that `objecttable` doesn't open."""
     table = case.table
+    if case.refusal.startswith("NoQuorum") and any(one.table for _, one in cases_by_copy(case.file)):
+        return [f"{PRINTS}, by the latest single copy of the superblock: compare what was acknowledged last (docs/OBJECTTABLE.md)"]
     if table is None or not (case.refusal or table.closed):
         return []
     lacking = ", and names what it can't read" if table.missing else ""
