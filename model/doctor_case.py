@@ -214,7 +214,7 @@ def lost_replies(state):
 
 
 def later_blocks(file, f):
-    """The addresses whose block is of a later boot than the superblock's, or of the trailer of a checkpoint behind the next one: an open
+    """The addresses whose block is of a later boot than the superblock's, or of the trailer of a checkpoint after the next one: an open
     raises the boot, and a checkpoint the sequence, before such a block is written."""
     grid = zones_of(f)["Grid"]
     headers = ((address, header_of(bytes_at(file, grid.at(address), HEADER))[0]) for address in range(1, f["Blocks"] + 1))
