@@ -19,7 +19,7 @@ use df_disk::Disk;
 use df_grid::Grid;
 use df_layout::Field;
 use df_model::OpenError;
-use df_rooms::{GridRooms, TrailerRooms};
+use df_rooms::{GridRooms, ReaderRoom, TrailerRooms};
 use df_sessions::{Session, SessionTable};
 use df_trailer::{Parts, Reader};
 
@@ -71,16 +71,29 @@ fn read_named<A: Disk>(
     ensures cause { IsBlamed is_first (A.faults first.old) (A.faults first.new) result }
     ensures own { IfErr result IsOfFirst }
 {
-    let Some(room) = rooms.reader else {
+    let TrailerRooms {
+        layout: _,
+        reader,
+        piece: _,
+        block: _,
+    } = rooms;
+    let Some(
+        ReaderRoom {
+            layout,
+            bits,
+            checks,
+        },
+    ) = reader
+    else {
         unreachable!()
     };
     let parts = Parts {
         root: ArrayVec::new(),
         sessions: ArrayVec::new(),
-        bits: room.bits,
-        checks: room.checks,
+        bits,
+        checks,
     };
-    let mut reader = Reader::new(room.layout, base.content.fields().op, parts);
+    let mut reader = Reader::new(layout, base.content.fields().op, parts);
     match read_chain(first, &base.content, grid, &mut reader) {
         Ok(()) => Ok(reader.into_parts().sessions),
         Err(fault) => Err(ending_of(fault)),
