@@ -1,6 +1,7 @@
 """What the doctor finds in a file: why an open refuses it, what would be mended, which blocks fail, and what may have been lost
 without a trace. It reads by `reader.py`, and writes nothing."""
 
+from collections import Counter
 from dataclasses import dataclass, field
 from functools import cached_property
 
@@ -35,6 +36,8 @@ class Case:
     failing: list = field(default_factory=list)
     # The addresses of blocks that were written after the superblock that is chosen, by their boot or their checkpoint.
     later: list = field(default_factory=list)
+    # The cluster that most units in the file have, and how many, where it isn't the superblock's.
+    strange: tuple = ()
     # What may have been acknowledged and isn't in the state, and what is worth a look: places with texts.
     lost: list = field(default_factory=list)
     notes: list = field(default_factory=list)
@@ -77,11 +80,12 @@ def examine(file):
     case.checked = len(known)
     case.failing = [(address, name) for address, checksum in known if (name := fault_of(file, case.fields, address, checksum))]
     case.later = later_blocks(file, case.fields) if case.fields else []
+    case.strange = strange_units(file, case.fields) if case.fields else ()
     if case.refusal:
         return case
     case.mends = mends_of(file, case.state)
-    case.lost = lost_appends(case.state) + lost_replies(case.state) + lost_checkpoints(case)
-    case.notes = torn_appends(case.state) + begun_blocks(file, case.state)
+    case.lost = lost_clusters(case) + lost_appends(case.state) + lost_replies(case.state) + lost_checkpoints(case)
+    case.notes = ([] if case.strange else torn_appends(case.state)) + begun_blocks(file, case.state)
     return case
 
 
@@ -220,6 +224,30 @@ def later_blocks(file, f):
     headers = ((address, header_of(bytes_at(file, grid.at(address), HEADER))[0]) for address in range(1, f["Blocks"] + 1))
     return [address for address, one in headers if one and one["kind"] in (BLOCK, TRAILER) and one["cluster"] == f["Cluster"]
             and one["op"] == address and (one["boot"] > f["Boot"] or one["checkpoint"] > f["Sequence"] + 1)]
+
+
+def strange_units(file, f):
+    """The cluster of which most units of the zones are, reserved headers aside, and how many, where it isn't the superblock's: the superblock is another
+    file's then, or something else stood in the file before it was made. Else nothing."""
+    zones, counts = zones_of(f), Counter()
+    firsts = (("WalHeaders", 0, f["Slots"]), ("WalPrepares", 0, f["Slots"]), ("ClientReplies", 0, f["Clients"]), ("Grid", 1, f["Blocks"] + 1))
+    for name, first, end in firsts:
+        headers = (header_of(bytes_at(file, zones[name].at(index), HEADER))[0] for index in range(first, end))
+        counts.update(one["cluster"] for one in headers if one and one["kind"] != RESERVED)
+    most = counts.most_common(1)
+    return most[0] if most and most[0][0] != f["Cluster"] and most[0][1] > counts[f["Cluster"]] else ()
+
+
+def strange_text(f, strange):
+    """What a superblock is that has another cluster than most units."""
+    cluster, count = strange
+    return (f"it is of cluster {f['Cluster']}, and {count} units of cluster {cluster} stand here, more than of its own. It is another file's, put into this "
+            "one; or something else stood in this file before it was made")
+
+
+def lost_clusters(case):
+    """The superblock, where most units are of another cluster."""
+    return [("Superblock", case.fields["Copy"], strange_text(case.fields, case.strange))] if case.strange else []
 
 
 def lost_checkpoints(case):

@@ -7,6 +7,9 @@ from reader_units import HEADER, SECTOR, bytes_at, header_of, zones_of
 CHECK = "check the device, and that one process at a time uses the file"
 FROM_COPY = f"take the file from a copy, and {CHECK}"
 PROGRAM = "use the program that made the file"
+STRANGE = ("the superblock is another file's, or something else stood in this file before it was made: keep it as it is, no `filemirror` and no word but "
+           "`inspect` over it, and take it whole from its newest copy; where a `filecopy` or a `format` made it, remove it, and make it anew "
+           "(docs/OPERATING.md, \"An older superblock\")")
 # What a sector of headers is called where the sectors are looked at.
 HEADERS = "sectors of headers"
 
@@ -55,6 +58,8 @@ def split_next(case):
 def damaged_next(case, words):
     """What to do where a place is damaged."""
     zone, index = words[1], int(words[2])
+    if case.strange:
+        return [STRANGE]
     if zone == "Superblock" or case.later or newer_reply(case, zone, index):
         return ["no `filemirror` here: by the older superblock it writes older replies over newer ones. Keep the file as it is, and take it "
                 "whole from its newest copy, never parts of one",

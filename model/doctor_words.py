@@ -1,7 +1,7 @@
 """The doctor's words: what a place holds, why a file is refused, and what to do next."""
 
-from doctor_case import cases_by_copy, copies_of, copy_fields, looks, members_of, slot_case
-from doctor_next import CHECK, cut_lines, newer_reply, refused_next, rolled_lines
+from doctor_case import cases_by_copy, copies_of, copy_fields, looks, members_of, slot_case, strange_text
+from doctor_next import CHECK, STRANGE, cut_lines, newer_reply, refused_next, rolled_lines
 from reader import class_of_copy, evidence_of, is_copy, later_of
 from reader_units import BLOCK, HEADER, PREPARE, REPLY, RESERVED, SECTOR, bytes_at, fields_at, look, zones_of
 
@@ -135,6 +135,8 @@ def lost_lines(file, state):
 def damaged_lines(case, zone, index):
     """Why a place refuses the file."""
     file, state, f = case.file, case.state, case.fields
+    if case.strange:
+        return ["the superblock: " + strange_text(f, case.strange), *place_lines(file, f, zone, index), *copy_lines(file)]
     if zone == "Superblock":
         found = later_of(state)
         return rolled_lines(case) + [line for each in found[:FEW] for line in place_lines(file, f, *each)] + copy_lines(file)
@@ -195,6 +197,8 @@ def next_lines(case):
     """What to do."""
     if case.refusal:
         return refused_next(case)
+    if case.strange:
+        return [STRANGE]
     lines = []
     if case.later:
         lines.append("the superblock is older than the file: keep it as it is, no `filemirror`, and take it whole from its newest copy; where it was "

@@ -17,7 +17,7 @@ import sys
 sys.dont_write_bytecode = True
 
 from doctor import Bytes
-from doctor_case import Under, copies_of, lost_appends
+from doctor_case import Under, copies_of, lost_appends, strange_text, strange_units
 from reader import find, is_copy, rank
 from reader_table import line_of, table_in
 from reader_trailer import Refused, class_at
@@ -91,6 +91,9 @@ def table_of(file, past=False):
     if "fields" not in state:
         raise Refused(refusal)
     table = table_in(file, state, refusal, past)
+    strange = strange_units(file, table.fields)
+    if strange:
+        table.foreign.insert(0, (f"Superblock {table.fields['Copy']}", strange_text(table.fields, strange)))
     if "head" in state and not table.missing:
         table.missing += [(f"{zone} {slot} {class_at(state['prepares'][slot])}", text) for zone, slot, text in lost_appends(state)]
     return table, refusal
