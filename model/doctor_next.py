@@ -7,6 +7,7 @@ from reader_units import HEADER, SECTOR, bytes_at, header_of, zones_of
 CHECK = "check the device, and that one process at a time uses the file"
 FROM_COPY = f"take the file from a copy, and {CHECK}"
 PROGRAM = "use the program that made the file"
+OLD = "an earlier program made it: end that program, copy the file, and then `datafile FILE upgrade`, once (docs/OPERATING.md, \"Old files\")"
 STRANGE = ("the superblock is another file's, or something else stood in this file before it was made: keep it as it is, no `filemirror` and no word but "
            "`inspect` over it, and take it whole from its newest copy; where a `filecopy` or a `format` made it, remove it, and make it anew "
            "(docs/OPERATING.md, \"An older superblock\")")
@@ -19,7 +20,7 @@ def refused_next(case):
     words = case.refusal.split()
     listed = {
         "NotFormatted": lambda: blank_next(case.file), "NoQuorum": lambda: split_next(case), "Damaged": lambda: damaged_next(case, words),
-        "Version": lambda: [PROGRAM], "BadField": lambda: [f"{PROGRAM}; if it is this one, {FROM_COPY}"], "BootSpent": lambda: [FROM_COPY],
+        "Version": lambda: [OLD if words[2] == "1" else PROGRAM], "BadField": lambda: [f"{PROGRAM}; if it is this one, {FROM_COPY}"], "BootSpent": lambda: [FROM_COPY],
     }
     return listed[words[0]]()
 
