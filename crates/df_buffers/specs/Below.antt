@@ -7,7 +7,7 @@ pub use Rattle.df_format.specs.Making.{for_body}
 pub use Rattle.df_format.specs.Message.{Message, sectors_end, sectors_of}
 pub use Rattle.df_format.specs.Own.{own_place}
 pub use Rattle.df_format.specs.Rules.{ObeysRules}
-pub use Rattle.df_format.specs.Spelling.{sealed}
+pub use Rattle.df_format.specs.Spelling.{IsCheck, sealed}
 pub use Rattle.df_format.specs.UnitLaws.{MadeIsUnit, place_size}
 pub use Rattle.df_format.specs.Wanted.{IsWanted}
 pub use Rattle.df_format.specs.Whole.{greatest_size}

@@ -1,11 +1,11 @@
 -- Sound rooms: rooms whose bytes are a unit that is valid at its own place.
-use Rattle.std.specs.Prelude.{◌≡◌, ◌-◌, ◌%◌, ◌<◌, ◌≤◌, ℕ, List, length, take, drop, Some}
+use Rattle.std.specs.Prelude.{◌≡◌, ◌-◌, ◌%◌, ◌<◌, ◌≤◌, ◌+◌, ℕ, List, length, replicate, take, drop, Some}
 use Rattle.df_layout.specs.declared.layout.Layout.{Layout}
 use Rattle.df_layout.specs.declared.places.Place.{Place}
 use Rattle.df_layout.specs.declared.places.Zone.{Zone}
 use Rattle.df_format.specs.declared.header.Header.{Header}
 use Rattle.df_format.specs.declared.kind.Kind.{Kind}
-use Rattle.df_format.specs.Message.{Message}
+use Rattle.df_format.specs.Message.{Message, sectors_end}
 use Rattle.df_format.specs.Shown.{unit_in}
 use Rattle.df_format.specs.Valid.{IsUnit}
 use Rattle.df_format.specs.Brings.{Brings}
@@ -46,3 +46,11 @@ pub record BringsOwn (zone : Zone) (holding : Holding) (bytes : List ℕ) : Type
   pub in_zone : place.zone ≡ zone
   pub is : IsUnit holding.layout holding.unit.header.cluster place holding.unit
   pub brings : Brings holding.layout holding.unit.header.cluster place holding.unit bytes
+
+-- after so many bytes there are zeros
+abbrev pub EndsInZeros : ℕ → List ℕ → Type 0
+EndsInZeros size bytes = drop size bytes ≡ replicate (length bytes - size) 0
+
+-- the sectors of the unit hold zeros after it
+abbrev pub IsTidy : Holding → Type 0
+IsTidy holding = EndsInZeros (256 + length holding.unit.body) (take (sectors_end holding.unit.header.size) holding.bytes)

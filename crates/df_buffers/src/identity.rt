@@ -1,4 +1,7 @@
 // Which unit is wanted, and where.
+ghost use Rattle.std.specs.Prelude.{◌≡◌};
+ghost use Rattle.df_buffers.specs.Below.{IsCheck};
+
 use df_base::Check;
 use df_layout::{Layout, Place};
 
@@ -23,4 +26,19 @@ pub struct Identity {
     pub cluster: u128,
     pub place: Place,
     pub wanted: Wanted,
+}
+
+impl Identity {
+    /// The unit with this checksum, at a place of the file.
+    pub fn known(layout: &Layout, cluster: u128, place: Place, checksum: Check) -> Identity
+        ensures known { result ≡ record { layout = layout.now; cluster = cluster; place = place; wanted = Wanted.Checksum checksum } }
+        ensures check { IsCheck checksum }
+    {
+        Identity {
+            layout: *layout,
+            cluster,
+            place,
+            wanted: Wanted::Checksum(checksum),
+        }
+    }
 }

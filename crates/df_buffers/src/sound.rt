@@ -1,7 +1,7 @@
 // Sound rooms: their bytes are a unit that is valid at its own place. They lend its parts without copying.
-ghost use Rattle.std.specs.Prelude.{◌≡◌, ◌≤◌, ◌-◌, length, take, drop};
+ghost use Rattle.std.specs.Prelude.{◌≡◌, ◌≤◌, ◌-◌, ◌++◌, length, replicate, take, drop};
 ghost use Rattle.df_buffers.specs.Below.{AreBytes, sectors_end};
-ghost use Rattle.df_buffers.specs.Sounds.{AreWhole, BringsOwn, IsSound};
+ghost use Rattle.df_buffers.specs.Sounds.{AreWhole, BringsOwn, IsSound, IsTidy};
 
 use crate::{Raw, UnitKind};
 use df_base::{HEADER, SECTOR};
@@ -46,6 +46,15 @@ fn sectors_in(bytes: &[u8], size: u32) -> &[u8]
     &bytes[..SECTOR * ((size as usize + SECTOR - 1) / SECTOR)]
 }
 
+// Zeros from this byte on.
+fn blank_from(bytes: &mut [u8], from: usize)
+    requires { from ≤ length bytes.old }
+    ensures blank { bytes.new ≡ take from bytes.old ++ replicate (length bytes.old - from) 0 }
+    ensures each { AreBytes bytes.old }
+{
+    bytes[from..].fill(0);
+}
+
 impl<K: UnitKind> Sound<K> {
     /// The unit's header.
     pub fn header(&self) -> &Header
@@ -69,6 +78,27 @@ impl<K: UnitKind> Sound<K> {
         ensures brings { BringsOwn K.ZONE self.now result.now }
     {
         sectors_in(&self.bytes, self.header.size)
+    }
+
+    /// The same unit in the same room, with zeros after it: no checksum covers what stood there.
+    pub fn blank_rest(self) -> Sound<K>
+        ensures layout { result.layout ≡ self.layout }
+        ensures unit { result.unit ≡ self.unit }
+        ensures tidy { IsTidy result }
+    {
+        let Sound {
+            layout,
+            header,
+            mut bytes,
+            kind,
+        } = self;
+        blank_from(&mut bytes, header.size as usize);
+        Sound {
+            layout,
+            header,
+            bytes,
+            kind,
+        }
     }
 
     /// The room with its bytes as they are.

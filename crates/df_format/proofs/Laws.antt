@@ -1,7 +1,8 @@
 -- What the proofs above cite of this crate's: which unit and which copy bytes show, what a write brings to a place, what a maker
--- gives, and when a superblock has no fault.
+-- gives, how long a unit is, and when a superblock has no fault.
 pub use Rattle.df_format.proofs.Codes.{none_unless}
 pub use Rattle.df_format.proofs.Owned.{has-from, has-true, is_own, own_is}
+pub use Rattle.df_format.proofs.Messages.{length-unit}
 pub use Rattle.df_format.proofs.Sectors.{written_begins}
 pub use Rattle.df_format.proofs.Wholes.{begun_is_shown, body_follows, one_unit, ring_has_no_body, stale_valid, valid_stale, fits_slot, shown_stale}
 pub use Rattle.df_format.proofs.Units.{blank_none, count_is, header_shown, headers_fill, read_belongs, read_shown, same_shown, shown_belongs, shown_is_unit, valid_belongs, header_count, header_first}

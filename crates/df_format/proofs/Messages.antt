@@ -9,7 +9,7 @@ use Rattle.df_format.specs.Rules.{IsSealed}
 use Rattle.df_format.specs.Message.{Message, unit_of, sectors_of, sectors_end}
 use Rattle.df_format.proofs.Spelled.{length-spelling, spelling_size}
 
-length-unit : (u : Message) → IsSealed u.header → length (unit_of u) ≡ 256 + length u.body
+pub length-unit : (u : Message) → IsSealed u.header → length (unit_of u) ≡ 256 + length u.body
 length-unit u is = omega (arith, length-append (spelling u.header) u.body, length-spelling u.header is)
 
 pub length-sectors : (u : Message) → IsSealed u.header → length (sectors_of u) ≡ sectors_end (256 + length u.body)

@@ -1,6 +1,6 @@
 -- The sectors of a place are sectors of the disk, and what is read of them is what the place shows.
 use Rattle.std.proofs.Common.{◌≡◌, ◌≢◌, ℕ, ◌/◌, ◌%◌, ◌<◌, ◌≤◌, List, length, Option, Some, None, refl, sym, ◌∙◌, ap, subst, arith}
-use Rattle.std.specs.Prelude.{Result, Err}
+use Rattle.std.specs.Prelude.{Result}
 use Rattle.df_base.specs.Image.{Image, bytes_at}
 use Rattle.df_disk.specs.Told.{AreSectors, Shows, Told}
 use Rattle.df_layout.specs.declared.damage.Class.{Class}
@@ -11,15 +11,8 @@ use Rattle.df_layout.specs.declared.places.Zone.TheVariants.{Superblock, WalHead
 use Rattle.df_layout.specs.Spans.{HasPlace, span_of}
 use Rattle.df_layout.proofs.Laws.{lies_inside, zones_follow}
 use Rattle.df_format.specs.declared.header.Header.{Header}
-use Rattle.df_format.specs.declared.kind.Kind.{Kind}
-use Rattle.df_format.specs.declared.kind.Kind.TheVariants.{Reserved, Prepare, Reply, Block, Trailer}
-use Rattle.df_format.specs.Message.{Message}
 use Rattle.df_format.specs.Shown.{bytes_of, part_in, class_at, class_of, header_or_class, unit_at, unit_in}
-use Rattle.df_format.specs.Valid.{Belongs, IsInSlot, IsOfSession}
-use Rattle.df_format.proofs.Laws.{read_belongs}
-use Rattle.df_buffers.specs.declared.identity.Wanted.TheVariants.{Any}
-use Rattle.df_buffers.specs.Found.{FindsKind}
-use Rattle.df_buffers.specs.Rooms.{StandsIn, room_size}
+use Rattle.df_buffers.specs.Rooms.{room_size}
 use Rattle.df_places.specs.Units.{IsSeen, header_at}
 
 -- a front of a place's sectors, one at least, is one of the disk's
@@ -36,30 +29,6 @@ room_sectors layout place zone first n has in_zone is size =
     let inside = lies_inside layout place has in
     let room : n ≡ room_size layout place.zone = subst (λ (z : Zone). n ≡ room_size layout z) (sym in_zone) size in
     are_sectors layout place zone first n has in_zone is (omega (arith, room, inside.some)) (omega (arith, size)) (omega (arith, size))
-
--- a unit of a zone that isn't the grid is of the zone's kind
-kind_there : (kind : Kind) (zone : Zone) (layout : Layout) (index : ℕ) (h : Header) → StandsIn kind zone → zone ≢ Grid → Belongs layout zone index h → h.kind ≡ kind
-kind_there Reserved zone layout index h stands slot belongs = absurd stands
-kind_there Prepare WalPrepares layout index h stands slot belongs = let in_slot : IsInSlot layout index h = belongs in in_slot.kind
-kind_there Prepare zone layout index h stands slot belongs = absurd stands
-kind_there Reply ClientReplies layout index h stands slot belongs = let of : IsOfSession index h = belongs in of.kind
-kind_there Reply zone layout index h stands slot belongs = absurd stands
-kind_there Block Grid layout index h stands slot belongs = absurd (slot refl)
-kind_there Block zone layout index h stands slot belongs = absurd stands
-kind_there Trailer Grid layout index h stands slot belongs = absurd (slot refl)
-kind_there Trailer zone layout index h stands slot belongs = absurd stands
-
--- what isn't found where any unit is wanted isn't there
-pub none_shown : (kind : Kind) (zone : Zone) (layout : Layout) (cluster : ℕ) (place : Place) (bytes : List ℕ) (class : Class) → StandsIn kind zone → zone ≢ Grid → place.zone ≡ zone
-    → ((u : Message) → FindsKind kind (record { layout = layout; cluster = cluster; place = place; wanted = Any }) bytes u → ⊥)
-    → class ≡ class_of layout cluster place bytes → Err class ≡ header_or_class (unit_in layout cluster place bytes) (class_of layout cluster place bytes)
-none_shown kind zone layout cluster place bytes class stands slot in_zone none is = by (unit_in layout cluster place bytes) refl
-  where
-    by : (o : Option Message) → unit_in layout cluster place bytes ≡ o → Err class ≡ header_or_class o (class_of layout cluster place bytes)
-    by None shown = ap Err is
-    by (Some u) shown =
-        let belongs : Belongs layout zone place.index u.header = subst (λ (z : Zone). Belongs layout z place.index u.header) in_zone (read_belongs layout cluster place bytes u shown).belongs in
-        absurd (none u (record { found = record { valid = shown; wanted = tt }; of_kind = kind_there kind zone layout place.index u.header stands slot belongs }))
 
 sectors_read : (layout : Layout) (place : Place) (zone : Zone) (n : ℕ) → place.zone ≡ zone → n ≡ room_size layout zone → n / 4096 ≡ (span_of layout place).count
 unfolding span_of

@@ -15,7 +15,7 @@ use Rattle.df_format.specs.Wanted.{IsWanted}
 use Rattle.df_buffers.specs.declared.identity.Identity.{Identity}
 use Rattle.df_buffers.specs.Found.{IsThere, words_of}
 use Rattle.df_buffers.specs.Rooms.{Room}
-use Rattle.df_buffers.specs.Sounds.{Holding}
+use Rattle.df_buffers.specs.Sounds.{Holding, IsTidy}
 
 -- what a shelf is seen as: the layout of its room, and the sound unit in the room, if one is
 pub record Shelved : Type 0 where
@@ -74,3 +74,15 @@ pub record IsMade (layout : Layout) (header : Header) (body : List ℕ) (held : 
 abbrev pub HoldsMade : Layout → Header → List ℕ → Option Holding → Type 0
 HoldsMade layout header body None = ⊥
 HoldsMade layout header body (Some held) = IsMade layout header body held
+
+-- ---- what is blanked in it
+
+-- the unit is the same, and there are zeros after it
+pub record IsBlanked (old new : Holding) : Type 0 where
+  pub layout_is : new.layout ≡ old.layout
+  pub unit_is : new.unit ≡ old.unit
+  pub tidy : IsTidy new
+
+abbrev pub HoldsBlanked : (old new : Option Holding) → Type 0
+HoldsBlanked (Some old) (Some new) = IsBlanked old new
+HoldsBlanked old new = ⊥

@@ -6,4 +6,4 @@ mod shelf;
 mod units;
 
 pub use shelf::Shelf;
-pub use units::{put_unit, read_place, scan_place, write_unit};
+pub use units::{put_unit, read_place, write_unit};

@@ -1,7 +1,7 @@
 // The room of a kind of unit, as it lies between two calls: with any bytes, or with a sound unit in it, which it lends.
 ghost use Rattle.std.specs.Prelude.{◌≡◌, ◌≢◌, ◌≤◌, ◌+◌, None, Some, length, IfOk, IsSome};
 ghost use Rattle.df_places.specs.Below.{HasCause, AreBytes, HasPlace, Zone, class_of, for_body, header_or_class, own_place, ObeysRules, greatest_size, place_size, unit_in};
-ghost use Rattle.df_places.specs.Shelves.{HoldsFound, HoldsMade, IsRead, IsShelf};
+ghost use Rattle.df_places.specs.Shelves.{HoldsBlanked, HoldsFound, HoldsMade, IsRead, IsShelf};
 ghost use Rattle.df_places.specs.Units.{IsSeen, IsThere};
 
 use crate::read_place;
@@ -174,6 +174,18 @@ impl<K: UnitKind> Shelf<K> {
     {
         let room = room_of(&self.layout, self.loose.take(), self.held.take());
         self.held = Some(room.make(header, body));
+    }
+
+    /// Blanks the room after the unit that it holds, which stays: no checksum covers what stood there.
+    pub fn blank_rest(&mut self)
+        requires { IsSome self.old.held }
+        ensures layout { self.new.layout ≡ self.old.layout }
+        ensures blanked { HoldsBlanked self.old.held self.new.held }
+    {
+        match self.held.take() {
+            Some(unit) => self.held = Some(unit.blank_rest()),
+            None => unreachable!(),
+        }
     }
 
     /// The sound unit in the room.

@@ -1,13 +1,12 @@
 // A write is one call of the device and a sync, a read is one call; the unit has its whole place to itself.
-ghost use Rattle.std.specs.Prelude.{◌≡◌, ◌≢◌, IfOk, OnOk, Some, take};
-ghost use Rattle.df_places.specs.Below.{HasCause, Adds, Shows, Zone as AnyZone, HasPlace, span_of, Brings, sectors_end, class_of, header_or_class, unit_in, IsUnit, FillsRoom, AreSteps, AnyUnit, Place as ModelPlace, format_of, place_of, unit_of};
-ghost use Rattle.df_places.specs.Units.{IsSeen, IsThere, put_events, put_steps, unit_events, unit_steps};
+ghost use Rattle.std.specs.Prelude.{◌≡◌, OnOk, Some, take};
+ghost use Rattle.df_places.specs.Below.{HasCause, Adds, Shows, HasPlace, span_of, Brings, sectors_end, IsUnit, FillsRoom, AreSteps, AnyUnit, Place as ModelPlace, format_of, place_of, unit_of};
+ghost use Rattle.df_places.specs.Units.{put_events, put_steps, unit_events, unit_steps};
 
 use df_base::Failed;
-use df_buffers::{Identity, Raw, RoomKind, Sound, UnitKind, Wanted};
+use df_buffers::{Raw, RoomKind, Sound, UnitKind};
 use df_disk::Disk;
-use df_format::Header;
-use df_layout::{Class, Layout, Place, Zone};
+use df_layout::{Layout, Place};
 
 /// Writes the sectors of a unit into its own place, without a sync: until the next one they may hold anything once the machine
 /// stops. The unit's room is one of the layout.
@@ -68,63 +67,4 @@ pub fn read_place<D: Disk, K: RoomKind>(
     ensures cause { HasCause (D.faults disk.old) (D.faults disk.new) result }
 {
     disk.read(layout.sectors_of(place).first, room.bytes_mut())
-}
-
-// What a room shows that was read from a place.
-fn shown_in<K: UnitKind>(
-    layout: &Layout,
-    cluster: u128,
-    place: Place,
-    room: Raw<K>,
-) -> (Raw<K>, Result<Header, Class>)
-    requires zone { place.zone ≡ K.ZONE }
-    requires slot { K.ZONE ≢ AnyZone.Grid }
-    requires room { room.layout ≡ layout.now }
-    ensures shown { result.1 ≡ header_or_class (unit_in layout.now cluster place room.bytes) (class_of layout.now cluster place room.bytes) }
-    ensures there { IsThere layout.now cluster place result.1 }
-    ensures room { result.0.layout ≡ layout.now }
-{
-    let identity = Identity {
-        layout: *layout,
-        cluster,
-        place,
-        wanted: Wanted::Any,
-    };
-    match room.prove(&identity) {
-        Ok(unit) => {
-            let header = *unit.header();
-            (unit.loosen(), Ok(header))
-        }
-        Err((room, class)) => (room, Err(class)),
-    }
-}
-
-/// What a place shows: the header of the unit that is valid there, or the class of what is shown, whatever unit is wanted. Reads
-/// the place once, into the room, which comes back with either result. In the grid two kinds of unit stand, so a room of one
-/// kind can't tell.
-pub fn scan_place<D: Disk, K: UnitKind>(
-    disk: &mut D,
-    layout: &Layout,
-    cluster: u128,
-    place: Place,
-    room: Raw<K>,
-) -> (Raw<K>, Result<Result<Header, Class>, Failed>)
-    requires place { HasPlace layout.now place }
-    requires zone { place.zone ≡ K.ZONE }
-    requires slot { K.ZONE ≢ AnyZone.Grid }
-    requires room { room.layout ≡ layout.now }
-    ensures seen { IfOk result.1 (IsSeen layout.now cluster (D.told disk.old) place) }
-    ensures there { IfOk result.1 (IsThere layout.now cluster place) }
-    ensures room { result.0.layout ≡ layout.now }
-    ensures same { D.told disk.new ≡ D.told disk.old }
-    ensures cause { HasCause (D.faults disk.old) (D.faults disk.new) result.1 }
-{
-    let mut room = room;
-    match read_place(disk, layout, place, &mut room) {
-        Ok(()) => {
-            let (room, seen) = shown_in(layout, cluster, place, room);
-            (room, Ok(seen))
-        }
-        Err(failed) => (room, Err(failed)),
-    }
 }
