@@ -17,7 +17,6 @@ pub use Rattle.df_recovery.specs.Found
 pub use Rattle.df_recovery.specs.Opening
 pub use Rattle.df_recovery.specs.Plan
 pub use Rattle.df_recovery.specs.Scanning
-pub use Rattle.df_recovery.specs.Starting
 pub use Rattle.df_recovery.specs.Surveying
 pub use Rattle.df_recovery.specs.Surveys
 pub use Rattle.df_recovery.specs.Waiting

@@ -9,7 +9,7 @@ ghost use Rattle.df_grid.specs.contracts.grid.Grid.{the_row};
 
 use crate::Grid;
 use df_base::{Check, Failed};
-use df_buffers::{Block, Identity, Sound, Trailer, Wanted};
+use df_buffers::{Block, Identity, Sound, Trailer};
 use df_disk::Disk;
 use df_format::{Header, Reference};
 use df_layout::{Class, Layout, Place, Zone};
@@ -30,12 +30,7 @@ pub fn known_at(layout: &Layout, cluster: u128, address: u64, checksum: Check) -
     ensures identity { result ≡ at_address layout.now cluster address checksum }
     ensures check { IsCheck checksum }
 {
-    Identity {
-        layout: *layout,
-        cluster,
-        place: grid_place(address),
-        wanted: Wanted::Checksum(checksum),
-    }
+    Identity::known(layout, cluster, grid_place(address), checksum)
 }
 
 // What is wrong with a valid unit that has a checksum, where another one is wanted.

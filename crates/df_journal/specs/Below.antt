@@ -13,7 +13,7 @@ pub use Rattle.df_theory.specs.Shape.{Shape, slots}
 pub use Rattle.df_theory.specs.Tails.{Fits, FitsGroup}
 pub use Rattle.df_theory.specs.Units.{Content, Message, Units}
 pub use Rattle.df_theory.specs.View.{Checkpoint}
-pub use Rattle.df_units.specs.Meaning.{header_of, number_of}
+pub use Rattle.df_units.specs.Meaning.{header_of, number_of, pin_of}
 pub use Rattle.df_cases.specs.Cases.{HasCheck, decision_of, seen_of}
 pub use Rattle.df_sessions.specs.Requests.{sessions_of}
 pub use Rattle.df_sessions.specs.declared.session.Session.{Session}

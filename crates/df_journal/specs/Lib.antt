@@ -6,6 +6,7 @@ pub mod Counts
 pub mod Known
 pub mod Planned
 pub mod Tail
+pub mod Starting
 pub mod Append
 pub mod Flush
 pub mod Below

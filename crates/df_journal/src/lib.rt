@@ -11,6 +11,7 @@ mod reach;
 mod reads;
 mod seen;
 mod settling;
+mod starting;
 mod table;
 
 pub use appends::{append, put};
@@ -21,4 +22,5 @@ pub use known::{lacking_known, slot_of};
 pub use reach::find_reach;
 pub use reads::{scan, scan_shelf, scanned_is_shown};
 pub use settling::settle;
+pub use starting::pin_of;
 pub use table::{SlotTable, Start};

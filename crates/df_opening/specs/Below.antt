@@ -26,7 +26,7 @@ pub use Rattle.df_format.specs.SuperRules.{IsUsable}
 pub use Rattle.df_damage.specs.Refusals.{MayBeOfDamage}
 pub use Rattle.df_damage.specs.Openings.{OpensAsLeft}
 pub use Rattle.df_headers.specs.Ring.{sector_writes}
-pub use Rattle.df_damage.specs.Starting.{start_of}
+pub use Rattle.df_journal.specs.Starting.{start_of}
 pub use Rattle.df_superblock.specs.Below.{Sync}
 pub use Rattle.df_superblock.specs.Events.{update_events}
 pub use Rattle.df_damage.specs.Waiting.{waiting_in}

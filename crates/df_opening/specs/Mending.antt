@@ -41,7 +41,7 @@ use Rattle.df_superblock.specs.Steps.{repaired}
 use Rattle.df_damage.specs.Below.{DataFile, State, boot_fields, shape}
 use Rattle.df_damage.specs.Opening.{HasSuperAs}
 use Rattle.df_damage.specs.Plan.{headers_in, if_wanted}
-use Rattle.df_damage.specs.Starting.{start_of}
+use Rattle.df_journal.specs.Starting.{start_of}
 use Rattle.df_damage.specs.Surveying.{ArePlannedFrom}
 use Rattle.df_opening.specs.Following.{MayOpen}
 use Rattle.df_opening.specs.Keeping.{Grade, StandingFor, StandsFor, format}

@@ -29,7 +29,7 @@ use Rattle.df_trailer.specs.declared.reader.Reader.{Reader}
 use Rattle.df_grid.specs.Grid.{GridState}
 use Rattle.df_grid.specs.Reads.{shown_of}
 use Rattle.df_grid.specs.Table.{IsIdle, no_blocks}
-use Rattle.df_checkpoint.specs.Chain.{OfTold, content_in}
+use Rattle.df_checkpoint.specs.Chain.{OfTold, content_in, error_of}
 use Rattle.df_checkpoint.specs.Reads.{ChainAnswer, IsAdopted, IsComplete, blocks_read}
 use Rattle.df_checkpoint.specs.Waiting.{IsPending, IsUntracked}
 use Rattle.df_checkpoint.specs.declared.fault.TrailerFault.{TrailerFault}
@@ -38,7 +38,7 @@ use Rattle.df_checkpoint.proofs.Laws.{its_text, some_chain}
 use Rattle.df_rooms.specs.State.{shape}
 use Rattle.df_rooms.specs.declared.file.DataFile.{DataFile}
 use Rattle.df_rooms.specs.declared.trailer_rooms.ReaderRoom.{ReaderRoom}
-use Rattle.df_recovery.specs.Checkpoints.{Base, HasCheckpoint, HasText, RefusesTrailer, TellsCheckpoint, TellsText, error_of}
+use Rattle.df_recovery.specs.Checkpoints.{Base, HasCheckpoint, HasText, RefusesTrailer, TellsCheckpoint, TellsText}
 use Rattle.df_recovery.specs.Scanning.{AreRoomsOf, FitsFile}
 use Rattle.df_recovery.proofs.Tracked.{has_is, has_not, sessions_back, tracked}
 

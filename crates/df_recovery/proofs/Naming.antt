@@ -20,7 +20,7 @@ use Rattle.df_journal.specs.Tail.{BeginsAt, IsReached, StopsAt}
 use Rattle.df_group.specs.declared.reach.Reach.{Reach}
 use Rattle.df_journal.specs.declared.table.Start.{Start}
 use Rattle.df_recovery.specs.Known.{BlamesKnown, IsBaseOf}
-use Rattle.df_recovery.specs.Starting.{start_of}
+use Rattle.df_journal.specs.Starting.{start_of}
 
 -- the prepares up to the pin: those of the checkpoint, or in version 2 those up to the head
 pub pin_from : (f : SuperFields) → IsSuper f → f.op ≤ pin_of f

@@ -19,7 +19,7 @@ use Rattle.df_recovery.specs.Checkpoints.{Base, TellsCheckpoint}
 use Rattle.df_recovery.specs.Finding.{IsOfFile, read_of}
 use Rattle.df_recovery.specs.Found.{IsFound, IsFoundAs}
 use Rattle.df_recovery.specs.Opening.{HasSuperAs, IsLayoutOf}
-use Rattle.df_recovery.specs.Starting.{start_of}
+use Rattle.df_journal.specs.Starting.{start_of}
 use Rattle.df_recovery.specs.Scanning.{AreCopies, AreScanned, IsFileOf, IsReadBehind, IsScan, IsScanAs, IsServed, RefusesBase, TellsReadAs, base_scanned, without_rooms}
 use Rattle.df_recovery.specs.Surveys.{SurveysAs}
 use Rattle.df_recovery.specs.declared.scanned.Scanned.{Scanned}

@@ -42,7 +42,7 @@ use Rattle.df_recovery.specs.Finding.{Answers, HasHeaders, IsKept, IsOfFile, IsR
 use Rattle.df_recovery.specs.Found.{IsChoiceOf, TellsFoundAs}
 use Rattle.df_recovery.specs.Plan.{ArePlanned, IsDecided, class_of_slot, copy_mend, copy_mends, decision_at, header_by, header_or_none, needs_header, op_in, shown_class, slot_mend, slot_mends}
 use Rattle.df_recovery.specs.Scanning.{AreCopies, IsFileOf, IsScanAs, TellsReadAs, base_scanned}
-use Rattle.df_recovery.specs.Starting.{start_of}
+use Rattle.df_journal.specs.Starting.{start_of}
 use Rattle.df_recovery.specs.Surveying.{ArePlannedFrom, IsLawful, IsMendable, IsPlannedFor, IsReadOf, KeepsFile, KeepsRead, TellsMends, TellsSurveyAs, copy_mend_at, headers_of, mends_of, planned_header, state_found}
 use Rattle.df_recovery.specs.Surveys.{SurveysAs}
 use Rattle.df_recovery.specs.Waiting.{waiting_in}

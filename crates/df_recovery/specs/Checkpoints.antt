@@ -21,8 +21,6 @@ use Rattle.df_grid.specs.Reads.{shown_of}
 use Rattle.df_checkpoint.specs.Chain.{IsLacking, content_in}
 use Rattle.df_checkpoint.specs.Reads.{blocks_read}
 use Rattle.df_checkpoint.specs.Tests.{FailsTest}
-use Rattle.df_checkpoint.specs.declared.fault.TrailerFault.{TrailerFault}
-use Rattle.df_checkpoint.specs.declared.fault.TrailerFault.TheVariants as trailer
 use Rattle.df_rooms.specs.State.{AreAsked, shape}
 use Rattle.df_rooms.specs.declared.file.DataFile.{DataFile}
 
@@ -83,9 +81,3 @@ TellsCheckpoint file (Some t) f (Err e) = RefusesTrailer file t.shown f e
 abbrev pub TellsText : DataFile → Option Told → SuperFields → Base → Type 0
 TellsText file None f base = Unit {0}
 TellsText file (Some t) f base = HasText file (unit_at file.layout file.cluster t.shown) f base
-
--- the refusal of a trailer, as an open answers it
-abbrev pub error_of : TrailerFault → OpenError
-error_of (trailer.Damaged address class) = Damaged (place_in Grid address) class
-error_of (trailer.BadField field value) = BadField field value
-error_of trailer.DiskFault = DiskFault

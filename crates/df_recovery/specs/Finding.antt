@@ -35,7 +35,7 @@ use Rattle.df_checkpoint.specs.Reads.{blocks_read}
 use Rattle.df_recovery.specs.Checkpoints.{Base, HasCheckpoint, base_of}
 use Rattle.df_recovery.specs.Waiting.{waiting_in, waiting_sum}
 use Rattle.df_recovery.specs.Found.{IsChoiceOf}
-use Rattle.df_recovery.specs.Starting.{start_of}
+use Rattle.df_journal.specs.Starting.{start_of}
 use Rattle.df_recovery.specs.Surveys.{HasFile, SurveysAs, class_there}
 use Rattle.df_rooms.specs.declared.file.DataFile.{DataFile}
 use Rattle.df_recovery.specs.declared.superblock.Found.{Found}

@@ -4,7 +4,6 @@ pub mod OpeningLaws
 pub mod Checkpoints
 pub mod Waiting
 pub mod Surveys
-pub mod Starting
 pub mod Known
 pub mod SurveyLaws
 pub mod Scanning

@@ -13,7 +13,7 @@ use Rattle.df_model.specs.declared.errors.OpenError.TheVariants.{LayoutDiffers}
 use Rattle.df_replies.specs.Shown
 use Rattle.df_recovery.specs.Found.{IsFoundAs}
 use Rattle.df_recovery.specs.Opening.{IsLayoutOf}
-use Rattle.df_recovery.specs.Starting.{start_of}
+use Rattle.df_journal.specs.Starting.{start_of}
 use Rattle.df_recovery.specs.Surveys.{SurveysAs}
 use Rattle.df_recovery.specs.declared.superblock.Found.{Found}
 use Rattle.df_recovery.specs.declared.scanning.Copies.{Copies}

@@ -35,7 +35,7 @@ use Rattle.df_rooms.specs.State.{AreAsked, State}
 use Rattle.df_recovery.specs.Found.{IsChoiceOf, TellsFoundAs}
 use Rattle.df_recovery.specs.Plan.{AreDistinct, ArePlanned, IsScanOf, OthersAreShown, class_of_slot, decision_at, header_by, headers_in, mend_list, needs_header, slot_mends}
 use Rattle.df_recovery.specs.Scanning.{AreCopies, IsFileOf}
-use Rattle.df_recovery.specs.Starting.{start_of}
+use Rattle.df_journal.specs.Starting.{start_of}
 use Rattle.df_recovery.specs.Surveys.{SurveysAs}
 use Rattle.df_recovery.specs.declared.finding.Traces.{Traces}
 use Rattle.df_recovery.specs.declared.scanned.Scanned.{Scanned}

@@ -1,17 +1,16 @@
 // The checkpoint that a superblock names is read: its trailer's chain and text into the grid and the table of sessions.
 ghost use Rattle.std.specs.Prelude.{◌≡◌, ◌≢◌, [], vec_len};
 ghost use Rattle.df_recovery.specs.Below.{IsBlamed, AreFieldsOf, AreRead, is_open_fault};
-ghost use Rattle.df_recovery.specs.Checkpoints.{error_of};
 ghost use Rattle.df_recovery.specs.Scanning.{AreRoomsOf, FitsFile, ReadsCheckpoint, ReadsText};
 
 use crate::OpenError;
 use arrayvec::ArrayVec;
 use df_base::Check;
-use df_checkpoint::{TrailerFault, pending, read_chain};
+use df_checkpoint::{pending, read_chain};
 use df_disk::Disk;
 use df_format::Super;
 use df_grid::Grid;
-use df_layout::{Field, Place, ROOT, Zone};
+use df_layout::{Field, ROOT};
 use df_rooms::{DataFile, ReaderRoom, TrailerRooms};
 use df_sessions::{Session, SessionTable};
 use df_trailer::{Parts, Reader};
@@ -21,23 +20,6 @@ use df_trailer::{Parts, Reader};
 pub struct Checkpoint {
     pub root: ArrayVec<u8, ROOT>,
     pub sessions: SessionTable,
-}
-
-// Why the open is refused, where the trailer is.
-fn error_of(fault: TrailerFault) -> OpenError
-    ensures { result ≡ error_of fault }
-{
-    match fault {
-        TrailerFault::Damaged { address, class } => OpenError::Damaged {
-            place: Place {
-                zone: Zone::Grid,
-                index: address,
-            },
-            class,
-        },
-        TrailerFault::BadField { field, value } => OpenError::BadField { field, value },
-        TrailerFault::DiskFault => OpenError::DiskFault,
-    }
 }
 
 // The refusal of a checkpoint whose sessions lack the one of an op.
@@ -134,7 +116,7 @@ fn read_text<D: Disk>(
                 checks,
             };
             trailer.reader = Some(room);
-            Err(error_of(fault))
+            Err(fault.refusal())
         }
     }
 }

@@ -5,7 +5,7 @@ ghost use Rattle.df_recovery.specs.Below.{CopyPlace, PreparePlace, ReplyPlace, U
 ghost use Rattle.df_journal.specs.Shows.{IsTable};
 ghost use Rattle.df_recovery.specs.Finding.{Answers, FileIsRead, IsDamage, KeptIsAnswer, RefusedIsAnswer, StateIsOpened, damage, lowest_of};
 ghost use Rattle.df_recovery.specs.Checkpoints.{AreOfCheckpoint};
-ghost use Rattle.df_recovery.specs.Starting.{start_of};
+ghost use Rattle.df_journal.specs.Starting.{start_of};
 ghost use Rattle.df_recovery.specs.Surveying.{AreAfter, EndsBehind};
 
 use crate::known::find_known;

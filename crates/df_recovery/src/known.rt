@@ -6,26 +6,15 @@ ghost use Rattle.df_journal.specs.Shows.{IsTable, TellsRings};
 ghost use Rattle.df_journal.specs.Tail.{IsReached};
 ghost use Rattle.df_recovery.specs.Below.{Checkpoint, IsWithin, KeepsRules, Shape, Units, pin_checksum_of, pin_of};
 ghost use Rattle.df_recovery.specs.Known.{BlamesKnown, IsBaseOf};
-ghost use Rattle.df_recovery.specs.Starting.{start_of};
+ghost use Rattle.df_journal.specs.Starting.{start_of};
 
 use df_base::Check;
 use df_format::SuperFields;
-use df_journal::{Reach, SlotTable, find_reach, lacking_known, slot_of};
+use df_journal::{Reach, SlotTable, find_reach, lacking_known, pin_of, slot_of};
 use df_layout::Layout;
 use df_sessions::SessionTable;
 
-/// The greatest op whose prepare a superblock names: in version 2 its head, in any other its checkpoint's op.
-pub(crate) fn pin_of(fields: &SuperFields) -> u64
-    ensures { result ≡ pin_of fields.now }
-{
-    if fields.version == 2 {
-        fields.head
-    } else {
-        fields.op
-    }
-}
-
-// The checksum of that prepare.
+// The checksum of the last prepare that a superblock names.
 fn pin_checksum_of(fields: &SuperFields) -> Check
     ensures { result ≡ pin_checksum_of fields.now }
 {

@@ -2,17 +2,15 @@
 ghost use Rattle.std.specs.Prelude.{◌≡◌, IfOk, IfErr, Ok, OnOk};
 ghost use Rattle.df_recovery.specs.Below.{AreFieldsOf, IsBlamed, is_open_fault};
 ghost use Rattle.df_recovery.specs.Found.{Syncs, TellsFoundAs};
-ghost use Rattle.df_recovery.specs.Starting.{start_of};
 ghost use Rattle.df_recovery.specs.Scanning.{AreCopies, AreRoomsOf, FitsFile, IsReadBehind, IsScanAs, IsServed, IsUnserved, ReadsBehind, RefusesBase, TellsReadAs, found_in, without_rooms};
 
 use crate::checkpoint::{Checkpoint, read_checkpoint};
-use crate::known::pin_of;
 use crate::superblock::superblock_of;
 use crate::zones::scan_zones;
 use crate::{Found, OpenError, Scanned};
 use df_buffers::ProbeRoom;
 use df_disk::Disk;
-use df_format::{Super, SuperFields};
+use df_format::Super;
 use df_journal::Start;
 use df_layout::Layout;
 use df_quorum::Slot;
@@ -97,18 +95,6 @@ fn find_served<D: Disk>(
     Ok(copies)
 }
 
-// Where the scan of a file starts.
-fn start_of(fields: &SuperFields) -> Start
-    ensures { result ≡ start_of fields.now }
-{
-    Start {
-        cluster: fields.cluster,
-        op: fields.op,
-        head: pin_of(fields),
-        boot: fields.boot,
-    }
-}
-
 // Reads what stands after a superblock: its checkpoint, and then the rings and the reply slots.
 fn read_behind<D: Disk>(
     disk: &mut D,
@@ -124,7 +110,7 @@ fn read_behind<D: Disk>(
     ensures cause { IsBlamed is_open_fault (D.faults disk.old) (D.faults disk.new) result }
 {
     let base = read_checkpoint(disk, file, content, &mut rooms.grid, &mut rooms.trailer)?;
-    match scan_zones(disk, &start_of(content.fields()), &mut rooms.log) {
+    match scan_zones(disk, &Start::of(content.fields()), &mut rooms.log) {
         Ok(()) => Ok(base),
         Err(_) => Err(OpenError::DiskFault),
     }

@@ -17,7 +17,7 @@ use crate::replica::end_calls;
 use crate::reply::as_check;
 use crate::{DataFile, Replica};
 use df_base::{Check, Failed};
-use df_buffers::{Identity, Reply, Sound, Wanted};
+use df_buffers::{Identity, Reply, Sound};
 use df_disk::Disk;
 use df_layout::{Class, Place, Zone};
 use df_model::LookupError;
@@ -55,13 +55,7 @@ fn load_known<D: Disk>(
     ensures same { D.told disk.new ≡ D.told disk.old }
     ensures cause { HasCause (D.faults disk.old) (D.faults disk.new) result }
 {
-    let check = as_check(check);
-    let identity = Identity {
-        layout: file.layout,
-        cluster: file.cluster,
-        place: reply_place(place),
-        wanted: Wanted::Checksum(check),
-    };
+    let identity = Identity::known(&file.layout, file.cluster, reply_place(place), check);
     room.load(disk, &identity)
 }
 

@@ -15,7 +15,7 @@ use crate::refusing::prepare_refusal;
 use crate::replica::end_calls;
 use crate::{DataFile, Replica};
 use df_base::Failed;
-use df_buffers::{Identity, Prepare, Sound, Wanted};
+use df_buffers::{Identity, Prepare, Sound};
 use df_disk::Disk;
 use df_headers::HeaderTable;
 use df_layout::{Class, Layout, Place, Zone};
@@ -40,12 +40,7 @@ fn prepare_wanted(file: &DataFile, headers: &HeaderTable, op: u64) -> Identity
 {
     let place = prepare_place(&file.layout, op);
     let header = headers.get(place.index as u32);
-    Identity {
-        layout: file.layout,
-        cluster: file.cluster,
-        place,
-        wanted: Wanted::Checksum(header.checksum),
-    }
+    Identity::known(&file.layout, file.cluster, place, header.checksum)
 }
 
 // Reads the slot of an op that is kept: None exactly where its prepare is there, which the room holds then.

@@ -54,6 +54,6 @@ returns-in-Err-clause-reads g c =
     let told = g.D.Disk.told c.args.disk.now in
     let layout = ap (λ (x : GridState). x.layout) c.requires.rooms.grid_is in
     let cluster = ap (λ (x : GridState). x.cluster) c.requires.rooms.grid_is in
-    subst (λ (e : OpenError). TellsCheckpoint file told c.args.content.now (Err e)) (sym c.error_of.ensures)
+    subst (λ (e : OpenError). TellsCheckpoint file told c.args.content.now (Err e)) (sym c.refusal.ensures)
     (told_refused file told c.args.content.now c.read_chain.new.grid c.args.grid.now c.read_chain.new.reader c.in-Err.fault layout cluster c.requires.named
     (c.in-Err.ensures.answer (shape file) (ap layout_of (sym layout)) refl))
