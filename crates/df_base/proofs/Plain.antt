@@ -4,6 +4,9 @@ use Rattle.std.specs.List.{position_or_len, slice_get}
 use Rattle.std.proofs.lemmas.Bool.{cases_Bool}
 use Rattle.std.proofs.lemmas.Bool.Decides.{nat_tests}
 use Rattle.std.proofs.lemmas.List.Sums.{fails_before_first}
+use Rattle.std.specs.Prelude.{IsTrue}
+use Rattle.std.proofs.Common.{◌||◌, sym, ◌-◌, ◌++◌, take, drop, ◌∙◌}
+use Rattle.std.proofs.lemmas.List.{take_at, drop_at}
 
 -- ---- tests
 
@@ -13,6 +16,17 @@ and_false false b is one = absurd (cc)
 
 pub same_test : (a b : ℕ) → (a == b) ≡ (b == a)
 same_test a b = grind (arith, nat_tests)
+
+pub or_false : (b : Bool) → (b || false) ≡ b
+or_false true = refl
+or_false false = refl
+
+-- tests that pass together are one
+pub same_bit : (a b : Bool) → (IsTrue a → IsTrue b) → (IsTrue b → IsTrue a) → a ≡ b
+same_bit true true one other = refl
+same_bit true false one other = sym (one refl)
+same_bit false true one other = other refl
+same_bit false false one other = refl
 
 pub not_zero : (n : ℕ) → 0 < n → not (n == 0) ≡ true
 not_zero n some = grind (arith, nat_tests)
@@ -26,10 +40,60 @@ pub cond_there : {X : Type 0} (b : Bool) (o : Option X) (x : X) → cond b o Non
 cond_there true o x is = (refl, is)
 cond_there false o x is = absurd (cc)
 
+-- ---- what is in an option
+
+pub one_some : {X : Type 0} (o : Option X) (x y : X) → o ≡ Some x → o ≡ Some y → x ≡ y
+one_some o x y one two = let both : Some x ≡ Some y = sym one ∙ two in cc
+
+pub no_some : {X : Type 0} (o : Option X) → ((x : X) → o ≡ Some x → ⊥) → o ≡ None
+no_some None never = refl
+no_some (Some x) never = absurd (never x refl)
+
 -- ---- numbers
+
+pub zero_plus : (n : ℕ) → 0 + n ≡ n
+zero_plus n = omega arith
+
+pub plus_zero : (n : ℕ) → n ≡ n + 0
+plus_zero n = omega arith
+
+pub minus_zero : (n : ℕ) → n ≡ n - 0
+minus_zero n = omega arith
+
+pub suc_plus : (n : ℕ) → suc n ≡ n + 1
+suc_plus n = omega arith
+
+pub suc_minus : (n : ℕ) → suc n - 1 ≡ n
+suc_minus n = omega arith
+
+pub plus_suc : (k n : ℕ) → k + 1 + n ≡ k + suc n
+plus_suc k n = omega arith
+
+pub times_suc : (n q : ℕ) → n * (q + 1) ≡ n * q + n
+times_suc n q = omega arith
+
+pub over_one : (n : ℕ) → n / 1 ≡ n
+over_one n = omega arith
+
+pub some_number : (n : ℕ) → n ≢ 0 → 0 < n
+some_number zero other = absurd (other refl)
+some_number (suc n) other = omega arith
 
 pub split_n : (n x : ℕ) → 0 < n → n * (x / n) + x % n ≡ x
 split_n n x some = omega arith
+
+-- ---- lists
+
+pub no_elements : {X : Type 0} (xs : List X) → nat_lt 0 (length xs) ≡ false → xs ≡ []
+no_elements [] none = refl
+no_elements (x ∷ xs) none = absurd (omega (arith, ltb-false 0 (length (x ∷ xs)) none))
+
+-- fronts of one length, and what stands after them
+pub same_front : (a b x y : List ℕ) → length a ≡ length b → a ++ x ≡ b ++ y → (a ≡ b) × (x ≡ y)
+same_front a b x y size same = (
+  sym (take_at a x (length b) size) ∙ ap (λ (l : List ℕ). take (length b) l) same ∙ take_at b y (length b) refl,
+  sym (drop_at a x (length b) size) ∙ ap (λ (l : List ℕ). drop (length b) l) same ∙ drop_at b y (length b) refl,
+)
 
 -- ---- one place of a list
 

@@ -1,5 +1,7 @@
 -- What a call says of its moments that added some events, or a part of them; and events that are told one after the other.
 use Rattle.std.proofs.Common.{◌≡◌, inl, inr, List, [], ◌∷◌, ◌++◌, Option, Some, None, refl, sym, ap, ◌∙◌, subst, Result, Ok, Err}
+use Rattle.std.specs.Prelude.{IsErr}
+use Rattle.std.proofs.lemmas.Bool.{false≢true}
 use Rattle.df_base.specs.Image.{changed, written}
 use Rattle.df_base.specs.Log.{Event, Log, Stop, Sync, Write}
 use Rattle.df_base.specs.Moments.{Extends, adds}
@@ -76,3 +78,18 @@ goes_by (e ∷ es) t new is =
 
 pub goes_told : (t : Told) (new : Option Told) → (es : List Event) × (new ≡ after_all es (Some t)) → (n : Told) × (new ≡ Some n) × Goes t n
 goes_told t new told = goes_by told.0 t new told.1
+
+-- a device that isn't told stays one
+pub none_after : (es : List Event) → after_all es None ≡ None
+none_after [] = refl
+none_after (e ∷ es) = none_after es
+
+-- no events are a part of any
+pub nothing_is_part : (es : List Event) (old new : Option Told) → new ≡ old → AddsPart es old new
+nothing_is_part [] old new is = is
+nothing_is_part (e ∷ es) old new is = inl is
+
+-- a call that fails adds a part of its events
+pub adds_failed : {T E : Type 0} → (es : List Event) (old new : Option Told) (result : Result T E) → IsErr result → AddsPart es old new → Adds es old new result
+adds_failed es old new (Ok x) failed part = absurd (false≢true failed)
+adds_failed es old new (Err e) failed part = part

@@ -24,7 +24,3 @@ code_of-kind code kind is =
     let of_block = λ (found : cond (code == 4) (Some Block) (cond (code == 5) (Some Trailer) None) ≡ Some kind). code_by code (code == 4) Block kind _ refl found of_trailer in
     let of_reply = λ (found : cond (code == 3) (Some Reply) (cond (code == 4) (Some Block) (cond (code == 5) (Some Trailer) None)) ≡ Some kind). code_by code (code == 3) Reply kind _ refl found of_block in
     code_by code (code == 1) Reserved kind _ refl is (λ found. code_by code (code == 2) Prepare kind _ refl found of_reply)
-
-pub none_unless : {X : Type 0} (o : Option X) → ((x : X) → o ≡ Some x → ⊥) → o ≡ None
-none_unless None never = refl
-none_unless (Some x) never = absurd (never x refl)

@@ -6,6 +6,7 @@ use Rattle.std.proofs.lemmas.List.{take-replicate, drop-replicate}
 use Rattle.std.proofs.lemmas.Slice.Eq.{bytes_eq-Decides}
 use Rattle.df_base.specs.Fields.{check_of}
 use Rattle.df_base.specs.Image.{blank}
+use Rattle.df_base.proofs.Laws.{no_some}
 use Rattle.df_layout.specs.declared.damage.Class.{Class}
 use Rattle.df_layout.specs.declared.damage.Class.TheVariants.{Blank, Elsewhere, Stale}
 use Rattle.df_layout.specs.declared.places.Zone.TheVariants.{Superblock}
@@ -14,7 +15,6 @@ use Rattle.df_format.specs.declared.superblock.SuperCopy.{SuperCopy}
 use Rattle.df_format.specs.Copies.{copy_in, if_here, copy_at, content_of, is_blank_copy, class_of_sound, class_of_copy, copy_or_class, own_copy}
 use Rattle.df_format.specs.CopyLaws.{ValidCopyIsStale, StaleIsCopy, BlankShowsNoCopy}
 use Rattle.df_format.proofs.Digest.{check_of-zeros}
-use Rattle.df_format.proofs.Codes.{none_unless}
 use Rattle.df_format.proofs.CopySpelled.{read_as}
 use Rattle.df_format.proofs.Wholes.{unless_blank}
 
@@ -76,7 +76,7 @@ blank_is_blank number = (bytes_eq-Decides (replicate 4096 0) (replicate 4096 0))
 pub blank_copy_none : BlankShowsNoCopy
 unfolding copy_at
 blank_copy_none number =
-    let none : copy_in (blank number) ≡ None = none_unless _ (λ copy is. both_ways _ (copy_is_not_blank (blank number) copy is) (blank_is_blank number)) in
+    let none : copy_in (blank number) ≡ None = no_some _ (λ copy is. both_ways _ (copy_is_not_blank (blank number) copy is) (blank_is_blank number)) in
     ap (λ (o : Option SuperCopy). content_of (if_here number o)) none
 
 -- what a sector shows at a copy's place that is another copy

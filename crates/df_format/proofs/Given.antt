@@ -1,6 +1,6 @@
 -- What a maker gives of a header obeys the rules of its kind, and a unit is what its maker would make again.
-use Rattle.std.proofs.Common.{inl, inr, ◌≡◌, ◌↔◌, ℕ, ◌+◌, ◌^◌, ◌<◌, ◌≤◌, List, [], length, sym, ◌∙◌, ap, subst, arith}
-use Rattle.df_base.specs.Fields.{check_of}
+use Rattle.std.proofs.Common.{inl, inr, ◌≡◌, ◌↔◌, ℕ, ◌+◌, ◌^◌, ◌<◌, ◌≤◌, List, [], length, sym, ◌∙◌, ap, subst, arith, refl}
+use Rattle.df_base.specs.Fields.{check_of, spelled}
 use Rattle.df_format.specs.declared.header.Header.{Header}
 use Rattle.df_format.specs.declared.kind.Kind.{Kind}
 use Rattle.df_format.specs.declared.kind.Kind.TheVariants.{Reserved, Prepare as AsPrepare, Reply, Block, Trailer}
@@ -56,6 +56,10 @@ pub no_check : IsCheck no_checksum
 unfolding no_checksum
 no_check = so_many_zeros 16
 
+pub zeros_are : spelled 16 0 ≡ no_checksum
+unfolding spelled no_checksum
+zeros_are = refl
+
 -- ---- the version
 
 -- a header of version 1 as its maker leaves it
@@ -104,9 +108,6 @@ module _ (cluster : ℕ) (named : (0 < cluster) × (cluster < 2 ^ 128)) (h : Hea
   abbrev made : Kind → Header
   made kind = of_kind kind cluster h
 
-  none : IsCheck no_checksum
-  none = no_check
-
   version_made : (kind : Kind) → ObeysVersion kind h → ObeysVersion kind (made kind)
   version_made Reserved is = elim is [ inl first ↦ inl assumption | inr second ↦ inr assumption ]
   version_made _ is = elim is [ inl first ↦ inl assumption | inr second ↦ inr assumption ]
@@ -120,7 +121,7 @@ module _ (cluster : ℕ) (named : (0 < cluster) × (cluster < 2 ^ 128)) (h : Hea
   obeys_kind _ is = assumption
 
   fits : (kind : Kind) → ObeysVersion kind h → Gives kind h body → FitsFields (for_body (made kind) body)
-  fits Reserved version is = fits_body (made Reserved) body named.1 none (omega arith) (omega arith) (omega arith) (omega arith) (omega arith) (omega (arith, ap length is.1)) is.0 (omega arith)
+  fits Reserved version is = fits_body (made Reserved) body named.1 no_check (omega arith) (omega arith) (omega arith) (omega arith) (omega arith) (omega (arith, ap length is.1)) is.0 (omega arith)
       (version_fits Reserved (made Reserved) (none_fits 0 0) (version_made Reserved version))
   fits AsPrepare version is =
       fits_body (made AsPrepare) body named.1 is.0.parent is.0.client.1 (omega (arith, is.0.op.1)) (omega (arith, is.0.request.1)) (omega (arith, is.0.mark, is.0.op.1)) (omega (arith, is.0.checkpoint.1)) is.1
@@ -128,7 +129,7 @@ module _ (cluster : ℕ) (named : (0 < cluster) × (cluster < 2 ^ 128)) (h : Hea
   fits Reply version is =
       fits_body (made Reply) body named.1 is.0.parent is.0.client.1 (omega (arith, is.0.op.1)) (omega (arith, is.0.request.1)) (omega (arith, is.0.mark.1)) (omega (arith, is.0.checkpoint.1)) is.1 is.0.slot
       (omega arith) (version_fits Reply (made Reply) (none_fits 0 0) (version_made Reply version))
-  fits Block version is = fits_body (made Block) body named.1 none (omega arith) is.0.op.1 (omega arith) (omega arith) (omega arith) is.1 (omega arith) is.0.block_kind.1
+  fits Block version is = fits_body (made Block) body named.1 no_check (omega arith) is.0.op.1 (omega arith) (omega arith) (omega arith) is.1 (omega arith) is.0.block_kind.1
       (version_fits Block (made Block) (none_fits 0 0) (version_made Block version))
   fits Trailer version is = fits_body (made Trailer) body named.1 is.0.parent (omega arith) is.0.op.1 is.0.request.1 is.0.mark (omega (arith, is.0.checkpoint.1)) is.1 (omega arith) (omega arith)
       (version_fits Trailer (made Trailer) (none_fits 0 0) (version_made Trailer version))
@@ -155,7 +156,7 @@ bare : (kind : Kind) (h : Header) → (HasGroup kind h.op h.group h.group_last �
 bare kind h alone is parent client request mark checkpoint i = record (ungroup kind h alone is i) { parent = parent i; client = client i; request = request i; mark = mark i; checkpoint = checkpoint i }
 
 -- a reserved header no boot
-unbooted : (h : Header) → ObeysVersion Reserved h → h.boot ≡ 0
+pub unbooted : (h : Header) → ObeysVersion Reserved h → h.boot ≡ 0
 unbooted h is = elim is [ inl first ↦ first.boot | inr second ↦ second.boot ]
 
 again : (kind : Kind) (h : Header) (body : List ℕ) → h.kind ≡ kind → ObeysKind kind h → ObeysVersion kind h → IsBodyOf h body → record h { checksum = no_checksum } ≡ for_body (of_kind kind h.cluster h) body

@@ -1,9 +1,9 @@
 -- Which of some checksums are named: the first one that is, and that there is none.
-use Rattle.std.proofs.Common.{◌≡◌, ◌<◌, ◌≤◌, ◌+◌, ℕ, Bool, true, false, not, List, [], length, drop, get_or, Option, Some, None, refl, ap, arith}
+use Rattle.std.proofs.Common.{◌≡◌, ◌<◌, ◌≤◌, ◌+◌, ℕ, Bool, false, not, List, [], length, drop, get_or, Option, Some, None, refl, ap, arith}
 use Rattle.std.specs.Prelude.{nat_lt, is_none, option_map}
 use Rattle.std.specs.List.{position_or_len}
 use Rattle.std.specs.Bool.{Decides}
-use Rattle.std.proofs.lemmas.Bool.{cond-false, le-ltb, not_from_true}
+use Rattle.std.proofs.lemmas.Bool.{cond-false, le-ltb, not_from_true, not-false}
 use Rattle.std.proofs.lemmas.Bool.Decides.{Decides-and, Decides-like}
 use Rattle.std.proofs.lemmas.List.Sums.{fails_before_first, position_or_len_is}
 use Rattle.std.proofs.lemmas.Slice.Eq.{bytes_eq-Decides}
@@ -17,15 +17,11 @@ use Rattle.df_format.proofs.CopyParts.{no_place, unplaced}
 abbrev named : List ℕ → Bool
 named check = not (is_zero_check check)
 
-unnamed : (b : Bool) → not b ≡ false → b ≡ true
-unnamed true is = refl
-unnamed false is = absurd (cc)
-
 none_from : (checks : List (List ℕ)) → first_named checks ≡ None → AreNone checks
 none_from checks is k d inside =
     let all : length checks ≤ position_or_len named checks = unplaced (position_or_len named checks) (length checks) is in
     let fails : named (get_or checks k d) ≡ false = fails_before_first named checks k d (omega (arith, all, inside)) in
-    (bytes_eq-Decides (get_or checks k d) no_checksum).0 (unnamed _ fails)
+    (bytes_eq-Decides (get_or checks k d) no_checksum).0 (not-false _ fails)
 
 from_none : (checks : List (List ℕ)) → AreNone checks → first_named checks ≡ None
 from_none checks none =

@@ -6,6 +6,11 @@ use Rattle.std.proofs.lemmas.List.{drop_all, take-append-drop, drop-drop}
 use Rattle.df_base.specs.Fields.{AreBytes}
 use Rattle.df_base.specs.Image.{Image, IsImage, bytes_at, covers, written}
 use Rattle.df_base.proofs.Laws.{AreBytes-append}
+use Rattle.df_layout.specs.Spans.{sectors_before, span_of}
+use Rattle.df_layout.specs.Zones.{first_sector, zone_sectors}
+use Rattle.df_layout.specs.declared.layout.Layout.{Layout}
+use Rattle.df_layout.specs.declared.places.Zone.TheVariants.{WalHeaders}
+use Rattle.df_format.specs.Own.{place_in}
 
 pub length-bytes_at : (image : Image) (at n : ℕ) → IsImage image → length (bytes_at image at n) ≡ 4096 * n
 length-bytes_at image at zero is = refl
@@ -71,3 +76,8 @@ uncovered_below at bytes sector order = and_left _ _ (lt-leb at sector order)
 pub uncovered_above : (at : ℕ) (bytes : List ℕ) (sector n : ℕ) → length bytes ≤ 4096 * n → at + n ≤ sector → covers at bytes sector ≡ false
 unfolding covers
 uncovered_above at bytes sector n fits order = and_right _ _ (le-ltb (4096 * (sector - at)) (length bytes) (omega arith))
+
+-- the headers begin after the copies of the superblock
+pub slot_from : (layout : Layout) (slot : ℕ) → 4 ≤ (span_of layout (place_in WalHeaders slot)).first
+unfolding span_of sectors_before first_sector zone_sectors
+slot_from layout slot = omega arith

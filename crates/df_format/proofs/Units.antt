@@ -6,7 +6,7 @@ use Rattle.std.proofs.lemmas.List.{length-replicate, length-take-le, length-drop
 use Rattle.df_base.specs.Fields.{AreBytes}
 use Rattle.df_base.specs.Image.{Image, IsImage, blank, bytes_at, covers, written}
 use Rattle.df_base.specs.Log.{now}
-use Rattle.df_base.proofs.Laws.{AreBytes-append, AreBytes-take, AreBytes-drop, written_else}
+use Rattle.df_base.proofs.Laws.{AreBytes-append, AreBytes-take, AreBytes-drop, written_else, no_some}
 use Rattle.df_layout.specs.declared.damage.Class.TheVariants.{Blank}
 use Rattle.df_layout.specs.declared.layout.Layout.{Layout}
 use Rattle.df_layout.specs.declared.places.Place.{Place}
@@ -24,7 +24,6 @@ use Rattle.df_format.specs.Valid.{IsBodyOf, HasBody, IsUnit}
 use Rattle.df_format.specs.UnitLaws.{place_size, IsAtPlace, ShownBelongs, ReadBelongs, ValidBelongs, ShownIsUnit, AgreeAt, SameIsShown, ReadIsShown, WrittenIsShown, SectorsFitPlace, IsOther, WrittenIsApart, SectorIsShown, headers_bytes, HeadersFillSector, HeaderIsShown, BlankShowsNone, LeftIsApart}
 use Rattle.df_format.proofs.Messages.{length-sectors, AreBytes-sectors, AreBytes-spelling}
 use Rattle.df_format.proofs.Owned.{own_is, belongs}
-use Rattle.df_format.proofs.Codes.{none_unless}
 use Rattle.df_format.proofs.Sectors.{length-bytes_at, AreBytes-bytes_at, same_sectors, uncovered_above, uncovered_below, written_begins}
 use Rattle.df_format.proofs.Spelled.{length-spelling}
 use Rattle.df_format.proofs.Wholes.{unit_found, begun_is_shown, one_unit, fits_slot, zeros_are_none, blank-from}
@@ -237,6 +236,6 @@ pub blank_none : BlankShowsNone
 unfolding unit_at class_at class_of bytes_of
 blank_none layout cluster place =
     let zeros = blank_part place.zone place.index (span_of layout place).first (span_of layout place).count (omega (arith, some_sectors layout place.zone, count_is layout place)) in (
-      none_unless _ (λ u is. zeros_are_none _ u.header zeros (unit_found layout cluster place _ u is).header),
+      no_some _ (λ u is. zeros_are_none _ u.header zeros (unit_found layout cluster place _ u is).header),
       cond-true _ Blank _ (blank-from _ zeros),
     )

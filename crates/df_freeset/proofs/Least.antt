@@ -1,5 +1,5 @@
 -- The lowest zero of the words is the least free address.
-use Rattle.std.proofs.Common.{◌≡◌, ℕ, ◌+◌, ◌-◌, ◌*◌, ◌/◌, ◌%◌, ◌^◌, ◌<◌, ◌≤◌, Bool, true, false, inl, inr, Some, None, List, length, get_or, refl, sym, ◌∙◌, arith}
+use Rattle.std.proofs.Common.{◌≡◌, ℕ, ◌+◌, ◌-◌, ◌*◌, ◌/◌, ◌%◌, ◌^◌, ◌<◌, ◌≤◌, Bool, true, false, inl, inr, Some, None, List, length, get_or, refl, sym, ◌∙◌, arith, true≢false}
 use Rattle.std.specs.Prelude.{◌==◌, nat_lt, slice_index}
 use Rattle.std.specs.Int.{bit_at, trailing_ones, w64}
 use Rattle.std.specs.List.{position, position_or_len}
@@ -19,11 +19,8 @@ greatest_bits j within = bit_at_ones 64 j within
 pub full_bits : (word j : ℕ) → is_open word ≡ false → j < 64 → (bit_at word j == 1) ≡ true
 full_bits word j closed within = elim (cases_Bool (word == 18446744073709551615)) [
   | inl same ↦ rw (eqb-true word 18446744073709551615 same, greatest_bits j within) refl
-  | inr other ↦ absurd (let is : is_open word ≡ true = (rw other refl) in let both : true ≡ false = sym is ∙ closed in elim_both both)
+  | inr other ↦ absurd (let is : is_open word ≡ true = (rw other refl) in let both : true ≡ false = sym is ∙ closed in true≢false both)
 ]
-  where
-    elim_both : true ≡ false → ⊥
-    elim_both e = cc
 
 -- a word with a zero is below the greatest
 open_below : (word : ℕ) → is_open word ≡ true → word < 2 ^ 64 → word + 1 < 2 ^ 64
@@ -32,11 +29,8 @@ open_below word has_zero fits = elim (cases_lt word 18446744073709551615) [
   | inr above ↦
       let same : word ≡ 18446744073709551615 = omega arith in
       let closed : is_open word ≡ false = (rw (eq-eqb word 18446744073709551615 same) refl) in
-      absurd (elim_both (sym has_zero ∙ closed))
+      absurd (true≢false (sym has_zero ∙ closed))
 ]
-  where
-    elim_both : true ≡ false → ⊥
-    elim_both e = cc
 
 zero_at : (words : List ℕ) (w t word : ℕ) → word ≡ slice_index words w → t < 64 → bit_at word t ≡ 0 → bit_in words (w * 64 + t) ≡ false
 zero_at words w t word is small clear =
@@ -96,10 +90,7 @@ none_open words none k within = elim (cases_Bool (nat_lt (position_or_len is_ope
 pub some_open : (words : List ℕ) (w : ℕ) → Some w ≡ position is_open words → AreFull words → ⊥
 some_open words w found full =
     let facts : (w < length words) × (is_open (get_or words w 0) ≡ true) × ((k : ℕ) → k < w → is_open (get_or words k 0) ≡ false) = position-Some is_open words w 0 (sym found) in
-    clash (sym facts.1 ∙ full w facts.0)
-  where
-    clash : true ≡ false → ⊥
-    clash e = cc
+    true≢false (sym facts.1 ∙ full w facts.0)
 
 -- where all words are full, all addresses are taken
 pub full_is_taken : (words : List ℕ) (n : ℕ) → IsRoom words n → AreFull words → AreAllTaken (taken_in words n)

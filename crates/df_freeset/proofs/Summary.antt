@@ -1,5 +1,5 @@
 -- The summary has a bit for each word, set exactly where the word is full, whatever is taken and given back.
-use Rattle.std.proofs.Common.{◌≡◌, ◌≢◌, ℕ, ◌+◌, ◌*◌, ◌/◌, ◌%◌, ◌^◌, ◌<◌, ◌≤◌, Bool, true, false, inl, inr, List, length, set, refl, ap, sym, ◌∙◌, arith}
+use Rattle.std.proofs.Common.{◌≡◌, ◌≢◌, ℕ, ◌+◌, ◌*◌, ◌/◌, ◌%◌, ◌^◌, ◌<◌, ◌≤◌, Bool, true, false, inl, inr, List, length, set, refl, ap, sym, ◌∙◌, arith, true≢false}
 use Rattle.std.specs.Prelude.{◌==◌, not, slice_index}
 use Rattle.std.specs.Int.{bit_at, trailing_ones, w64}
 use Rattle.std.proofs.lemmas.Bool.{cases_Bool, cases_eq, eqb-true, eq-eqb, ne_eqb}
@@ -41,9 +41,6 @@ fills words summary n bit old within full =
     (room_written summary (setting summary (bit / 64)) (length words) (bit / 64) true row old.summary_room writes)
     (rw closed writes.there) writes.others
 
-clash : true ≡ false → ⊥
-clash e = cc
-
 -- one that has a zero left had one before
 stays_open : (word b : ℕ) → word < 2 ^ 64 → is_open (with_bit word b) ≡ true → is_open word ≡ true
 stays_open word b fits has_zero = elim (cases_Bool (word == 18446744073709551615)) [
@@ -52,7 +49,7 @@ stays_open word b fits has_zero = elim (cases_Bool (word == 18446744073709551615
       let fits_still : with_bit word b < 2 ^ 64 = or_lt 64 word (1 * 2 ^ b % 2 ^ 64) fits (mod_below (1 * 2 ^ b) (2 ^ 64) (pow_pos 64)) in
       let still : with_bit word b ≡ 18446744073709551615 = omega (arith, most, fits_still, le_or_l word (1 * 2 ^ b % 2 ^ 64)) in
       let closed : is_open (with_bit word b) ≡ false = (rw (eq-eqb (with_bit word b) 18446744073709551615 still) refl) in
-      absurd (clash (sym has_zero ∙ closed))
+      absurd (true≢false (sym has_zero ∙ closed))
   | inr other ↦ rw other refl
 ]
 
@@ -76,7 +73,7 @@ opens word b within = elim (cases_Bool (is_open (without_bit word b))) [
   | inr closed ↦
       let clear : bit_at (without_bit word b) b ≡ 0 = bit_at_clear_same w64 word b within in
       let there : (bit_at (without_bit word b) b == 1) ≡ true = full_bits (without_bit word b) b closed within in
-      absurd (clash (sym there ∙ (rw clear refl)))
+      absurd (true≢false (sym there ∙ (rw clear refl)))
 ]
 
 pub empties : (words summary : List ℕ) (n bit : ℕ) → IsFreeSet words summary n → bit < n → IsFreeSet (clearing words bit) (clearing summary (bit / 64)) n
