@@ -19,7 +19,7 @@ use Rattle.df_history.specs.OpenLaws.{AwakeLivedLaw, OpenLivedLaw}
 use Rattle.df_history.proofs.Joins.{on_holds, settled_ends}
 use Rattle.df_history.proofs.Mores.{AreOld, grows_more, more_boot}
 use Rattle.df_history.proofs.Since.{among_low, old_boots}
-use Rattle.df_history.proofs.Moments.{begins_law, boot_lived_law, ends_among, grown_one, made_choice, start_among}
+use Rattle.df_history.proofs.Moments.{begins_law, boot_lived_law, ends_among, grown_one, made_choice, start_among, last_is}
 use Rattle.df_history.proofs.Mendings.{dry_mend, each_last, mend_lived_law, start_same}
 
 -- ---- however it grows
@@ -109,11 +109,6 @@ awake_lived_law sh log before logs begun lived above ss at = awake_steps sh befo
 
 -- ---- the open
 
--- the newest view is the one that the log rests on
-newest_is : (sh : Shape) (rest images : List Units) (x y : View) → GrowsOn sh rest images x → Grows sh images y → x ≡ y
-newest_is sh rest [] x y one two = absurd one
-newest_is sh rest (i ∷ images) x y one two = one_view sh i x y (on_holds sh rest i images x one) two.0
-
 pub raise_lived_law : RaiseLivedLaw
 raise_lived_law sh log before logs w table headers copies d puts lived may dry boot =
     let mends = mend_law sh log w table headers copies may in
@@ -132,12 +127,12 @@ raise_lived_law sh log before logs w table headers copies d puts lived may dry b
   where
     -- the boot of the start isn't above that of the view
     low : boot_of lived.0.view ≤ boot_of w
-    low = omega (arith, among_low sh (all_settled (before ∷ logs)) (settled log) lived.0.newest lived.0.grows log.start (start_among log) lived.0.view lived.0.holds, ap boot_of (newest_is sh (all_settled (before ∷ logs)) (settled log) lived.0.newest w lived.0.grows may.rests.grows))
+    low = omega (arith, among_low sh (all_settled (before ∷ logs)) (settled log) lived.0.newest lived.0.grows log.start (start_among log) lived.0.view lived.0.holds, ap boot_of (last_is sh (all_settled (before ∷ logs)) (settled log) lived.0.newest w lived.0.grows may.rests.grows))
 
     above : (l : UnitLog) (begun : IsBegunAnew sh l before logs) → RestsOn sh l (booted w d) → l.start ≡ log.start → boot_of begun.view < boot_of begun.newest
     above l begun rests is =
         let old : begun.view ≡ lived.0.view = one_view sh log.start begun.view lived.0.view (subst (λ (i : Units). Holds sh i begun.view) is begun.holds) lived.0.holds in
-        omega (arith, low, boot.is.boot, ap boot_of old, ap boot_of (newest_is sh (all_settled (before ∷ logs)) (settled l) begun.newest (booted w d) begun.grows rests.grows))
+        omega (arith, low, boot.is.boot, ap boot_of old, ap boot_of (last_is sh (all_settled (before ∷ logs)) (settled l) begun.newest (booted w d) begun.grows rests.grows))
 
 -- ---- an open, and what follows it
 

@@ -52,7 +52,7 @@ reopened logs log image w table headers copies d puts ss u lived may places find
       rests = goes_on.1;
     }
 
-history_pools : (logs : List UnitLog) (place : Place) (x : AnyUnit) → InHistoryPool logs place x → InHistoryPools logs place x
+pub history_pools : (logs : List UnitLog) (place : Place) (x : AnyUnit) → InHistoryPool logs place x → InHistoryPools logs place x
 history_pools [] place x at = at
 history_pools (log ∷ logs) place x (inl here) = inl (pool_pools log.start log.events place x here)
 history_pools (log ∷ logs) place x (inr older) = inr (history_pools logs place x older)

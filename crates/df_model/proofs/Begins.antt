@@ -3,7 +3,7 @@ use Rattle.std.proofs.Common.{◌≡◌, inl, inr, ℕ, zero, suc, ◌+◌, ◌-
 use Rattle.std.specs.List.{filter, range_with_len}
 use Rattle.std.proofs.lemmas.Bool.Decides.{nat_tests}
 use Rattle.std.proofs.Math.Nat.{mul-add}
-use Rattle.std.proofs.lemmas.Bool.{eqb-false}
+use Rattle.std.proofs.lemmas.Bool.{eqb-false, or_right}
 use Rattle.df_theory.specs.Units.{Block, Parts}
 use Rattle.df_theory.specs.Trailer.{InChain, IsCount, Says, text_of}
 use Rattle.df_theory.specs.Shape.{Shape}
@@ -60,11 +60,7 @@ free_case x a rest false same is = ap (λ (d : Bool). d || is_in a rest) same
 
 free_more : (x a : ℕ) (rest : List ℕ) (h : Bool) → is_in a rest ≡ true → is_in a (cond (not h) (x ∷ rest) rest) ≡ true
 free_more x a rest true there = there
-free_more x a rest false there = or_is (a == x) (is_in a rest) there
-  where
-    or_is : (c d : Bool) → d ≡ true → (c || d) ≡ true
-    or_is true d is = refl
-    or_is false d is = is
+free_more x a rest false there = or_right (a == x) (is_in a rest) there
 
 in_free : (held : ℕ → Bool) (s n a : ℕ) → s ≤ a → a < s + n → held a ≡ false → is_in a (filter (λ x. not (held x)) (range_with_len s n)) ≡ true
 in_free held s zero a from to free = absurd (omega arith)

@@ -16,7 +16,7 @@ use Rattle.df_model.specs.Sense.{AreStaged}
 -- ---- what sessions go by
 
 -- a table notes a header by its session
-noted_alike : (g h : Header) (ss : List Session) → session_of g ≡ session_of h → noted g ss ≡ noted h ss
+pub noted_alike : (g h : Header) (ss : List Session) → session_of g ≡ session_of h → noted g ss ≡ noted h ss
 noted_alike g h [] same = ap (λ (s : Session). s ∷ []) same
 noted_alike g h (x ∷ ss) same = λ i. if x.client == (same i).client then same i ∷ ss else x ∷ noted_alike g h ss same i
 

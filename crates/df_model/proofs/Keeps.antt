@@ -224,7 +224,7 @@ either_three : (a b : Bool) → (a || (false || (a || b))) ≡ true → (a || b)
 either_three true b is = refl
 either_three false b is = is
 
-some_known : (o : Option ℕ) → is_known o ≡ true → (c : ℕ) × (o ≡ Some c)
+pub some_known : (o : Option ℕ) → is_known o ≡ true → (c : ℕ) × (o ≡ Some c)
 some_known None is = absurd (cc)
 some_known (Some c) is = (c, refl)
 
@@ -242,7 +242,7 @@ links_above room c (x ∷ xs) address checksum a b links (inl here) = omega (ari
 links_above room c (x ∷ xs) address checksum a b links (inr there) = links_above room c xs x.1.before x.1.before_checksum a b links.7 there
 
 -- what a trailer says is lawful
-parts_lawful : (sh : Shape) (spell : Parts → List ℕ) → IsCodec sh spell → (op : ℕ) (chain : List (ℕ × Block)) (parts : Parts) → AreBytes (text_of chain) → Says sh op chain parts → IsLawful sh.layout op parts
+pub parts_lawful : (sh : Shape) (spell : Parts → List ℕ) → IsCodec sh spell → (op : ℕ) (chain : List (ℕ × Block)) (parts : Parts) → AreBytes (text_of chain) → Says sh op chain parts → IsLawful sh.layout op parts
 parts_lawful sh spell codec op [] parts bytes says = subst (IsLawful sh.layout op) (sym says) (record {
   root = (omega arith, λ i. omega arith);
   sessions = record { few = omega arith; each = λ k s at. absurd (cc); apart = λ j k s t at other same. absurd (cc) };

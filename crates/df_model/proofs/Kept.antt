@@ -43,8 +43,12 @@ chain_at clients op parent mark ss (x ∷ ps) (suc i) chain less =
 
 -- ---- what is given, where the unit is shown
 
-same_sum : (known : Option ℕ) (sum : ℕ) → known ≡ Some sum → is_sum known sum ≡ true
+pub same_sum : (known : Option ℕ) (sum : ℕ) → known ≡ Some sum → is_sum known sum ≡ true
 same_sum known sum knows = ap (λ (k : Option ℕ). is_sum k sum) knows ∙ eq-eqb sum sum refl
+
+pub known_is : (known : Option ℕ) (sum : ℕ) → is_sum known sum ≡ true → known ≡ Some sum
+known_is None sum is = absurd (cc)
+known_is (Some k) sum is = ap Some (sym (eqb-true sum k is))
 
 pub prepare_shown : (known : Option ℕ) (unit : Option AnyUnit) (class : Class) (p : Message) → unit ≡ Some (PrepareUnit p) → known ≡ Some p.header.checksum → prepare_given known unit class ≡ Ok p
 prepare_shown known unit class p shows knows = ap (λ (u : Option AnyUnit). prepare_given known u class) shows ∙ ap (λ (b : Bool). given_if b p class) (same_sum known p.header.checksum knows)

@@ -11,7 +11,7 @@ use Rattle.df_theory.specs.Tails.{last_checksum}
 use Rattle.df_theory.specs.Shape.{Shape}
 use Rattle.df_theory.specs.View.{View, head, sessions}
 use Rattle.df_theory.specs.Next.{AreInTurn, appended, checkpointed, kept as kept_at}
-use Rattle.df_theory.proofs.Laws.{noted_get, sessions-append, tracks}
+use Rattle.df_theory.proofs.Laws.{noted_get, sessions-append, tracks, last_checksum-append}
 use Rattle.df_model.specs.Work.{Request, Running, Work}
 use Rattle.df_model.specs.Blocks.{Blocks, blocks_of}
 use Rattle.df_model.specs.Memory.{Memory, course, course_of, memory_of, stored_sum, sum_of_message}
@@ -152,10 +152,6 @@ group_is top parent (p ∷ ps) ss st turn low =
 
 -- ---- the tail
 
-last_both : (c : ℕ) (ps qs : List Message) → last_checksum c (ps ++ qs) ≡ last_checksum (last_checksum c ps) qs
-last_both c [] qs = refl
-last_both c (x ∷ ps) qs = last_both x.header.checksum ps qs
-
 last_more : (c : ℕ) (ps : List Message) (p : Message) → last_checksum c (ps ++ p ∷ []) ≡ p.header.checksum
 last_more c [] p = refl
 last_more c (x ∷ ps) p = last_more x.header.checksum ps p
@@ -207,7 +203,7 @@ module _ (sh : Shape) (spell : Parts → List ℕ) (w : Work) (given : Given) (w
       let last = last_checksum v.checkpoint.content.op_checksum (v.tail ++ ps) in
       let turn = in_turn m (head v + 1) (head v + length w.staged) (head v + 1) m.head_checksum w.staged sums in
       ap (λ (h : ℕ). T h last (sessions u) all stored) (let e : head u ≡ head v + length ps = omega (arith, length-append v.tail ps) in e)
-      ∙ ap (λ (c : ℕ). T (head v + length ps) c (sessions u) all stored) (last_both v.checkpoint.content.op_checksum v.tail ps)
+      ∙ ap (λ (c : ℕ). T (head v + length ps) c (sessions u) all stored) (last_checksum-append v.checkpoint.content.op_checksum v.tail ps)
       ∙ ap (λ (ss : List Session). T (head v + length ps) (last_checksum m.head_checksum ps) ss all stored) noted_now
       ∙ ap (λ (qs : List ℕ). T (head v + length ps) (last_checksum m.head_checksum ps) (sessions_after (sessions v) ps) qs stored) (map-append sum_of_message v.tail ps)
       ∙ ap (λ (st : List (Option ℕ)). T (head v + length ps) (last_checksum m.head_checksum ps) (sessions_after (sessions v) ps) (map sum_of_message v.tail ++ map sum_of_message ps) st) (

@@ -9,7 +9,7 @@ use Rattle.df_theory.specs.Runs.{Step, Syncs, after_steps}
 use Rattle.df_theory.specs.MakingLaws.{all_puts}
 use Rattle.df_theory.specs.MendLaws.{AllPutTable, PutsTable}
 use Rattle.df_theory.specs.WriterLaws.{AllPutPrepare, IsHeaderSector}
-use Rattle.df_theory.proofs.Laws.{after_append, put_else, put_one_law}
+use Rattle.df_theory.proofs.Laws.{after_append, put_else, put_one_law, else_join}
 use Rattle.df_model.specs.Work.{Running, Work}
 use Rattle.df_model.specs.Memory.{Memory, course, course_of, memory_of, prepare_sum, reply_sum}
 use Rattle.df_model.specs.Blocks.{sum_at}
@@ -150,12 +150,8 @@ prepares_agree sh (p ∷ ps) (put ∷ puts) log under all agree =
     let rest = group_puts sh.layout.slots ps in
     let one = agree_one put (now log) under (PreparePlace (p.header.op % sh.layout.slots)) (PrepareUnit p) all.0 agree in
     let more = prepares_agree sh ps puts (wrote put log) (overlay own under) all.1 one in
-    let both : (place : Place) → overlay rest (overlay own under) place ≡ overlay (overlay rest own) under place = λ place. over_both (rest place) (own place) (under place) in
+    let both : (place : Place) → overlay rest (overlay own under) place ≡ overlay (overlay rest own) under place = λ place. else_join (rest place) (own place) (under place) in
     record { prepare = λ s. more.prepare s ∙ both (PreparePlace s); reply = λ k. more.reply k ∙ both (ReplyPlace k); block = λ a. more.block a ∙ both (BlockPlace a) }
-  where
-    over_both : (x y z : Option AnyUnit) → or_else x (or_else y z) ≡ or_else (or_else x y) z
-    over_both None y z = refl
-    over_both (Some x) y z = refl
 
 table_aside : (table : ℕ → Header) (put image : Units) → PutsTable table put → AgreeReads (overlay put image) image
 table_aside table put image all = record { prepare = λ s. go (PreparePlace s) (λ k same. cc (same)); reply = λ k. go (ReplyPlace k) (λ i same. cc (same)); block = λ a. go (BlockPlace a) (λ k same. cc (same)) }

@@ -8,8 +8,9 @@ use Rattle.df_theory.specs.Sessions.{Has, MayAsk, noted, session_of, sessions_af
 use Rattle.df_theory.specs.Tails.{Chain, In}
 use Rattle.df_theory.proofs.Laws.{noted_get}
 use Rattle.df_model.specs.Codec.{AreLawful, IsLawfulSession}
-use Rattle.df_model.specs.Refusals.{session_of_client}
+use Rattle.df_model.specs.Refusals.{session_of_client, is_new}
 use Rattle.df_model.specs.Making.{place_of_op}
+use Rattle.df_model.specs.After.{place_of_client}
 
 -- ---- a client's session
 
@@ -112,3 +113,13 @@ found_case op x ss false is (suc k, s, at, op_is) more = more (k, s, at, op_is)
 pub op_found : (op : ℕ) (ss : List Session) → Has ss op → IsAtOp op ss
 op_found op [] has = absurd (let none : None ≡ Some has.1 = has.2 in cc)
 op_found op (x ∷ ss) has = found_case op x ss (x.op == op) refl has (λ more. op_found op ss more)
+
+-- a client that has a session has it at one of their places
+pub place_known : (client : ℕ) (ss : List Session) → is_new (session_of_client client ss) ≡ false → place_of_client client ss < length ss
+place_known client [] known = absurd (cc)
+place_known client (s ∷ ss) known = go (s.client == client) known (place_known client ss)
+  where
+    go : (b : Bool) → is_new (if b then Some s else session_of_client client ss) ≡ false → (is_new (session_of_client client ss) ≡ false → place_of_client client ss < length ss)
+        → (if b then 0 else suc (place_of_client client ss)) < length (s ∷ ss)
+    go true known more = omega arith
+    go false known more = omega (arith, more known)

@@ -103,3 +103,7 @@ tour_law sh codec shown w start few =
           ∙ ap (λ (n : ℕ). checks shown xs ++ ToScrub (TourEnd (length xs) n) ∷ []) (let e : 0 + length (failing shown xs) ≡ length (failing shown xs) = omega arith in e);
       after = tour_after sh codec shown xs w all ∙ ap (λ (fs : List Finding). record w { tour = first_tour; findings = fs }) (pushed w.findings (failing shown xs) few);
     }
+
+pub put_first : (a : ℕ) (v : Verdict) (rest : List Finding) → with_finding a v rest ≡ with_finding a v [] ++ rest
+put_first a Sound rest = refl
+put_first a (Failing class) rest = refl

@@ -1,6 +1,6 @@
 -- The recovery table over an image whose units agree with a view.
 use Rattle.std.proofs.Common.{◌≡◌, ◌⊎◌, inl, inr, ℕ, ◌==◌, nat_lt, Bool, true, false, if◌then◌else◌, ◌+◌, ◌%◌, ◌<◌, ◌≤◌, Option, Some, None, refl, sym, ◌∙◌, ap, subst, arith}
-use Rattle.std.proofs.lemmas.Bool.{cases_eq, cases_lt}
+use Rattle.std.proofs.lemmas.Bool.{cases_eq, cases_lt, eq-eqb}
 use Rattle.std.proofs.lemmas.Bool.Decides.{nat_tests}
 use Rattle.df_theory.specs.Units.{AnyUnit, BlockUnit, Content, CopyUnit, Header, HeaderPlace, HeaderUnit, Message, Place, PreparePlace, PrepareUnit, ReplyPlace, ReplyUnit, Units}
 use Rattle.df_theory.specs.Tails.{In}
@@ -39,14 +39,11 @@ take_old (Current a) take = take
 take_old Far take = take
 
 pub same_take : (a b : ℕ) → a ≡ b → IsTake (case (Current a) (Current b))
-same_take a b is = go (a == b) (eq_true a b is)
+same_take a b is = go (a == b) (eq-eqb a b is)
   where
     go : (t : Bool) → t ≡ true → IsTake (if t then Take false else Lost)
     go true yes_true = tt
     go false no_true = absurd (cc)
-
-    eq_true : (a b : ℕ) → a ≡ b → (a == b) ≡ true
-    eq_true a b e = grind (arith, nat_tests)
 
 pub take_same : (a b : ℕ) → IsTake (case (Current a) (Current b)) → a ≡ b
 take_same a b is = elim (cases_eq a b) [

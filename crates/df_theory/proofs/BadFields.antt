@@ -26,7 +26,7 @@ links_more sh c n i [] d are count link = (i, omega arith, link, tt)
 links_more sh c n i (b ∷ bs) d are count link = (are.0, are.1, are.2, links_more sh c are.0 i bs d are.3 (omega (arith, are.1)) link)
 
 -- a block of a chain that passes its tests is a link
-link_of : (sh : Shape) (c : Content) (d : ℕ × Block) (ds : List (ℕ × Block)) (a k : ℕ) → Links (sh.layout.block_size - 256) c (d ∷ ds) a k → ((e : ℕ) (x : Block) → InChain e x ds → e ≤ sh.layout.blocks) → IsLink sh c (length ds) d.1
+pub link_of : (sh : Shape) (c : Content) (d : ℕ × Block) (ds : List (ℕ × Block)) (a k : ℕ) → Links (sh.layout.block_size - 256) c (d ∷ ds) a k → ((e : ℕ) (x : Block) → InChain e x ds → e ≤ sh.layout.blocks) → IsLink sh c (length ds) d.1
 link_of sh c d [] a k links inside = record { sequence = links.3; place = links.4; size = links.5; before = λ above. absurd (omega arith) }
 link_of sh c d (e ∷ ds) a k links inside = record { sequence = links.3; place = links.4; size = links.5; before = λ above. (links.7.0, omega (arith, inside e.0 e.1 (inl (refl, refl)), links.7.1)) }
 

@@ -27,7 +27,7 @@ chain_at clients op parent mark ss (p ∷ ps) o chain from to = elim (cases_eq o
 ]
 
 -- the mark of the last is near its op
-chain_near : (clients op parent mark m : ℕ) (ss : List Session) (ps : List Message) → Chain clients op parent mark ss ps → 0 < length ps → op + length ps ≤ last_mark m ps + 9
+pub chain_near : (clients op parent mark m : ℕ) (ss : List Session) (ps : List Message) → Chain clients op parent mark ss ps → 0 < length ps → op + length ps ≤ last_mark m ps + 9
 chain_near clients op parent mark m ss [] chain some = absurd (omega arith)
 chain_near clients op parent mark m ss (p ∷ []) chain some = omega (arith, chain.0.mark_near)
 chain_near clients op parent mark m ss (p ∷ q ∷ ps) chain some = omega (arith, chain_near clients (op + 1) p.header.checksum p.header.mark p.header.mark (noted p.header ss) (q ∷ ps) chain.1 (omega arith))

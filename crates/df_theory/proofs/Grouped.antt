@@ -7,7 +7,7 @@ use Rattle.df_theory.specs.Shape.{clients}
 use Rattle.df_theory.proofs.Tails.{chain_ops}
 
 -- after a group that is over it doesn't matter which one it was
-fits_closed : (f g l m op : ℕ) (h : Header) → l < op → m < op → FitsGroup f l op h → FitsGroup g m op h
+pub fits_closed : (f g l m op : ℕ) (h : Header) → l < op → m < op → FitsGroup f l op h → FitsGroup g m op h
 fits_closed f g l m op h below low (inl fits) = inl (low, fits.1, fits.2)
 fits_closed f g l m op h below low (inr fits) = absurd (omega (arith, fits.0))
 

@@ -111,7 +111,7 @@ pub whole_block_law : WholeBlockLaw
 whole_block_law sh image put v a b one whole = whole_beside sh image put v (BlockPlace a) (BlockUnit b) one (λ n same. cc (same)) (λ s same. cc (same)) whole
 
 -- of two numbers of copies the places differ
-apart : (n k : ℕ) → (n ≡ k → ⊥) → CopyPlace n ≡ CopyPlace k → ⊥
+pub apart : (n k : ℕ) → (n ≡ k → ⊥) → CopyPlace n ≡ CopyPlace k → ⊥
 apart n k differ same = differ (let at : CopyPlace n ≡ CopyPlace k = same in cc)
 
 pub copy_over : (put image : Units) (k n : ℕ) (c : Content) → PutsOne put (CopyPlace k) (CopyUnit c) → (n ≡ k → ⊥) → overlay put image (CopyPlace n) ≡ image (CopyPlace n)

@@ -29,7 +29,7 @@ same_chain room content image (c ∷ cs) (d ∷ ds) address checksum one two sho
     λ i. (place i, block i) ∷ rest i
 
 -- one chain says one thing
-same_says : (sh : Shape) (op : ℕ) (cs : List (ℕ × Block)) (p q : Parts) → Says sh op cs p → Says sh op cs q → p ≡ q
+pub same_says : (sh : Shape) (op : ℕ) (cs : List (ℕ × Block)) (p q : Parts) → Says sh op cs p → Says sh op cs q → p ≡ q
 same_says sh op [] p q one two = one ∙ sym two
 same_says sh op (c ∷ cs) p q one two = let both : Some p ≡ Some q = sym one ∙ two in cc
 

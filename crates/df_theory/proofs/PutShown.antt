@@ -16,3 +16,8 @@ put_shown_law f at bytes put is piece within touched shown = record { piece = pi
     shows_at image place None whole none =
         untouched_stays f is at bytes place image (touched place ∙ ap is_some none) ∙ ap (λ (o : Option AnyUnit). or_else o (f.unit_at image place)) (sym none)
     shows_at image place (Some x) whole some = shown image place x whole some ∙ ap (λ (o : Option AnyUnit). or_else o (f.unit_at image place)) (sym some)
+
+-- what stands before others
+pub else_join : (a b c : Option AnyUnit) → or_else a (or_else b c) ≡ or_else (or_else a b) c
+else_join (Some x) b c = refl
+else_join None b c = refl

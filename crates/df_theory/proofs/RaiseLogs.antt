@@ -15,6 +15,7 @@ use Rattle.df_theory.proofs.Standing.{miss}
 use Rattle.df_theory.proofs.Mends.{no_copy}
 use Rattle.df_theory.proofs.CopyVotes.{IsStage}
 use Rattle.df_theory.proofs.Raised.{IsAfter, IsBody}
+use Rattle.df_theory.proofs.Keeps.{apart}
 
 -- ---- a place that isn't loose
 
@@ -133,14 +134,11 @@ module _ (image : Units) (table : ℕ → Header) where
       second = firm_wrote log put (CopyPlace n) (Some (CopyUnit c)) (no_copy table put puts n) is.second;
     }
 
-    apart_copies : (i k : ℕ) → (i ≡ k → ⊥) → CopyPlace i ≡ CopyPlace k → ⊥
-    apart_copies i k differ same = differ (let at : CopyPlace i ≡ CopyPlace k = same in cc)
-
     restoring_copy : (k : ℕ) (put : Units) (log : UnitLog) → PutsOne put (CopyPlace k) (CopyUnit c) → (m ≡ k → ⊥) → (n ≡ k → ⊥) → IsRestoring log → IsRestoring (wrote put log)
     restoring_copy k put log one no_m no_n is = record {
       moment = moment_copy IsChoice put log k c one refl is.moment;
-      first = firm_wrote log put (CopyPlace m) (Some (CopyUnit c)) (miss put (CopyPlace k) (CopyPlace m) (CopyUnit c) one (apart_copies m k no_m)) is.first;
-      second = firm_wrote log put (CopyPlace n) (Some (CopyUnit c)) (miss put (CopyPlace k) (CopyPlace n) (CopyUnit c) one (apart_copies n k no_n)) is.second;
+      first = firm_wrote log put (CopyPlace m) (Some (CopyUnit c)) (miss put (CopyPlace k) (CopyPlace m) (CopyUnit c) one (apart m k no_m)) is.first;
+      second = firm_wrote log put (CopyPlace n) (Some (CopyUnit c)) (miss put (CopyPlace k) (CopyPlace n) (CopyUnit c) one (apart n k no_n)) is.second;
     }
 
     restoring_puts : (puts : List Units) (log : UnitLog) → AllPutTable table puts → IsRestoring log → AtEach IsRestoring log (all_puts puts) × IsRestoring (after_steps (all_puts puts) log)

@@ -21,6 +21,10 @@ pub last_mark-append : (m : ℕ) (ps qs : List Message) → last_mark m (ps ++ q
 last_mark-append m [] qs = refl
 last_mark-append m (x ∷ ps) qs = last_mark-append x.header.mark ps qs
 
+pub last_checksum-append : (c : ℕ) (ps qs : List Message) → last_checksum c (ps ++ qs) ≡ last_checksum (last_checksum c ps) qs
+last_checksum-append c [] qs = refl
+last_checksum-append c (x ∷ ps) qs = last_checksum-append x.header.checksum ps qs
+
 -- where each carries this mark
 pub last_mark-each : (m n : ℕ) (ps : List Message) → 0 < length ps → ((p : Message) → In p ps → p.header.mark ≡ n) → last_mark m ps ≡ n
 last_mark-each m n [] some each = absurd (omega arith)

@@ -7,13 +7,13 @@ use Rattle.df_theory.specs.UnitLog.{IsLeftBy, UnitLog, loose, now, put_one, wrot
 use Rattle.df_theory.specs.Chance.{NoChance}
 use Rattle.df_theory.specs.Rests.{Stepped}
 use Rattle.df_theory.specs.Sample.{StopSampleLaw}
-use Rattle.df_theory.proofs.Writes.{prepare_steps}
 use Rattle.df_theory.proofs.PutOne.{put_one_law}
 use Rattle.df_theory.proofs.AllOf.{All}
 use Rattle.df_theory.proofs.Ours.{IsOurs, distinct_in, log1_all, prepare_other}
 use Rattle.df_theory.proofs.SampleSteps.{may_append}
 use Rattle.df_theory.proofs.SampleUnits.{put_all, wrote_pooled}
 use Rattle.df_theory.proofs.Samples.{shape, view1, log1, leads1}
+use Rattle.df_theory.proofs.Flushes.{prepare_step}
 
 abbrev put2 : Units
 put2 = put_one (PreparePlace 2) (PrepareUnit prepare_other)
@@ -32,7 +32,7 @@ may2 = may_append shape view1 (prepare_other ∷ []) (omega arith) (refl, refl, 
     (inr (λ same. omega arith, 3, refl, (refl, omega arith)), tt)
 
 stepped : Stepped shape log1 put2 view1 view2
-stepped = prepare_steps shape log1 view1 put2 prepare_other leads1.0.leads.rests (λ place wet. absurd (let no_unit : false ≡ true = wet in cc)) leads1.0.tidy.clear may2 (put_one_law (PreparePlace 2) (PrepareUnit prepare_other))
+stepped = prepare_step shape log1 view1 put2 prepare_other leads1.0.leads.rests (λ place wet. absurd (let no_unit : false ≡ true = wet in cc)) leads1.0.tidy.clear may2 (put_one_law (PreparePlace 2) (PrepareUnit prepare_other))
 
 before_left : IsLeftBy log2 (now log1)
 before_left place firm = go (put2 place) refl

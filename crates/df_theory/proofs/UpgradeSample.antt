@@ -69,7 +69,7 @@ copy_low : (b : Bool) → (if b then content2 else content1).checksum < 2 ^ 128
 copy_low true = omega arith
 copy_low false = omega arith
 
-low_bytes : (i : ℕ) → slice_index (0 ∷ []) i < 256
+pub low_bytes : (i : ℕ) → slice_index (0 ∷ []) i < 256
 low_bytes zero = omega arith
 low_bytes (suc i) = omega arith
 

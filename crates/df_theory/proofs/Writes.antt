@@ -8,7 +8,7 @@ use Rattle.df_theory.specs.Copies.{Agree}
 use Rattle.df_theory.specs.Trailer.{InChain}
 use Rattle.df_theory.specs.View.{View, boot_of, head}
 use Rattle.df_theory.specs.Holds.{Holds}
-use Rattle.df_theory.specs.Next.{Boot, Finish, MayAppend, appended, booted, checkpointed, replied}
+use Rattle.df_theory.specs.Next.{Boot, Finish, appended, booted, checkpointed, replied}
 use Rattle.df_theory.specs.UnitLog.{PutsOne, Stopped, Synced, UnitLog, add, now, settled, wrote}
 use Rattle.df_theory.specs.First.{AreMade}
 use Rattle.df_theory.specs.Grown.{IsClear}
@@ -94,9 +94,6 @@ good_both sh log v u good = record { safe = good.safe; left = λ j left chance. 
 
 pub good_first : (sh : Shape) (log : UnitLog) (v u : View) → IsGoodLog sh v v log → IsGoodLog sh v u log
 good_first sh log v u good = record { safe = good.safe; left = λ j left chance. elim (good.left j left chance) [ inl is ↦ inl is | inr is ↦ inl is ] }
-
-pub prepare_steps : (sh : Shape) (log : UnitLog) (v : View) (put : Units) (p : Message) → RestsOn sh log v → IsQuiet log → IsClear (settled log) v → MayAppend sh v (p ∷ []) → PutsOne put (PreparePlace (p.header.op % sh.layout.slots)) (PrepareUnit p) → Stepped sh log put v (appended v (p ∷ []))
-prepare_steps sh log v put p rests quiet clear may one = prepare_step sh log v put p rests quiet clear may one
 
 pub reply_law : ReplyLaw
 reply_law sh log v put place r rests quiet may one =
@@ -193,7 +190,7 @@ append_law sh log v p prepare headers rests quiet clear may one sector =
     }
   where
     first : Stepped sh log prepare v (appended v (p ∷ []))
-    first = prepare_steps sh log v prepare p rests quiet clear may one
+    first = prepare_step sh log v prepare p rests quiet clear may one
 
     second : RestsOn sh (wrote headers (add Synced (wrote prepare log))) (appended v (p ∷ [])) × Stepped sh (add Synced (wrote prepare log)) headers (appended v (p ∷ [])) (appended v (p ∷ []))
     second = header_law sh (add Synced (wrote prepare log)) (appended v (p ∷ [])) headers first.rests (record { each = mends })

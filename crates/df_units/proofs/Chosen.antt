@@ -5,7 +5,7 @@ use Rattle.std.proofs.lemmas.Bool.{cases_eq}
 use Rattle.std.proofs.lemmas.List.{length-drop, length-map, length-take-le}
 use Rattle.std.proofs.lemmas.Option.{same_Some}
 use Rattle.df_base.specs.Image.{Image, IsImage, IsSector}
-use Rattle.df_base.proofs.Laws.{AreBytes-take, AreBytes-drop}
+use Rattle.df_base.proofs.Laws.{AreBytes-take, AreBytes-drop, same_front}
 use Rattle.df_layout.specs.declared.layout.Layout.{Layout}
 use Rattle.df_format.specs.declared.superblock.SuperCopy.{SuperCopy}
 use Rattle.df_format.specs.Spelling.{IsCheck}
@@ -19,7 +19,7 @@ use Rattle.df_units.specs.Meaning.{content_of, number_of, offset_list, or_nothin
 use Rattle.df_units.specs.Bytes.{copy_unit, unit_at}
 use Rattle.df_units.specs.Superblocks.{ChoiceIsChosen, ChosenIsChoice, HasChecks, ShownHasChecks, SplitIsSplit}
 use Rattle.df_units.proofs.Numbers.{one_number}
-use Rattle.df_units.proofs.Versions.{by_other, by_second, checks_same, named_or_nothing, parts_same}
+use Rattle.df_units.proofs.Versions.{by_other, by_second, checks_same, named_or_nothing}
 
 -- ---- contents
 
@@ -65,7 +65,7 @@ named_same c d one two same =
           let many : length (map number_of f.reply_checksums) ≡ 64 = length-map f.reply_checksums number_of ∙ one.reply_checksums.size in
           let also : length (map number_of g.reply_checksums) ≡ 64 = length-map g.reply_checksums number_of ∙ two.reply_checksums.size in
           let both = named_or_nothing mine its (offset_list f.first_nonzero) (offset_list g.first_nonzero) (omega (arith, many, also)) (omega (arith, also, few g.first_nonzero, few f.first_nonzero)) (omega (arith, many, few g.first_nonzero)) all in
-          let parts = parts_same (number_of f.head_checksum ∷ []) (number_of g.head_checksum ∷ []) (map number_of f.reply_checksums) (map number_of g.reply_checksums) refl both.0 in (
+          let parts = same_front (number_of f.head_checksum ∷ []) (number_of g.head_checksum ∷ []) (map number_of f.reply_checksums) (map number_of g.reply_checksums) refl both.0 in (
             one_number f.head_checksum g.head_checksum one.head_checksum two.head_checksum (ap (λ (l : List ℕ). slice_index l 0) parts.0),
             checks_same f.reply_checksums g.reply_checksums one.reply_checksums.each two.reply_checksums.each size parts.1,
             offset_is f.first_nonzero g.first_nonzero both.1,

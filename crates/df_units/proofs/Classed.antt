@@ -3,6 +3,7 @@ use Rattle.std.proofs.Common.{◌≡◌, ◌≢◌, ◌↔◌, inl, inr, ℕ, �
 use Rattle.std.specs.Prelude.{◌⊎◌, ⊤}
 use Rattle.std.proofs.lemmas.Option.{same_Some}
 use Rattle.df_base.specs.Image.{Image, IsImage}
+use Rattle.df_base.proofs.Laws.{no_some}
 use Rattle.df_layout.specs.declared.damage.Class.TheVariants.{Stale}
 use Rattle.df_layout.specs.declared.layout.Layout.{Layout}
 use Rattle.df_layout.specs.declared.places.Zone.TheVariants.{WalHeaders, WalPrepares, ClientReplies, Grid}
@@ -18,7 +19,7 @@ use Rattle.df_format.specs.Spelling.{IsCheck}
 use Rattle.df_format.specs.Valid.{IsUnit}
 use Rattle.df_format.specs.Wanted
 use Rattle.df_format.specs.Wanted.{Any, Op, Checksum, Answer}
-use Rattle.df_format.proofs.Laws.{none_unless, shown_is_unit, stale_copy, stale_valid, valid_belongs, valid_is_stale, valid_stale}
+use Rattle.df_format.proofs.Laws.{shown_is_unit, stale_copy, stale_valid, valid_belongs, valid_is_stale, valid_stale}
 use Rattle.df_theory.specs.Units
 use Rattle.df_theory.specs.Units.{AnyUnit, BlockPlace, BlockUnit, CopyPlace, CopyUnit, HeaderPlace, HeaderUnit, PreparePlace, PrepareUnit, ReplyPlace, ReplyUnit}
 use Rattle.df_units.specs.Meaning.{block_of, content_of as content_of_copy, header_of, message_of, number_of, place_of, unit_of}
@@ -36,7 +37,7 @@ copy_none (Some copy) is = absurd (cc)
 
 copy_told : (image : Image) (n : ℕ) → (class_of_copy n (image n) ≢ Stale) ↔ (copy_unit (content_at image n) ≡ None)
 copy_told image n = (
-  λ other. ap (λ (o : Option SuperCopy). copy_unit (content_of o)) (none_unless (copy_at image n) (λ copy is. other (valid_is_stale image n copy is))),
+  λ other. ap (λ (o : Option SuperCopy). copy_unit (content_of o)) (no_some (copy_at image n) (λ copy is. other (valid_is_stale image n copy is))),
   λ none stale.
       let found = stale_copy image n stale in
       let some : None ≡ Some found.0 = sym (copy_none (copy_at image n) none) ∙ found.1 in
@@ -52,7 +53,7 @@ module _ (layout : Layout) (cluster : ℕ) (image : Image) (place : Units.Place)
   message_told : (Shown.class_at layout cluster image (place_of place) ≢ Stale) ↔ (message_unit place (Shown.unit_at layout cluster image (place_of place)) ≡ None)
   unfolding Shown.class_at Shown.unit_at
   message_told = (
-    λ other. ap (message_unit place) (none_unless _ (λ u is. other (valid_stale layout cluster (place_of place) _ u is))),
+    λ other. ap (message_unit place) (no_some _ (λ u is. other (valid_stale layout cluster (place_of place) _ u is))),
     λ none stale.
         let found = stale_valid layout cluster (place_of place) _ stale in
         let both : None ≡ Some found.0 = sym (no_message place _ some none) ∙ found.1 in

@@ -38,15 +38,15 @@ pub headers_are_steps : (layout : Layout) (cluster sector : ℕ) (sectors : List
 headers_are_steps layout cluster sector [] are = tt
 headers_are_steps layout cluster sector (headers ∷ rest) are = (headers_put layout cluster sector headers are.0, headers_are_steps layout cluster (sector + 1) rest are.2)
 
-all_reserved : (layout : Layout) (cluster sector : ℕ) (sectors : List (List Header)) → AreReserved layout cluster sector sectors → AllReserved (header_puts sector sectors)
+pub all_reserved : (layout : Layout) (cluster sector : ℕ) (sectors : List (List Header)) → AreReserved layout cluster sector sectors → AllReserved (header_puts sector sectors)
 all_reserved layout cluster sector [] are = tt
 all_reserved layout cluster sector (headers ∷ rest) are = (reserved_put sector headers are.0.sixteen are.1, all_reserved layout cluster (sector + 1) rest are.2)
 
-some_unit : (o : Option AnyUnit) → is_some o ≡ true → (y : AnyUnit) × (o ≡ Some y)
+pub some_unit : (o : Option AnyUnit) → is_some o ≡ true → (y : AnyUnit) × (o ≡ Some y)
 some_unit None is = absurd (cc)
 some_unit (Some y) is = (y, refl)
 
-reached : (layout : Layout) (cluster sector : ℕ) (sectors : List (List Header)) → AreReserved layout cluster sector sectors → (s : ℕ) → sector ≤ s / 16 → s / 16 < sector + length sectors → Reaches (header_puts sector sectors) (HeaderPlace s)
+pub reached : (layout : Layout) (cluster sector : ℕ) (sectors : List (List Header)) → AreReserved layout cluster sector sectors → (s : ℕ) → sector ≤ s / 16 → s / 16 < sector + length sectors → Reaches (header_puts sector sectors) (HeaderPlace s)
 reached layout cluster sector [] are s from upto = absurd (omega arith)
 reached layout cluster sector (headers ∷ rest) are s from upto = elim (cases_eq (s / 16) sector) [
   | inl here ↦

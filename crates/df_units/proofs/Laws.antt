@@ -9,8 +9,8 @@ pub use Rattle.df_units.proofs.AtPlaces.{copy_read, header_read, of_places, read
 pub use Rattle.df_units.proofs.Classed.{classes_told, none_wanted, units_told}
 pub use Rattle.df_units.proofs.Told.{reserved_put, sector_puts, table_put, trailers_tell}
 pub use Rattle.df_units.proofs.Chosen.{choice_chosen, chosen_choice, one_content, shown_checks, split_split, copy_parts}
-pub use Rattle.df_units.proofs.Usable.{second_usable_passes, no_rest, nothing_else, passing_is_usable, usable_passes, zeros_check}
-pub use Rattle.df_units.proofs.Versions.{by_other, by_second, first_alone, none_are, reply_alone, reserved_boot}
-pub use Rattle.df_units.proofs.Formats.{format_on_disk, new_is_making, headers_are_steps}
+pub use Rattle.df_units.proofs.Usable.{second_usable_passes, no_rest, nothing_else, passing_is_usable, usable_passes}
+pub use Rattle.df_units.proofs.Versions.{by_other, by_second, first_alone, none_are, reply_alone}
+pub use Rattle.df_units.proofs.Formats.{format_on_disk, new_is_making, headers_are_steps, all_reserved, some_unit, reached}
 pub use Rattle.df_units.proofs.Appended.{append_on_disk}
 pub use Rattle.df_units.proofs.Within.{none_within, part_within, steps_within, then_within}

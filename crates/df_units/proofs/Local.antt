@@ -3,6 +3,7 @@ use Rattle.std.proofs.Common.{◌≡◌, inl, inr, ℕ, ◌+◌, ◌-◌, ◌*�
 use Rattle.std.specs.Prelude.{nat_le, nat_lt}
 use Rattle.std.proofs.lemmas.Bool.{cases_Bool, both_ways, and_from, and_parts, le-leb, lt-ltb, leb-true, ltb-true, ltb-false}
 use Rattle.df_base.specs.Image.{Image, blank, covers}
+use Rattle.df_base.proofs.Laws.{no_some}
 use Rattle.df_layout.specs.declared.layout.Layout.{Layout}
 use Rattle.df_layout.specs.declared.places.Place.{Place}
 use Rattle.df_layout.specs.declared.places.Zone.TheVariants.{Superblock}
@@ -12,7 +13,7 @@ use Rattle.df_format.specs.declared.superblock.SuperCopy.{SuperCopy}
 use Rattle.df_format.specs.Own.{has_index, place_in}
 use Rattle.df_format.specs.Shown
 use Rattle.df_format.specs.Copies.{content_at, content_of, copy_at, copy_in, if_here}
-use Rattle.df_format.proofs.Laws.{blank_copy_none, blank_none, has-from, is_here, none_unless, read_as, same_copy, same_shown, shown_belongs}
+use Rattle.df_format.proofs.Laws.{blank_copy_none, blank_none, has-from, is_here, read_as, same_copy, same_shown, shown_belongs}
 use Rattle.df_theory.specs.Units
 use Rattle.df_theory.specs.Units.{BlockPlace, CopyPlace, HeaderPlace, PreparePlace, ReplyPlace}
 use Rattle.df_theory.specs.Device.{IsFormat}
@@ -33,14 +34,14 @@ copy_count layout n = refl
 copy_outside : (image : Image) (n : ℕ) → 4 ≤ n → content_at image n ≡ None
 unfolding copy_at
 copy_outside image n outside =
-    ap content_of (none_unless (if_here n (copy_in (image n))) (λ copy is.
+    ap content_of (no_some (if_here n (copy_in (image n))) (λ copy is.
     let here = is_here n (copy_in (image n)) copy is in
     let read = read_as (image n) copy here.0 in
     omega (arith, read.number, ap (λ (c : SuperCopy). c.number) read.is, here.1)))
 
 message_outside : (layout : Layout) (cluster : ℕ) (image : Image) (place : Place) → has_index layout place.zone place.index ≡ false → Shown.unit_at layout cluster image place ≡ None
 message_outside layout cluster image place outside =
-    none_unless _ (λ u is. both_ways _ outside (has-from layout place.zone place.index (shown_belongs layout cluster image place u is).has))
+    no_some _ (λ u is. both_ways _ outside (has-from layout place.zone place.index (shown_belongs layout cluster image place u is).has))
 
 -- no unit stands outside the layout
 pub nothing_outside : (layout : Layout) (cluster : ℕ) (image : Image) (place : Units.Place) → has_place layout place ≡ false → unit_at layout cluster image place ≡ None

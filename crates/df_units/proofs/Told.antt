@@ -9,11 +9,10 @@ use Rattle.df_format.specs.declared.kind.Kind.TheVariants.{Block, Reserved, Trai
 use Rattle.df_format.specs.Message.{Message}
 use Rattle.df_format.specs.Own.{place_in}
 use Rattle.df_format.specs.Rules.{ObeysBlock, ObeysKind, ObeysReserved, ObeysTrailer, ObeysVersion}
-use Rattle.df_format.proofs.Laws.{valid_belongs}
+use Rattle.df_format.proofs.Laws.{valid_belongs, unbooted}
 use Rattle.df_theory.specs.Units.{BlockPlace, CopyPlace, HeaderPlace, HeaderUnit, PreparePlace, ReplyPlace}
 use Rattle.df_units.specs.Meaning.{header_of}
 use Rattle.df_units.specs.Tells.{ReservedArePut, SectorPuts, TableIsPut, TrailersTell}
-use Rattle.df_units.proofs.Versions.{reserved_boot}
 use Rattle.df_units.proofs.Writes.{put_is}
 
 pub trailer_rules : (u : Message) → ObeysKind u.header.kind u.header → u.header.kind ≡ Trailer → ObeysTrailer u.header
@@ -58,7 +57,7 @@ reserved_put sector headers sixteen reserved place y is =
     let obeys = (sixteen.each (put.0 % 16) h put.5).rules in
     let kind = reserved (put.0 % 16) h put.5 in
     let rules = reserved_rules h obeys.kind kind in
-    (put.0, header_of h, put.2, put.3, record { op = rules.op; checkpoint = rules.checkpoint; boot = reserved_boot h (reserved_version h obeys.version kind) })
+    (put.0, header_of h, put.2, put.3, record { op = rules.op; checkpoint = rules.checkpoint; boot = unbooted h (reserved_version h obeys.version kind) })
 
 pub table_put : TableIsPut
 table_put sector headers table are place y is =

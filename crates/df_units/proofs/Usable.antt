@@ -2,8 +2,7 @@
 use Rattle.std.proofs.Common.{inl, inr, ◌≡◌, ◌≢◌, ℕ, zero, suc, ◌<◌, ◌≤◌, ◌+◌, ◌^◌, List, [], ◌∷◌, ◌++◌, length, drop, get_or, Option, Some, None, refl, sym, ◌∙◌, ap, subst, arith}
 use Rattle.std.specs.Prelude.{All, map, slice_index}
 use Rattle.std.proofs.lemmas.Bool.{cases_eq}
-use Rattle.std.proofs.lemmas.List.{append-nil, get_or-drop, get_or-map, length-drop, length-replicate}
-use Rattle.df_base.proofs.Laws.{AreBytes-zeros}
+use Rattle.std.proofs.lemmas.List.{append-nil, get_or-drop, get_or-map, length-drop}
 use Rattle.df_layout.specs.Limits.{AreSlots, IsMessageSize, AreClients, IsBlockSize, AreBlocks}
 use Rattle.df_layout.specs.declared.layout.Layout.{Layout}
 use Rattle.df_format.specs.declared.superblock.SuperFields.{SuperFields}
@@ -11,6 +10,7 @@ use Rattle.df_format.specs.Spelling.{IsCheck, no_checksum}
 use Rattle.df_format.specs.Super.{AreNone}
 use Rattle.df_format.specs.SuperRules.{IsFirstSuper, IsSecondSuper, IsSuper}
 use Rattle.df_format.specs.Copies.{Content}
+use Rattle.df_format.proofs.Laws.{no_check}
 use Rattle.df_theory.specs.Units
 use Rattle.df_theory.specs.Shape.{Shape}
 use Rattle.df_theory.specs.Trailer.{IsReference}
@@ -121,12 +121,8 @@ second_usable_passes layout cluster named parse c of second is =
     let both = usable_passes layout cluster named parse c of is in
     (subst (λ (version : ℕ). PassesTests (shape_as version layout cluster named parse) (content_of c)) second both.0, both.1)
 
-pub zeros_check : IsCheck no_checksum
-unfolding no_checksum
-zeros_check = record { size = length-replicate {A = ℕ} 16 0; each = AreBytes-zeros 16 }
-
 zero_number : (a : List ℕ) → IsCheck a → number_of a ≡ 0 → a ≡ no_checksum
-zero_number a is none = one_number a no_checksum is zeros_check (none ∙ sym no_number)
+zero_number a is none = one_number a no_checksum is no_check (none ∙ sym no_number)
 
 -- ---- and back
 

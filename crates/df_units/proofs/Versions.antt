@@ -3,6 +3,7 @@ use Rattle.std.proofs.Common.{inl, inr, ◌≡◌, ◌≢◌, ◌⊎◌, ◌≤�
 use Rattle.std.specs.Prelude.{All, map, slice_index}
 use Rattle.std.proofs.lemmas.Bool.{and_from, and_parts, cases_Bool, cond-true, cond-false, cases_lt, eq-eqb, eqb-true, ne_eqb}
 use Rattle.std.proofs.lemmas.List.{ext_get_or, get_or-drop, get_or-map, get_or_append_left, get_or_past, length-append, length-drop, length-map, length-replicate}
+use Rattle.df_base.proofs.Laws.{same_front}
 use Rattle.df_format.specs.declared.header.Header.{Header}
 use Rattle.df_format.specs.declared.kind.Kind.{Kind}
 use Rattle.df_format.specs.declared.kind.Kind.TheVariants.{Reserved, Prepare, Reply, Block, Trailer}
@@ -41,10 +42,6 @@ first_alone kind h is other none = elim is [
 pub reply_alone : (h : Header) → ObeysVersion Reply h → IsAlone (header_of h)
 reply_alone h is = elim is [ inl first ↦ ungrouped h first.group first.group_last | inr second ↦ ungrouped h second.group.none_first second.group.none_last ]
 
--- a reserved header has no boot in either
-pub reserved_boot : (h : Header) → ObeysVersion Reserved h → h.boot ≡ 0
-reserved_boot h is = elim is [ inl first ↦ first.boot | inr second ↦ second.boot ]
-
 -- ---- superblocks
 
 -- what version 2 says
@@ -78,16 +75,6 @@ spare_zero checks clients k none from = elim (cases_lt k (length checks)) [
 cons_same : (x y : ℕ) (xs ys : List ℕ) → x ∷ xs ≡ y ∷ ys → (x ≡ y) × (xs ≡ ys)
 cons_same x y xs ys same = (cc, cc)
 
--- lists of one length with others after them
-pub parts_same : (xs ys behind after : List ℕ) → length xs ≡ length ys → xs ++ behind ≡ ys ++ after → (xs ≡ ys) × (behind ≡ after)
-parts_same [] [] behind after size same = (refl, same)
-parts_same [] (y ∷ ys) behind after size same = absurd (omega (arith, size))
-parts_same (x ∷ xs) [] behind after size same = absurd (omega (arith, size))
-parts_same (x ∷ xs) (y ∷ ys) behind after size same =
-    let both = cons_same x y (xs ++ behind) (ys ++ after) same in
-    let rest = parts_same xs ys behind after (omega (arith, size)) both.1 in
-    ((λ i. both.0 i ∷ rest.0 i), rest.1)
-
 -- ---- numbers that are zeros
 
 pub zeros_are : (ns : List ℕ) → are_zeros ns ≡ true → (k : ℕ) → slice_index ns k ≡ 0
@@ -119,7 +106,7 @@ named_or_nothing xs ys behind after size few less same = by (cases_Bool (are_zer
     by (inl none) (inl no_other) = (one_zeros xs ys size none no_other, ap (λ (l : List ℕ). l ++ behind) (sym (nothing xs none)) ∙ same ∙ ap (λ (l : List ℕ). l ++ after) (nothing ys no_other))
     by (inl none) (inr other) = absurd (short ys behind after few (ap (λ (l : List ℕ). l ++ behind) (sym (nothing xs none)) ∙ same ∙ ap (λ (l : List ℕ). l ++ after) (something ys other)))
     by (inr some) (inl no_other) = absurd (short xs after behind less (ap (λ (l : List ℕ). l ++ after) (sym (nothing ys no_other)) ∙ sym same ∙ ap (λ (l : List ℕ). l ++ behind) (something xs some)))
-    by (inr some) (inr other) = parts_same xs ys behind after size (ap (λ (l : List ℕ). l ++ behind) (sym (something xs some)) ∙ same ∙ ap (λ (l : List ℕ). l ++ after) (something ys other))
+    by (inr some) (inr other) = same_front xs ys behind after size (ap (λ (l : List ℕ). l ++ behind) (sym (something xs some)) ∙ same ∙ ap (λ (l : List ℕ). l ++ after) (something ys other))
 
 -- where all that is there is zeros, so are these
 pub named_zeros : (ns behind : List ℕ) → ((k : ℕ) → slice_index (or_nothing ns ++ behind) k ≡ 0) → are_zeros ns ≡ true
