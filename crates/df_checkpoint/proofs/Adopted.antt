@@ -2,7 +2,7 @@
 use Rattle.std.proofs.Common.{◌≡◌, ℕ, zero, suc, ◌+◌, ◌-◌, ◌<◌, ◌≤◌, ◌==◌, ◌||◌, Bool, true, false, Option, Some, None, List, [], ◌∷◌, length, map, drop, get_or, refl, sym, ap, ◌∙◌, subst, arith, le-ltb, ne_eqb}
 use Rattle.std.specs.Prelude.{if◌then◌else◌, OnOk, Result, Ok, Err}
 use Rattle.std.specs.List.{range_with_len}
-use Rattle.std.proofs.lemmas.Bool.Decides.{nat_tests}
+use Rattle.std.proofs.lemmas.Bool.{eq-eqb}
 use Rattle.df_layout.specs.declared.layout.Layout.{Layout}
 use Rattle.df_model.specs.Blocks.{Blocks, entries, entry, is_held_in, sum_at, with_entry}
 use Rattle.df_model.specs.Work.{is_in, is_known}
@@ -100,11 +100,8 @@ next_at g [] k at apart less here = absurd (omega arith)
 next_at g (r ∷ rs) zero at apart less here = record {
   split = ap (λ (l : Link). l ∷ rs) (sym here);
   apart = ap (λ (l : Link). is_among l.address rs) here ∙ apart.1;
-  there = ap (λ (b : Bool). b || is_among at.address rs) (yes r.address at.address (ap (λ (l : Link). l.address) (sym here)));
+  there = ap (λ (b : Bool). b || is_among at.address rs) (eq-eqb r.address at.address (ap (λ (l : Link). l.address) (sym here)));
 }
-  where
-    yes : (a b : ℕ) → a ≡ b → (a == b) ≡ true
-    yes a b same = grind (arith, nat_tests)
 next_at g (r ∷ rs) (suc k) at apart less here = let more = next_at g rs k at apart.2 (omega arith) here in record { split = more.split; apart = more.apart; there = later (r.address == at.address) more.there }
   where
     later : (b : Bool) → is_among at.address rs ≡ true → (b || is_among at.address rs) ≡ true

@@ -1,8 +1,8 @@
 -- A chain that was walked is whole: its blocks are links from the last to the first, and their bodies are a text of the superblock's size.
 use Rattle.std.proofs.Common.{◌≡◌, ℕ, suc, ◌+◌, ◌-◌, ◌*◌, ◌≤◌, ◌==◌, ◌||◌, Bool, true, false, Option, Some, None, List, [], ◌∷◌, length, min, refl, sym, ap, ◌∙◌, subst, arith, inl, inr, length-append}
 use Rattle.std.specs.Prelude.{Result, Ok, Err, IfOk}
-use Rattle.std.proofs.lemmas.Bool.Decides.{nat_tests}
 use Rattle.arrayvec.specs.ArrayVec.{ArrayVec}
+use Rattle.std.proofs.lemmas.Bool.{eq-eqb}
 use Rattle.df_disk.specs.Told.{Told}
 use Rattle.df_format.specs.declared.superblock.SuperFields.{SuperFields}
 use Rattle.df_theory.specs.Units as model
@@ -50,12 +50,9 @@ chain_listed g shown (r ∷ rs) (x ∷ xs) a b names apart (inl here) =
     let same : a ≡ r.address = here.0 ∙ names.0 in
     record {
       inside = subst (λ (n : ℕ). HasAddress g n) (sym same) apart.0;
-      among = ap (λ (t : Bool). t || is_among a rs) (yes r.address a (sym same));
+      among = ap (λ (t : Bool). t || is_among a rs) (eq-eqb r.address a (sym same));
       shows = ap (λ (n : ℕ). shown.units (BlockPlace n)) same ∙ (asked_is shown r.address (number_of r.checksum) x.1 names.1).shows ∙ ap (λ (y : Block). Some (BlockUnit y)) (sym here.1);
     }
-  where
-    yes : (a b : ℕ) → a ≡ b → (a == b) ≡ true
-    yes a b same = grind (arith, nat_tests)
 chain_listed g shown (r ∷ rs) (x ∷ xs) a b names apart (inr later) =
     let more = chain_listed g shown rs xs a b names.2 apart.2 later in record { inside = more.inside; among = or_later (r.address == a) more.among; shows = more.shows }
   where

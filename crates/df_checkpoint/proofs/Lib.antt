@@ -8,4 +8,5 @@ pub mod ReadWhole
 pub mod Unreadable
 pub mod Missed
 pub mod OneTest
+pub mod Tracking
 pub mod Laws

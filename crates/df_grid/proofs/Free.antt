@@ -4,20 +4,17 @@ use Rattle.std.specs.Prelude.{slice_get}
 use Rattle.std.proofs.lemmas.List.{length-set}
 use Rattle.std.proofs.lemmas.List.Sums.{sum_by-cons}
 use Rattle.std.proofs.lemmas.Bool.{eqb-false}
-use Rattle.df_base.proofs.Laws.{get_set_other}
+use Rattle.df_base.proofs.Laws.{get_set_other, or_false}
 use Rattle.df_freeset.specs.Addresses.{AreAllTaken, IsLeastFree, free_of}
 use Rattle.df_model.specs.Work.{is_in}
 use Rattle.df_model.specs.Sense.{RiseFrom}
 use Rattle.df_grid.specs.Table.{AreTaken, open_from}
 use Rattle.df_grid.proofs.Single.{get_set_same}
 
-free_cons : (b : Bool) (taken : List Bool) → free_of (b ∷ taken) ≡ cond (not b) 1 0 + free_of taken
-free_cons b taken = sum_by-cons (λ x. cond (not x) 1 0) b taken
-
 pub open_count : (s : ℕ) (taken : List Bool) → length (open_from s taken) ≡ free_of taken
 open_count s [] = refl
-open_count s (true ∷ ts) = omega (arith, open_count (s + 1) ts, free_cons true ts)
-open_count s (false ∷ ts) = omega (arith, open_count (s + 1) ts, free_cons false ts)
+open_count s (true ∷ ts) = omega (arith, open_count (s + 1) ts, sum_by-cons (λ x. cond (not x) 1 0) true ts)
+open_count s (false ∷ ts) = omega (arith, open_count (s + 1) ts, sum_by-cons (λ x. cond (not x) 1 0) false ts)
 
 -- where all below are taken, the first one that is free is the first of the list
 first_open : (s i : ℕ) (taken : List Bool) → slice_get taken i ≡ Some false → ((j : ℕ) → j < i → slice_get taken j ≡ Some true) → open_from s taken ≡ (s + i) ∷ open_from s (set taken i true)
@@ -77,11 +74,7 @@ in_more k a (x ∷ xs) = ap (λ (b : Bool). (k == x) || b) (in_more k a xs) ∙ 
     go false c d = refl
 
 pub none_taken : (taken : List Bool) → AreTaken 0 taken taken []
-none_taken taken = record { least = refl; rest = refl; size = refl; each = λ a i b there at. at ∙ ap Some (sym (go b)) }
-  where
-    go : (b : Bool) → (b || false) ≡ b
-    go true = refl
-    go false = refl
+none_taken taken = record { least = refl; rest = refl; size = refl; each = λ a i b there at. at ∙ ap Some (sym (or_false b)) }
 
 with_true : (x y : Bool) → (x || (y || true)) ≡ true
 with_true true y = refl

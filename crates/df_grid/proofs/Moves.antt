@@ -1,7 +1,7 @@
 -- What a change at one address is for the machine, and that what holds of a table still does.
 use Rattle.std.proofs.Common.{◌≡◌, ℕ, suc, ◌+◌, ◌==◌, ◌||◌, Bool, true, false, Some, List, [], ◌∷◌, set, refl, sym, ap, subst, ◌∙◌, arith, eq-eqb, ne_eqb}
 use Rattle.std.specs.Prelude.{slice_get}
-use Rattle.std.proofs.lemmas.Bool.{or_left, false_from_ne_true}
+use Rattle.std.proofs.lemmas.Bool.{or_left, false_from_ne_true, or_right}
 use Rattle.df_model.specs.Work.{is_in}
 use Rattle.df_model.specs.Blocks.{block_released, block_written, trailer_written}
 use Rattle.df_model.specs.Sense.{RiseFrom}
@@ -175,8 +175,4 @@ next_spare es taken written more chain a i old is there at = is.spare a i old th
 
 -- and is one of the table's
 pub next_inside : (es : List Entry) (taken : List Bool) (written more chain : List ℕ) (a : ℕ) → IsTable es taken written (a ∷ more) chain → HasEntry es a
-next_inside es taken written more chain a is = is.inside a (right (is_in a written) (or_left (a == a) (is_in a more) (eq-eqb a a refl)))
-  where
-    right : (b : Bool) {c : Bool} → c ≡ true → (b || c) ≡ true
-    right true holds = refl
-    right false holds = holds
+next_inside es taken written more chain a is = is.inside a (or_right (is_in a written) (or_left (a == a) (is_in a more) (eq-eqb a a refl)))

@@ -20,7 +20,7 @@ use Rattle.df_format.specs.Own.{own_place, place_in}
 use Rattle.df_format.specs.Rules.{ObeysRules, ObeysVersion}
 use Rattle.df_format.specs.Spelling.{IsCheck, no_checksum}
 use Rattle.df_format.specs.Valid.{Belongs, IsAtAddress, IsUnit}
-use Rattle.df_format.proofs.Laws.{given_obeys, of_first, valid_belongs}
+use Rattle.df_format.proofs.Laws.{given_obeys, of_first, valid_belongs, zeros_are}
 use Rattle.df_buffers.specs.Sounds.{Holding, IsSound}
 use Rattle.df_theory.specs.Device.{AreSteps}
 use Rattle.df_theory.specs.Units
@@ -74,10 +74,6 @@ made_put layout place held header piece is sectors here steps =
     subst (λ (u : Message). AreSteps (format_of layout u.header.cluster) (made_events layout u) (block_steps u)) is wrote
 
 -- ---- the header of a trailer block
-
-zeros_are : spelled 16 0 ≡ no_checksum
-unfolding spelled no_checksum
-zeros_are = refl
 
 parent_is : (before : Option Reference) (written : List (ℕ × ℕ)) → pair_in before ≡ slice_get written 0 → IsCheck (checksum_in before) → checksum_in before ≡ spelled 16 (first_sum written)
 parent_is None [] same fits = sym zeros_are

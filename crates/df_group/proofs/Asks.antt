@@ -1,11 +1,11 @@
 -- The client's session, as the theory sees it.
-use Rattle.std.proofs.Common.{◌≡◌, inl, inr, ℕ, zero, suc, ◌+◌, ◌-◌, ◌<◌, ◌≤◌, ◌↔◌, ◌⊎◌, Bool, true, false, List, [], ◌∷◌, length, get_or, Some, None, Option, refl, sym, ◌∙◌, ap, subst, arith}
+use Rattle.std.proofs.Common.{◌≡◌, inl, inr, ℕ, zero, suc, ◌+◌, ◌-◌, ◌<◌, ◌≤◌, ◌↔◌, ◌⊎◌, Bool, true, false, List, [], ◌∷◌, length, get_or, Some, None, Option, refl, ap, subst, arith}
 use Rattle.std.specs.List.{position, position_or_len, slice_get}
 use Rattle.std.specs.Prelude.{nat_lt}
 use Rattle.std.proofs.lemmas.Bool.{cases_Bool, eqb-true, eq-eqb}
 use borrow.Author.Tests.{ltb-false}
 use Rattle.std.proofs.lemmas.List.Sums.{fails_before_first}
-use Rattle.std.proofs.lemmas.Option.{get_or_from_slice_get, slice_get_cases}
+use Rattle.std.proofs.lemmas.Option.{get_or_from_slice_get}
 use Rattle.df_format.specs.declared.header.Header.{Header}
 use Rattle.df_sessions.specs.declared.session.Session.{Session}
 use Rattle.df_sessions.specs.Requests.{session_of, sessions_of}
@@ -49,16 +49,6 @@ asks_known room h ss k s fits is at =
     let first : IsFirst (has_client h.client) ss k s = first_place (has_client h.client) ss k s is in
     let here : get_or ss k s ≡ s = get_or_from_slice_get ss k s s at in
     subst (λ (x : Session). MayAsk room (header_of h) (sessions_of ss) ↔ Follows x h) here (asks_at room h ss k s fits first.within first.passes first.none_before)
-
--- the place that is found is one
-pub no_gap : (client : ℕ) (ss : List Session) (k : ℕ) → position (has_client client) ss ≡ Some k → slice_get ss k ≡ None → ⊥
-no_gap client ss k is none =
-    let d : Session = record { client = 0; request = 0; op = 0; reply = None } in
-    let first : IsFirst (has_client client) ss k d = first_place (has_client client) ss k d is in
-    elim (slice_get_cases ss k).1 [
-      | inl there ↦ let both : Some there.0 ≡ None = sym there.2 ∙ none in cc
-      | inr past ↦ omega (arith, past.0, first.within)
-    ]
 
 none_passes : (p : Session → Bool) (xs : List Session) (d : Session) → position p xs ≡ None → (k : ℕ) → k < length xs → p (get_or xs k d) ≡ false
 none_passes p xs d none k within = elim (cases_Bool (nat_lt (position_or_len p xs) (length xs))) [

@@ -15,14 +15,14 @@ use Rattle.df_theory.specs.Tails.{AreGroups, Chain, Fits, FitsGroup}
 use Rattle.df_theory.specs.Units
 use Rattle.df_theory.specs.Units.{Message}
 use Rattle.df_theory.specs.View.{Checkpoint}
-use Rattle.df_theory.proofs.Laws.{chain_append, chain_ops, in_either, last_mark-append, sessions-append}
+use Rattle.df_theory.proofs.Laws.{chain_append, chain_ops, in_either, last_mark-append, sessions-append, last_checksum-append}
 use Rattle.df_units.specs.Meaning.{header_of, number_of}
 use Rattle.df_group.specs.declared.groups.Tail.{Tail}
 use Rattle.df_group.specs.declared.groups.Position.{Position}
 use Rattle.df_group.specs.Fitting.{FitsAt, position_of, tail_to}
 use Rattle.df_group.specs.Reached.{BeginsBehind, HaveClients, IsReachOf, prepares_of}
 use Rattle.df_group.proofs.Asks.{asks_within}
-use Rattle.df_group.proofs.Grouping.{chain_end, fits_same, groups_join, groups_split, in_last, in_some, last_checksum-append}
+use Rattle.df_group.proofs.Grouping.{chain_end, fits_same, groups_join, groups_split, in_last, in_some}
 use Rattle.df_group.proofs.Walks.{IsAhead, IsWalk, behind, end_at, fits_behind, walk_begins, walk_on}
 
 -- the headers alone say what is taken

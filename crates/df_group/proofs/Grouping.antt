@@ -3,15 +3,7 @@ use Rattle.std.proofs.Common.{◌≡◌, ◌↔◌, inl, inr, ℕ, suc, ◌+◌,
 use Rattle.df_theory.specs.Units.{Header, Message, Session}
 use Rattle.df_theory.specs.Sessions.{noted, sessions_after}
 use Rattle.df_theory.specs.Tails.{AreGroups, Chain, Fits, FitsGroup, In, last_checksum, last_mark}
-
--- after a group that is over it doesn't matter which one it was
-pub fits_closed : (f g l m op : ℕ) (h : Header) → l < op → m < op → FitsGroup f l op h → FitsGroup g m op h
-fits_closed f g l m op h below low (inl fits) = inl (low, fits.1, fits.2)
-fits_closed f g l m op h below low (inr fits) = absurd (omega (arith, fits.0))
-
-groups_closed : (f g l m op : ℕ) (ps : List Message) → l < op → m < op → AreGroups f l op ps → AreGroups g m op ps
-groups_closed f g l m op [] below low groups = tt
-groups_closed f g l m op (p ∷ ps) below low groups = (fits_closed f g l m op p.header below low groups.0, groups.1)
+use Rattle.df_theory.proofs.Laws.{groups_closed}
 
 -- groups after whole groups
 pub groups_join : (f l op low : ℕ) (ps qs : List Message) → l < op + length ps → ((p : Message) → In p ps → p.header.group_last < op + length ps) → low < op + length ps → AreGroups f l op ps → AreGroups 0 low (op + length ps) qs → AreGroups f l op (ps ++ qs)
@@ -53,10 +45,6 @@ chain_end clients op parent mark ss [] q chain =
 chain_end clients op parent mark ss (x ∷ xs) q chain =
     let same : op + 1 + length xs ≡ op + suc (length xs) = omega arith in
     subst (λ (n : ℕ). Fits clients n (last_checksum x.header.checksum xs) (last_mark x.header.mark xs) (sessions_after (noted x.header ss) xs) q.header) same (chain_end clients (op + 1) x.header.checksum x.header.mark (noted x.header ss) xs q chain.1)
-
-pub last_checksum-append : (c : ℕ) (ps qs : List Message) → last_checksum c (ps ++ qs) ≡ last_checksum (last_checksum c ps) qs
-last_checksum-append c [] qs = refl
-last_checksum-append c (p ∷ ps) qs = last_checksum-append p.header.checksum ps qs
 
 -- what fits fits by other words for the same
 pub fits_same : (clients o i c d m k : ℕ) (ss ts : List Session) (h : Header) → o ≡ i → c ≡ d → m ≡ k → ss ≡ ts → Fits clients o c m ss h → Fits clients i d k ts h

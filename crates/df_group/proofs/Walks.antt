@@ -10,14 +10,14 @@ use Rattle.df_theory.specs.Units
 use Rattle.df_theory.specs.Sessions.{noted, sessions_after}
 use Rattle.df_theory.specs.Tails.{AreGroups, AreWholeGroups, Chain, EndsAt as EndsGroup, Fits, FitsGroup, In, last_checksum, last_mark}
 use Rattle.df_theory.specs.View.{Checkpoint}
-use Rattle.df_theory.proofs.Laws.{chain_append, last_mark-append, sessions-append, in_either, in_single}
+use Rattle.df_theory.proofs.Laws.{chain_append, last_mark-append, sessions-append, in_either, in_single, last_checksum-append, fits_closed}
 use Rattle.df_units.specs.Meaning.{header_of, number_of}
 use Rattle.df_group.specs.declared.groups.Tail.{Tail}
 use Rattle.df_group.specs.declared.groups.Position.{Position}
 use Rattle.df_group.specs.Fitting.{FitsAt, position_of, tail_to}
 use Rattle.df_group.specs.Reached.{BeginsBehind, EndsAt}
 use Rattle.df_group.proofs.Asks.{noted_is}
-use Rattle.df_group.proofs.Grouping.{fits_closed, fits_same, groups_join, groups_next, in_some, last_checksum-append}
+use Rattle.df_group.proofs.Grouping.{fits_same, groups_join, groups_next, in_some}
 
 -- prepares after these, down to this end
 pub record ReachesTo (b : Checkpoint) (ps more : List Units.Message) (last : Tail) (sessions : List Session) : Type 0 where

@@ -53,9 +53,9 @@ are_in layout cluster helds table may own i u at =
     let one = held_at helds i u at in
     subst (λ (w : Message). IsInOwnSlot layout w × (w.header.cluster ≡ cluster)) one.2 ((own i one.0 one.1).own, (may.each i one.0 one.1).1)
 
-length_units : (helds : List Holding) → length (units_of helds) ≡ length helds
-length_units [] = refl
-length_units (held ∷ helds) = omega (arith, length_units helds)
+pub length_of_units : (helds : List Holding) → length (units_of helds) ≡ length helds
+length_of_units [] = refl
+length_of_units (held ∷ helds) = omega (arith, length_of_units helds)
 
 -- ---- its device calls are steps
 
@@ -78,7 +78,7 @@ flush_are_steps layout cluster helds table some may own =
     let us = units_of helds in
     steps_join_law (format_of layout cluster) (group_puts layout helds) (settle_events layout (with_headers us table) (sectors_of us)) (group_steps us) (settle_steps (with_headers us table) (sectors_of us))
     (puts_are_steps layout cluster helds own (λ i held at. (may.each i held at).1))
-    (settle_are_steps layout (with_headers us table) (sectors_of us) (ends_of_ring layout cluster us all (omega (arith, some, length_units helds)) (ring_whole layout)) cluster (group_kept layout cluster us table all may.table_is))
+    (settle_are_steps layout (with_headers us table) (sectors_of us) (ends_of_ring layout cluster us all (omega (arith, some, length_of_units helds)) (ring_whole layout)) cluster (group_kept layout cluster us table all may.table_is))
 
 -- ---- as the theory has them
 
@@ -105,7 +105,7 @@ message_in [] i u at = absurd (cc)
 message_in (x ∷ us) zero u at = inl (let both : Some x ≡ Some u = at in cc)
 message_in (x ∷ us) (suc i) u at = inr (message_in us i u at)
 
-length_messages : (us : List Message) → length (messages_of us) ≡ length us
+pub length_messages : (us : List Message) → length (messages_of us) ≡ length us
 length_messages [] = refl
 length_messages (u ∷ us) = omega (arith, length_messages us)
 
@@ -294,6 +294,6 @@ pub between_of_ring : (layout room : Layout) (cluster : ℕ) (helds : List Holdi
     → first ≡ first_slot (units_of helds) / 16 → last ≡ last_slot 0 (units_of helds) / 16 → AreOfRing room (sectors_between first last)
 between_of_ring layout room cluster helds table first last put own some here one two =
     let us = units_of helds in
-    let are = ends_of_ring layout cluster us (are_in layout cluster helds table put own) (omega (arith, some, length_units helds)) (ring_whole layout) in
+    let are = ends_of_ring layout cluster us (are_in layout cluster helds table put own) (omega (arith, some, length_of_units helds)) (ring_whole layout) in
     let path : sectors_between first last ≡ sectors_of us = λ i. sectors_between (one i) (two i) in
     subst (λ (l : Layout). AreOfRing l (sectors_between first last)) (sym here) (subst (AreOfRing layout) (sym path) are)

@@ -4,7 +4,7 @@ use Rattle.std.specs.List.{slice_get}
 use Rattle.std.proofs.Math.Nat.{mul-le-mul_left, mul_assoc}
 use Rattle.std.proofs.lemmas.Bool.{cases_eq, cases_lt, cond-false, cond-true, eq-eqb, ne_eqb}
 use Rattle.std.proofs.lemmas.Option.{same_Some, slice_get-get_or, slice_get_within}
-use Rattle.df_base.proofs.Laws.{get_set, get_set_other, split_n}
+use Rattle.df_base.proofs.Laws.{get_set, get_set_other, split_n, times_suc}
 use Rattle.df_layout.specs.declared.layout.Layout.{Layout}
 use Rattle.df_layout.specs.declared.places.Zone.TheVariants.{WalPrepares}
 use Rattle.df_format.specs.declared.header.Header.{Header}
@@ -122,14 +122,11 @@ ring_sector n k x y some whole same = elim (cases_lt (x / n) (y / n)) [
     sixteens : (q : ℕ) → n * q ≡ 16 * (k * q)
     sixteens q = ap (λ (m : ℕ). m * q) whole ∙ mul_assoc 16 k q
 
-    times_one_more : (m q : ℕ) → m * (q + 1) ≡ m * q + m
-    times_one_more m q = omega arith
-
     crosses : (a b : ℕ) → a / 16 ≡ b / 16 → a / n < b / n → ⊥
     crosses a b one less =
         let high : n * (a / n + 1) ≤ n * (b / n) = mul-le-mul_left n (omega (arith, less)) in
         let next : n * (a / n + 1) ≡ 16 * (k * (a / n + 1)) = sixteens (a / n + 1) in
-        omega (arith, split_n n a some, split_n n b some, times_one_more n (a / n), high, next, one)
+        omega (arith, split_n n a some, split_n n b some, times_suc n (a / n), high, next, one)
 
 first_at : (us : List Message) → 0 < length us → (u : Message) × (slice_get us 0 ≡ Some u) × (first_slot us ≡ u.header.slot)
 first_at [] some = absurd (omega arith)

@@ -10,4 +10,4 @@ pub use Rattle.df_journal.proofs.RingWrites.{drop_all, drop_from, sync_adds}
 -- ---- a flush
 pub use Rattle.df_journal.proofs.GroupTables.{AreIn, group_kept}
 pub use Rattle.df_journal.proofs.GroupWrites.{stands_at}
-pub use Rattle.df_journal.proofs.GroupMoments.{GroupPuts, are_in, flush_are_steps, flush_puts, group_ends}
+pub use Rattle.df_journal.proofs.GroupMoments.{GroupPuts, are_in, flush_are_steps, flush_puts, group_ends, length_of_units, length_messages}

@@ -1,9 +1,9 @@
 -- The moments of an append, and its end.
-use Rattle.std.specs.Prelude.{Result, Ok, Err, OnOk, nat_lt}
+use Rattle.std.specs.Prelude.{Result, Ok, Err, OnOk}
 use Rattle.std.proofs.Common.{◌≡◌, inl, inr, ℕ, zero, suc, ◌+◌, ◌*◌, ◌/◌, ◌%◌, ◌<◌, ◌≤◌, List, [], ◌∷◌, take, length, set, length-append, ◌==◌, Option, Some, None, refl, sym, ◌∙◌, ap, subst, arith}
 use Rattle.std.specs.List.{slice_get}
 use Rattle.std.proofs.lemmas.Option.{same_Some}
-use Rattle.std.proofs.lemmas.Bool.{cases_eq, cond-false, cond-true, eq-eqb, lt-ltb, ne_eqb}
+use Rattle.std.proofs.lemmas.Bool.{cases_eq, cond-false, cond-true, eq-eqb, ne_eqb}
 use Rattle.df_base.specs.declared.Failed.{Failed}
 use Rattle.df_base.specs.Image.{Image, IsImage, written}
 use Rattle.df_base.specs.Log
@@ -27,7 +27,7 @@ use Rattle.df_theory.specs.Units
 use Rattle.df_theory.specs.Units.{AnyUnit, HeaderPlace, HeaderUnit, PreparePlace, PrepareUnit, or_else}
 use Rattle.df_theory.specs.UnitLog.{put_one}
 use Rattle.df_theory.specs.TidyLaws.{IsTidy}
-use Rattle.df_theory.specs.Cases.{IsEmpty, Takes, cut, decided, decision, seen_header}
+use Rattle.df_theory.specs.Cases.{IsEmpty, Takes, decided}
 use Rattle.df_theory.specs.Tails.{In}
 use Rattle.df_theory.specs.Device.{AreSteps, IsGoodDisk, IsPut, units_log}
 use Rattle.df_theory.specs.Found.{IsFound}
@@ -35,7 +35,7 @@ use Rattle.df_theory.specs.Holds.{Held}
 use Rattle.df_theory.specs.Next.{appended}
 use Rattle.df_theory.specs.Shape.{slots}
 use Rattle.df_theory.specs.View.{Checkpoint, View, boot_of, head}
-use Rattle.df_theory.proofs.Laws.{found_law, in_front, slot_law}
+use Rattle.df_theory.proofs.Laws.{found_law, in_front, slot_law, decided_above}
 use Rattle.df_units.specs.Append.{LeadsOnDisk, append_events}
 use Rattle.df_units.specs.Bytes.{first_at, unit_at}
 use Rattle.df_units.specs.Format.{format_of, shape_of}
@@ -105,10 +105,6 @@ append_steps layout u table own is bytes brings = (
 )
 
 -- ---- what a stop leaves of the other slots
-
--- the decision above a head doesn't ask for the head
-decided_above : (n b top : ℕ) (image : Units.Units) (o : ℕ) → top < o → decided n b top image o ≡ cut (seen_header b o (image (HeaderPlace (o % n)))) (decision n b image o)
-decided_above n b top image o above = cond-true (nat_lt top o) (cut (seen_header b o (image (HeaderPlace (o % n)))) (decision n b image o)) (decision n b image o) (lt-ltb top o above)
 
 pub stays : (layout : Layout) (cluster : ℕ) (named : 0 < cluster) (parse : ℕ → List ℕ → Option Units.Parts) (image : Image) (v u : View) (count : ℕ) → IsImage image → Held (shape_of layout cluster named parse) (unit_at layout cluster image) u
     → u.checkpoint ≡ v.checkpoint → ((p : Units.Message) → In p v.tail → In p u.tail) → head v ≤ head u → head u ≤ head v + count → OthersStay (shape_of layout cluster named parse) (unit_at layout cluster image) v count

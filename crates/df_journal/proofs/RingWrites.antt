@@ -1,8 +1,7 @@
 -- The device calls of a settling, sector by sector, and of a put with a settling after it.
-use Rattle.std.specs.Prelude.{Result, Ok, Err, IsErr, OnOk, OnErr}
+use Rattle.std.specs.Prelude.{Result, Ok, Err, OnOk, OnErr}
 use Rattle.std.proofs.Common.{◌≡◌, inl, ℕ, zero, suc, ◌+◌, ◌*◌, ◌/◌, ◌<◌, ◌≤◌, List, [], ◌∷◌, ◌++◌, length, drop, slice_index_or, Option, Some, refl, sym, ◌∙◌, ap, subst, arith}
 use Rattle.std.specs.List.{slice_get}
-use Rattle.std.proofs.lemmas.Bool.{false≢true}
 use Rattle.std.proofs.lemmas.Option.{same_Some, slice_get-get_or}
 use Rattle.df_base.specs.declared.Failed.{Failed}
 use Rattle.df_base.specs.Log.{Event, Sync}
@@ -22,10 +21,6 @@ use Rattle.df_prepares.specs.Slots.{put_events}
 use Rattle.df_journal.specs.Append.{journal_events, settle_events, settle_steps, with_header}
 
 -- ---- calls that fail, and a sync
-
-pub adds_failed : {T E : Type 0} → (es : List Event) (old new : Option Told) (result : Result T E) → IsErr result → AddsPart es old new → Adds es old new result
-adds_failed es old new (Ok x) failed part = absurd (false≢true failed)
-adds_failed es old new (Err e) failed part = part
 
 pub sync_adds : {T E : Type 0} → (old new : Option Told) (result : Result T E) → OnOk result (new ≡ after Sync old) → OnErr result (new ≡ old) → Adds (Sync ∷ []) old new result
 sync_adds old new (Ok x) ok err = ok

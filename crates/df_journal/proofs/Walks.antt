@@ -19,11 +19,11 @@ use Rattle.df_theory.specs.View.{Checkpoint}
 use Rattle.df_theory.specs.Cases
 use Rattle.df_theory.specs.Found.{IsReach}
 use Rattle.df_theory.specs.Opens.{AreFitting, AreKnown}
-use Rattle.df_theory.proofs.Laws.{chain_append, chain_ops, last_mark-append, sessions-append, in_either, walk_law}
+use Rattle.df_theory.proofs.Laws.{chain_append, chain_ops, last_mark-append, sessions-append, in_either, walk_law, last_checksum-append}
 use Rattle.df_units.specs.Meaning.{header_of, number_of}
 use Rattle.df_group.specs.declared.groups.Tail.{Tail}
 use Rattle.df_group.specs.declared.groups.Position.{Position}
-use Rattle.df_group.proofs.Laws.{IsAhead, IsWalk, behind, chain_end, end_at, first_in, fits_behind, fits_same, groups_join, groups_split, in_last, in_some, last_checksum-append, walk_begins, walk_on}
+use Rattle.df_group.proofs.Laws.{IsAhead, IsWalk, behind, chain_end, end_at, first_in, fits_behind, fits_same, groups_join, groups_split, in_last, in_some, walk_begins, walk_on}
 use Rattle.df_buffers.specs.declared.slots.SlotSeen.{SlotSeen}
 use Rattle.df_journal.specs.declared.table.Start.{Start}
 use Rattle.df_journal.specs.Known.{AllKnown}

@@ -1,2 +1,3 @@
 -- What the proofs above cite: the sectors of a sound room bring its unit to its own place.
 pub use Rattle.df_places.proofs.Steps.{write_brings}
+pub use Rattle.df_places.proofs.Rooms.{all_own}

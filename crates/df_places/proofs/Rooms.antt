@@ -42,7 +42,7 @@ pub read_part : (layout : Layout) (image : Image) (place : Place) (zone : Zone) 
 read_part layout image place zone bytes alone in_zone size is = is ∙ ap (λ (n : ℕ). bytes_at image (span_of layout place).first n) (sectors_read layout place zone (length bytes) in_zone size)
 
 -- all bytes of a place that is no header slot are its own
-all_own : (zone : Zone) (index : ℕ) (bytes : List ℕ) → zone ≢ WalHeaders → bytes ≡ part_in zone index bytes
+pub all_own : (zone : Zone) (index : ℕ) (bytes : List ℕ) → zone ≢ WalHeaders → bytes ≡ part_in zone index bytes
 all_own WalHeaders index bytes alone = absurd (alone refl)
 all_own Superblock index bytes alone = refl
 all_own WalPrepares index bytes alone = refl

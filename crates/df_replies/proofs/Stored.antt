@@ -2,10 +2,9 @@
 use Rattle.std.proofs.Common.{◌≡◌, ◌↔◌, inl, inr, ℕ, ◌<◌, ◌≤◌, List, length, Option, Some, None, refl, sym, ◌∙◌, ap, subst, arith}
 use Rattle.std.specs.Prelude.{Result, Ok, Err, IfSome}
 use Rattle.std.specs.List.{slice_get}
-use Rattle.std.specs.Option.{option_map}
 use Rattle.std.proofs.lemmas.Bool.{cases_lt, cond-true, cond-false, le-leb, lt-leb}
 use Rattle.std.proofs.lemmas.List.{length-map}
-use Rattle.std.proofs.lemmas.Option.{slice_get_cases, slice_get-map, slice_get_within}
+use Rattle.std.proofs.lemmas.Option.{slice_get_cases, slice_get_within}
 use Rattle.df_layout.specs.declared.damage.Class.{Class}
 use Rattle.df_format.specs.Copies.{content_with}
 use Rattle.df_format.specs.declared.header.Header.{Header}
@@ -19,6 +18,7 @@ use Rattle.df_theory.specs.Opens.{IsAnswered, LacksReply}
 use Rattle.df_theory.specs.Found.{IsStored}
 use Rattle.df_theory.specs.View.{View, sessions}
 use Rattle.df_units.specs.Meaning.{answered_of, content_of, header_of}
+use Rattle.df_sessions.proofs.Laws.{session_at}
 use Rattle.df_replies.specs.declared.answers.Lacking.{Lacking}
 use Rattle.df_replies.specs.Named.{IsNamedBy}
 use Rattle.df_replies.specs.Shown.{ShowsReplies, ShowsReply}
@@ -57,9 +57,6 @@ answers_shown f image k s (Ok h) (q, is, same) = (
       ),
 )
 answers_shown f image k s (Err class) none = (λ no. absurd no, λ there. let both : None ≡ Some (ReplyUnit there.0) = sym none ∙ there.1 in absurd (cc))
-
-session_at : (ss : List Session) (k : ℕ) (s : Session) → slice_get ss k ≡ Some s → slice_get (sessions_of ss) k ≡ Some (session_of s)
-session_at ss k s at = slice_get-map session_of ss k ∙ ap (option_map session_of) at
 
 -- a session of the theory's list is one of the table
 session_there : (ss : List Session) (k : ℕ) (s : Units.Session) → slice_get (sessions_of ss) k ≡ Some s → (t : Session) × (slice_get ss k ≡ Some t) × (s ≡ session_of t)

@@ -10,7 +10,7 @@ use Rattle.df_model.specs.declared.answers.Scrubbed.{Scrubbed}
 use Rattle.df_model.specs.declared.answers.Scrubbed.TheVariants.{Checked, TourEnd}
 use Rattle.df_model.specs.declared.answers.Verdict.{Verdict}
 use Rattle.df_model.specs.declared.answers.Verdict.TheVariants.{Sound, Failing}
-use Rattle.df_model.proofs.Laws.{above, all_above, is_next, newest_keeps, newest_short, rising_few}
+use Rattle.df_model.proofs.Laws.{above, all_above, is_next, newest_keeps, newest_short, rising_few, put_first}
 use Rattle.df_grid.specs.Grid.{GridState, referenced_of}
 use Rattle.df_scrub.specs.Scrubber.{IsStep, IsVerdict, ScrubState, after_step, left_in, with_check}
 use Rattle.df_scrub.specs.Tours.{ListsSoFar, failing_among}
@@ -54,10 +54,6 @@ begins g told s t report size after short none zero =
     (subst (λ (n : ℕ). IsTouring g told s.findings (record s { tour = first_tour }) [] n) (sym zero) (begun g told s few)))
 
 -- ---- after a check
-
-put_first : (a : ℕ) (v : Verdict) (rest : List Finding) → with_finding a v rest ≡ with_finding a v [] ++ rest
-put_first a Sound rest = refl
-put_first a (Failing class) rest = refl
 
 check_last : (s : ScrubState) (a : ℕ) (v : Verdict) → (with_check s a v).tour.last ≡ a
 check_last s a Sound = refl

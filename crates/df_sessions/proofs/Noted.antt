@@ -1,6 +1,9 @@
 -- The table is the theory's list of sessions after the same requests, and changes in turn are one list of changes.
-use Rattle.std.proofs.Common.{◌≡◌, ℕ, zero, suc, inl, inr, List, [], ◌∷◌, ◌++◌, refl, sym, ap, ◌∙◌}
+use Rattle.std.proofs.Common.{◌≡◌, ℕ, zero, suc, inl, inr, List, [], ◌∷◌, ◌++◌, refl, sym, ap, ◌∙◌, length, arith, Some}
 use Rattle.std.proofs.lemmas.Bool.{cases_Bool}
+use Rattle.std.specs.List.{slice_get}
+use Rattle.std.specs.Option.{option_map}
+use Rattle.std.proofs.lemmas.Option.{slice_get-map}
 use Rattle.df_theory.specs.Units
 use Rattle.df_theory.specs.Sessions
 use Rattle.df_theory.specs.Sessions.{noted}
@@ -31,6 +34,14 @@ pub reply_unnoted : (place : ℕ) (reply : List ℕ) (sessions : List Session) �
 reply_unnoted place reply [] = refl
 reply_unnoted zero reply (s ∷ sessions) = refl
 reply_unnoted (suc place) reply (s ∷ sessions) = ap (λ (all : List Units.Session). session_of s ∷ all) (reply_unnoted place reply sessions)
+
+-- as many, and each in its place
+pub length_sessions : (ss : List Session) → length (sessions_of ss) ≡ length ss
+length_sessions [] = refl
+length_sessions (s ∷ ss) = omega (arith, length_sessions ss)
+
+pub session_at : (ss : List Session) (k : ℕ) (s : Session) → slice_get ss k ≡ Some s → slice_get (sessions_of ss) k ≡ Some (session_of s)
+session_at ss k s at = slice_get-map session_of ss k ∙ ap (option_map session_of) at
 
 first_of : {s t : Units.Session} {ss ts : List Units.Session} → s ∷ ss ≡ t ∷ ts → s ≡ t
 first_of is = cc

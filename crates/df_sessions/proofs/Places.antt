@@ -6,6 +6,7 @@ use Rattle.std.proofs.lemmas.Bool.{eq-eqb}
 use Rattle.std.proofs.lemmas.List.{get_or-set_same, get_or-set_other, get_or_push, get_or_append_left, length-set, length_push}
 use Rattle.std.proofs.lemmas.List.Quantifiers.{position-Some}
 use Rattle.std.proofs.lemmas.List.Sums.{position_or_len_is}
+use Rattle.std.proofs.lemmas.Option.{slice_get-get_or}
 use Rattle.df_base.proofs.Laws.{none_passes}
 use Rattle.df_sessions.specs.declared.session.Session.{Session}
 use Rattle.df_sessions.specs.Table.{has_client, requested, with_request, with_reply}
@@ -18,6 +19,13 @@ pub record IsFirst {X : Type 0} (p : X → Bool) (xs : List X) (i : ℕ) (d : X)
 
 pub first_place : {X : Type 0} (p : X → Bool) (xs : List X) (i : ℕ) (d : X) → position p xs ≡ Some i → IsFirst p xs i d
 first_place p xs i d is = let facts = position-Some p xs i d is in record { within = facts.0; passes = facts.1; none_before = facts.2 }
+
+-- the place that is found is one
+pub no_gap : (client : ℕ) (ss : List Session) (k : ℕ) → position (has_client client) ss ≡ Some k → slice_get ss k ≡ None → ⊥
+no_gap client ss k is none =
+    let d : Session = record { client = 0; request = 0; op = 0; reply = None } in
+    let some = slice_get-get_or ss k d (first_place (has_client client) ss k d is).within in
+    cc
 
 pub place_is_first : {X : Type 0} (p : X → Bool) (xs : List X) (i : ℕ) (d : X) → IsFirst p xs i d → position p xs ≡ Some i
 place_is_first p xs i d first =

@@ -17,7 +17,7 @@ use Rattle.df_superblock.specs.Events.{mend_events, repair_events}
 use Rattle.df_base.specs.Moments.{adds}
 use Rattle.df_superblock.specs.Calls.{KeepsMembers, KeepsUnlessMisled, RepairsUnlessMisled, EndsRepaired}
 use Rattle.df_superblock.proofs.Sights.{PutsCopy}
-use Rattle.df_disk.proofs.Laws.{adds_part, part_then, all_then, passes, tells_on}
+use Rattle.df_disk.proofs.Laws.{adds_part, part_then, all_then, passes, tells_on, adds_failed}
 use Rattle.df_superblock.proofs.Mends.{Spares, Writes, member_spared, other_written, shown_stays, written_shows}
 use Rattle.df_superblock.proofs.Misleads.{AreOutside, KeepsChoice, each_stays}
 use Rattle.df_superblock.proofs.Puts.{copy_put, one_content}
@@ -68,10 +68,6 @@ members_are (a ∷ b ∷ c ∷ []) size = absurd (omega arith)
 members_are (a ∷ b ∷ c ∷ d ∷ []) size = refl
 members_are (a ∷ b ∷ c ∷ d ∷ e ∷ members) size = absurd (omega arith)
 
-adds_err : {T E : Type 0} → (es : List Event) (old new : Option Told) (result : Result T E) → IsErr result → AddsPart es old new → Adds es old new result
-adds_err es old new (Ok x) err is = absurd (let no : false ≡ true = err in cc)
-adds_err es old new (Err e) err is = is
-
 module _ (f : SuperFields) (members : List Bool) (size : length members ≡ 4) where
   abbrev part : ℕ → List Event
   part n = mend_events f n (get_or members n false)
@@ -85,7 +81,7 @@ module _ (f : SuperFields) (members : List Bool) (size : length members ≡ 4) w
 
   module _ {T E : Type 0} (result : Result T E) (err : IsErr result) where
     some_mended : (old new : Option Told) → AddsPart parts old new → Adds (repair_events f 0 members) old new result
-    some_mended old new is = adds_err (repair_events f 0 members) old new result err (subst (λ (es : List Event). AddsPart es old new) (sym are_parts) is)
+    some_mended old new is = adds_failed (repair_events f 0 members) old new result err (subst (λ (es : List Event). AddsPart es old new) (sym are_parts) is)
 
     pub first_fails : (old new : Option Told) → AddsPart (part 0) old new → Adds (repair_events f 0 members) old new result
     first_fails old new is = some_mended old new (part_then (part 0) _ old new is)

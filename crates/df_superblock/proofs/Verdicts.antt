@@ -1,7 +1,6 @@
 -- What slots that were read say of the copies, and what an update answers of them.
 use Rattle.std.proofs.Common.{◌≡◌, inl, inr, ◌<◌, ◌≤◌, ◌+◌, ◌/◌, ◌==◌, if◌then◌else◌, ◌↔◌, ℕ, zero, suc, Bool, true, false, IsTrue, List, [], ◌∷◌, ◌++◌, length, take, drop, get_or, Option, Some, None, refl, sym, ◌∙◌, ap, subst, arith, Result, Ok, Err, OnOk}
-use Rattle.std.proofs.lemmas.Bool.{cases_lt}
-use Rattle.std.proofs.lemmas.Bool.Decides.{nat_tests}
+use Rattle.std.proofs.lemmas.Bool.{cases_lt, eq-eqb}
 use Rattle.std.proofs.lemmas.List.{append-nil}
 use Rattle.std.proofs.Math.Seq.{take-append_seam}
 use Rattle.df_base.specs.Image.{Image, bytes_at}
@@ -79,15 +78,12 @@ some_content c d e = cc
 pub holds_sound : (n : ℕ) (slot : Slot) (copy : SuperCopy) (f : SuperFields) (b : Bool) → slot ≡ Sound copy → copy.number ≡ n → IsTrue b ↔ (copy.fields ≡ f) → IsTrue b ↔ Holds n slot f
 holds_sound n slot copy f b is here same =
     let shown : content_of (if_here n (copy_of slot)) ≡ Some (record { checksum = copy.checksum; fields = copy.fields }) =
-    ap (λ (s : Slot). content_of (if_here n (copy_of s))) is ∙ ap (λ (t : Bool). content_of (if t then Some copy else None)) (number_is copy.number n here) in (
+    ap (λ (s : Slot). content_of (if_here n (copy_of s))) is ∙ ap (λ (t : Bool). content_of (if t then Some copy else None)) (eq-eqb copy.number n here) in (
       λ true_b. (record { checksum = copy.checksum; fields = copy.fields }, shown, same.0 true_b),
       λ held.
           let one : record { checksum = copy.checksum; fields = copy.fields } ≡ held.0 = some_content _ _ (sym shown ∙ held.1) in
           same.1 (ap (λ (c : Content). c.fields) one ∙ held.2),
     )
-  where
-    number_is : (a b : ℕ) → a ≡ b → (a == b) ≡ true
-    number_is a b e = grind (arith, nat_tests)
 
 -- ---- verdicts
 

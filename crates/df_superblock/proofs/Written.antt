@@ -13,7 +13,7 @@ use Rattle.df_superblock.specs.Events.{update_events}
 use Rattle.df_base.specs.Moments.{adds}
 use Rattle.df_superblock.specs.Calls.{UpdatesSafely, TellsLog, ShowsEqual, EndsEqual}
 use Rattle.df_base.proofs.Laws.{AtEach}
-use Rattle.df_disk.proofs.Laws.{passes, told_log}
+use Rattle.df_disk.proofs.Laws.{passes, told_log, none_after}
 use Rattle.df_superblock.proofs.Turns.{IsAt, at_turn, wrote_turn, synced_at, turn_moment, each_turn}
 use Rattle.df_superblock.proofs.Mends.{Writes, other_written, written_shows}
 use Rattle.df_superblock.proofs.Puts.{copy_put}
@@ -39,10 +39,6 @@ updates_safely f None new result usable is = tt
 updates_safely f (Some t) new result usable is = λ before may. passes (IsOldOrNew t.log before (content_with f)) (update_events f) t new result (safe_each f usable t.log before may) is
 
 -- ---- the end
-
-none_after : (es : List Event) → after_all es None ≡ None
-none_after [] = refl
-none_after (e ∷ es) = none_after es
 
 -- what is told after all events
 pub tells_after : (es : List Event) (t : Told) (new : Option Told) (P : Log → Type 0) → new ≡ after_all es (Some t) → P (adds es t.log) → TellsLog new P

@@ -17,6 +17,10 @@ abbrev pub or_first : Option Failing → Option Failing → Option Failing
 or_first None g = g
 or_first (Some f) g = Some f
 
+pub first_none : (o g : Option Failing) → or_first o g ≡ None → o ≡ None
+first_none None g is = refl
+first_none (Some f) g is = absurd (cc)
+
 pub append_first : (a b : List (Bool × Failing)) → first_refusal (a ++ b) ≡ or_first (first_refusal a) (first_refusal b)
 append_first [] b = refl
 append_first (t ∷ a) b = pick t.0 (append_first a b)

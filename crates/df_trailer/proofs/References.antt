@@ -5,13 +5,12 @@ use Rattle.std.proofs.lemmas.Bool.{eqb-true}
 use Rattle.std.specs.Int.{bit_at}
 use Rattle.std.proofs.lemmas.Nat.Bits.{bit_at-suc}
 use Rattle.df_base.specs.Fields.{field_at}
-use Rattle.df_base.proofs.Laws.{field_moved}
+use Rattle.df_base.proofs.Laws.{field_moved, suc_minus, over_one}
 use Rattle.df_theory.specs.Units.{Layout}
 use Rattle.df_model.specs.Refusals.{first_refusal}
-use Rattle.df_trailer.specs.declared.fault.Failing.{Failing}
 use Rattle.df_trailer.specs.Reading.{AreChecksKept, IsKept}
 use Rattle.df_trailer.specs.Text.{at_address, at_place, fault, read_blocks, bits, bits_at, bits_in, bits_of, checks_at, end_at, head_tests, ones, tests}
-use Rattle.df_trailer.proofs.Kept.{append_first, bits_at_front, bits_kept, head_ends, head_same, or_first}
+use Rattle.df_trailer.proofs.Kept.{append_first, bits_at_front, bits_kept, head_ends, head_same, first_none}
 use Rattle.df_trailer.proofs.OneBit.{ones_more}
 use Rattle.df_trailer.proofs.Read.{fine, no_fault}
 
@@ -24,11 +23,8 @@ reference_of bits checks place =
 pub block_at : (n x at : ℕ) (text : List ℕ) (k : ℕ) → k < n
     → at_place (read_blocks (bits_of n x) at text) k ≡ (if bit_at x k == 1 then Some (field_at 16 (at + 16 * ones (bits_of k x)) text) else None)
 block_at zero x at text k within = absurd (omega arith)
-block_at (suc n) x at text zero within = first (x % 2 == 1) (bit_at x 0 == 1) (ap (λ (y : ℕ). y % 2 == 1) (sym (by_one x)))
+block_at (suc n) x at text zero within = first (x % 2 == 1) (bit_at x 0 == 1) (ap (λ (y : ℕ). y % 2 == 1) (sym (over_one x)))
   where
-    by_one : (x : ℕ) → x / 1 ≡ x
-    by_one x = omega arith
-
     first : (b c : Bool) → b ≡ c → at_place (read_blocks (b ∷ bits_of n (x / 2)) at text) 0 ≡ (if c then Some (field_at 16 (at + 16 * 0) text) else None)
     first true true e = ap (λ (m : ℕ). Some (field_at 16 m text)) none
       where
@@ -103,19 +99,12 @@ reference_kept l op text head bs cs behind place few k room kept none ends withi
     pick true same = ap (λ (c : ℕ). Some c) (same refl)
     pick false same = refl
 
-    first_none : (o g : Option Failing) → or_first o g ≡ None → o ≡ None
-    first_none None g is = refl
-    first_none (Some f) g is = absurd (cc)
-
     group : (a b j : ℕ) → a + (b + j) ≡ (a + b) + j
     group a b j = omega arith
 
 address_at : (bs : List (Option ℕ)) (a : ℕ) → 1 ≤ a → at_place bs (a - 1) ≡ at_address bs a
 address_at bs zero h = absurd (omega arith)
-address_at bs (suc k) h = ap (λ (j : ℕ). at_place bs j) (less k)
-  where
-    less : (k : ℕ) → suc k - 1 ≡ k
-    less k = omega arith
+address_at bs (suc k) h = ap (λ (j : ℕ). at_place bs j) (suc_minus k)
 
 pub reference_at : (l : Layout) (op : ℕ) (text head bs cs : List ℕ) (behind address : ℕ) → l.clients ≤ 64 → IsKept l text head bs behind → length cs ≡ 16 * l.blocks
     → AreChecksKept text (length head + length bs) cs → fault l op text ≡ None → 1 ≤ address → address ≤ l.blocks

@@ -2,6 +2,7 @@
 use Rattle.std.proofs.Common.{◌≡◌, ◌≢◌, ℕ, zero, suc, ◌^◌, ◌<◌, ◌≤◌, ◌==◌, false, nat_lt, Some, List, [], ◌∷◌, length, refl, sym, ap, ◌∙◌, arith, inl, inr}
 use Rattle.std.specs.List.{slice_get}
 use Rattle.std.proofs.lemmas.Bool.{ne_eqb, le-ltb, eqb-false, ltb-false, cases_Bool, or_parts}
+use Rattle.std.proofs.lemmas.Option.{same_Some}
 use Rattle.df_theory.specs.Units.{Session}
 use Rattle.df_trailer.specs.Text.{is_repeated, is_wrong, wrong_place}
 
@@ -61,30 +62,27 @@ rules_behind op earlier ss s here keep = record { each = each; fresh = fresh; cl
     mine : ((0 < s.client) × (0 < s.request) × (s.request ≤ 2 ^ 62) × (0 < s.op) × (s.op ≤ op)) × (is_repeated s.client s.op earlier ≡ false)
     mine = one_right op earlier s here
 
-    one : (s t : Session) → Some s ≡ Some t → s ≡ t
-    one s t e = cc
-
     parts : (k : ℕ) (t : Session) → slice_get ss k ≡ Some t → ((s.client == t.client) ≡ false) × (((s.op == t.op) ≡ false) × (is_repeated t.client t.op earlier ≡ false))
     parts k t at = let a = or_parts (s.client == t.client) _ (keep.fresh k t at) in let b = or_parts (s.op == t.op) _ a.1 in (a.0, (b.0, b.1))
 
     each : (k : ℕ) (t : Session) → slice_get (s ∷ ss) k ≡ Some t → (0 < t.client) × (0 < t.request) × (t.request ≤ 2 ^ 62) × (0 < t.op) × (t.op ≤ op)
-    each zero t at = rw (sym (one s t at)) mine.0
+    each zero t at = rw (sym (same_Some s t at)) mine.0
     each (suc k) t at = keep.each k t at
 
     fresh : (k : ℕ) (t : Session) → slice_get (s ∷ ss) k ≡ Some t → is_repeated t.client t.op earlier ≡ false
-    fresh zero t at = rw (sym (one s t at)) mine.1
+    fresh zero t at = rw (sym (same_Some s t at)) mine.1
     fresh (suc k) t at = (parts k t at).1.1
 
     clients : (j k : ℕ) (t u : Session) → slice_get (s ∷ ss) j ≡ Some t → slice_get (s ∷ ss) k ≡ Some u → t.client ≡ u.client → j ≡ k
     clients zero zero t u tj uk e = refl
-    clients zero (suc k) t u tj uk e = absurd (eqb-false s.client u.client (parts k u uk).0 (ap (λ (v : Session). v.client) (one s t tj) ∙ e))
-    clients (suc j) zero t u tj uk e = absurd (eqb-false s.client t.client (parts j t tj).0 (ap (λ (v : Session). v.client) (one s u uk) ∙ sym e))
+    clients zero (suc k) t u tj uk e = absurd (eqb-false s.client u.client (parts k u uk).0 (ap (λ (v : Session). v.client) (same_Some s t tj) ∙ e))
+    clients (suc j) zero t u tj uk e = absurd (eqb-false s.client t.client (parts j t tj).0 (ap (λ (v : Session). v.client) (same_Some s u uk) ∙ sym e))
     clients (suc j) (suc k) t u tj uk e = ap suc (keep.clients j k t u tj uk e)
 
     ops : (j k : ℕ) (t u : Session) → slice_get (s ∷ ss) j ≡ Some t → slice_get (s ∷ ss) k ≡ Some u → t.op ≡ u.op → j ≡ k
     ops zero zero t u tj uk e = refl
-    ops zero (suc k) t u tj uk e = absurd (eqb-false s.op u.op (parts k u uk).1.0 (ap (λ (v : Session). v.op) (one s t tj) ∙ e))
-    ops (suc j) zero t u tj uk e = absurd (eqb-false s.op t.op (parts j t tj).1.0 (ap (λ (v : Session). v.op) (one s u uk) ∙ sym e))
+    ops zero (suc k) t u tj uk e = absurd (eqb-false s.op u.op (parts k u uk).1.0 (ap (λ (v : Session). v.op) (same_Some s t tj) ∙ e))
+    ops (suc j) zero t u tj uk e = absurd (eqb-false s.op t.op (parts j t tj).1.0 (ap (λ (v : Session). v.op) (same_Some s u uk) ∙ sym e))
     ops (suc j) (suc k) t u tj uk e = ap suc (keep.ops j k t u tj uk e)
 
 pub rules_kept : (op : ℕ) (earlier ss : List Session) → length ss ≤ wrong_place op earlier ss → KeepRules op earlier ss

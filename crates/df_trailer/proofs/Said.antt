@@ -16,7 +16,7 @@ use Rattle.df_trailer.specs.Rooms.{AreParts, bits_in_words, byte_in_checks, refe
 use Rattle.df_trailer.specs.Spelling.{bits_size, listed}
 use Rattle.df_trailer.specs.Text.{bits_in, bits_of, count, fault, fault_in, head_tests, ones, parts_of, read_sessions, root_size, sessions_at}
 use Rattle.df_trailer.proofs.Fed.{fails_as_read, room_size}
-use Rattle.df_trailer.proofs.Kept.{IsEnd, append_first, head_ends, or_first}
+use Rattle.df_trailer.proofs.Kept.{IsEnd, append_first, head_ends, first_none}
 use Rattle.df_trailer.proofs.Longer.{count_front, root_front}
 use Rattle.df_trailer.proofs.Sessions.{sessions_front}
 use Rattle.df_trailer.proofs.OneBit.{count_next, count_same}
@@ -168,7 +168,3 @@ parts_said layout op text r parts none made read =
     is_unset : (b : Bool) (x : ℕ) → (if b then Some x else None) ≡ None → b ≡ false
     is_unset true x is = absurd (cc)
     is_unset false x is = refl
-
-    first_none : (o g : Option Failing) → or_first o g ≡ None → o ≡ None
-    first_none None g is = refl
-    first_none (Some f) g is = absurd (cc)

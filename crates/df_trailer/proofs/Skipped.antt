@@ -5,7 +5,7 @@ use Rattle.std.specs.Int.{byte_at}
 use Rattle.std.proofs.lemmas.Bool.{cases_lt}
 use Rattle.std.proofs.lemmas.List.{get_or_append_left}
 use Rattle.df_base.specs.Fields.{spelled}
-use Rattle.df_base.proofs.Laws.{length-spelled}
+use Rattle.df_base.proofs.Laws.{length-spelled, plus_zero}
 use Rattle.df_trailer.specs.Spelling.{is_referenced, spell_checks}
 use Rattle.df_trailer.specs.Text.{ones}
 use Rattle.df_trailer.specs.Writing.{IsShown, captured_blocks, referenced_among}
@@ -34,9 +34,6 @@ pub shown_whole : (from : ℕ) (room text a b : List ℕ) → IsFront a b → fr
 shown_whole from room text a b front full were =
     shown_all from room ((text ++ a) ++ front.rest) (text ++ b) (append_assoc text a front.rest ∙ ap (λ (xs : List ℕ). text ++ xs) (sym front.is)) (shown_behind from room (text ++ a) front.rest full were)
 
-none : (n : ℕ) → n ≡ n + 0
-none n = omega arith
-
 up : (n k : ℕ) → (n + k) + 1 ≡ n + suc k
 up n k = omega arith
 
@@ -46,7 +43,7 @@ past n m h = omega arith
 -- ---- checksums
 
 checks_first : (f : ℕ → Option ℕ) (n k : ℕ) → IsFront (spell_checks (captured_blocks f n)) (spell_checks (captured_blocks f (n + k)))
-checks_first f n zero = record { rest = []; is = ap (λ (m : ℕ). spell_checks (captured_blocks f m)) (sym (none n)) ∙ sym (append-nil (spell_checks (captured_blocks f n))) }
+checks_first f n zero = record { rest = []; is = ap (λ (m : ℕ). spell_checks (captured_blocks f m)) (sym (plus_zero n)) ∙ sym (append-nil (spell_checks (captured_blocks f n))) }
 checks_first f n (suc k) =
     let before = checks_first f n k in
     let last : List ℕ = spell_checks (f ((n + k) + 1) ∷ []) in
@@ -82,7 +79,7 @@ checks_size f n = (so_checks (captured_blocks f n)).size
 -- ---- bits
 
 spelled_first : (x n k : ℕ) → IsFront (spelled n x) (spelled (n + k) x)
-spelled_first x n zero = record { rest = []; is = ap (λ (m : ℕ). spelled m x) (sym (none n)) ∙ sym (append-nil (spelled n x)) }
+spelled_first x n zero = record { rest = []; is = ap (λ (m : ℕ). spelled m x) (sym (plus_zero n)) ∙ sym (append-nil (spelled n x)) }
 spelled_first x n (suc k) =
     let before = spelled_first x n k in
     let last : List ℕ = byte_at (n + k) x ∷ [] in

@@ -8,7 +8,7 @@ use Rattle.std.proofs.lemmas.List.{take-append-drop}
 use Rattle.std.proofs.lemmas.Bool.{le-ltb, lt-leb, eq-eqb}
 use Rattle.df_base.specs.Fields.{field_at}
 use Rattle.df_base.specs.Text.{Fit, AreRead, total}
-use Rattle.df_base.proofs.Laws.{bits_of_bytes, behind, read_back}
+use Rattle.df_base.proofs.Laws.{bits_of_bytes, behind, read_back, no_some}
 use Rattle.df_theory.specs.Units.{Layout, Parts, Session}
 use Rattle.df_model.specs.Codec.{IsLawful, IsLawfulSession}
 use Rattle.df_trailer.specs.Spelling.{bits_size, blocks_of, is_referenced, number_of, spell, spell_checks, spell_sessions, trailer_pieces}
@@ -117,13 +117,9 @@ same_parts l parts text at st =
 listed_again : (l : Layout) (op : ℕ) (parts : Parts) → IsLawful l op parts → (k : ℕ) → parts.references k ≡ at_address (blocks_of l parts) k
 listed_again l op parts lawful k = by_address k
   where
-    none : (o : Option ℕ) → ((c : ℕ) → o ≡ Some c → ⊥) → o ≡ None
-    none None never = refl
-    none (Some c) never = absurd (never c refl)
-
     by_address : (k : ℕ) → parts.references k ≡ at_address (blocks_of l parts) k
-    by_address zero = none (parts.references 0) (λ c is. omega (arith, (lawful.references 0 c is).0.0))
-    by_address (suc k) = sym (place_listed (λ place. parts.references (suc place)) l.blocks (λ j past. none _ (λ c is. omega (arith, past, (lawful.references (suc j) c is).0.1))) k)
+    by_address zero = no_some (parts.references 0) (λ c is. omega (arith, (lawful.references 0 c is).0.0))
+    by_address (suc k) = sym (place_listed (λ place. parts.references (suc place)) l.blocks (λ j past. no_some _ (λ c is. omega (arith, past, (lawful.references (suc j) c is).0.1))) k)
 
 pub lawful_keep : (l : Layout) (op : ℕ) (parts : Parts) → IsLawful l op parts → KeepRules op [] parts.sessions
 lawful_keep l op parts lawful = record {

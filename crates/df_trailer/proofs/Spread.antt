@@ -28,7 +28,7 @@ spread_first x blocks old rank size is = record {
 next : (p : ℕ) → p + 1 ≡ suc p
 next p = omega arith
 
-clash : 1 ≤ 0 → ⊥
+pub clash : 1 ≤ 0 → ⊥
 clash h = omega arith
 
 both : (b : Bool) → b ≡ true → b ≡ false → ⊥

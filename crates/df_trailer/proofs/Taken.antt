@@ -1,11 +1,12 @@
 -- A piece after the head, byte by byte.
-use Rattle.std.proofs.Common.{◌≡◌, ◌≢◌, ℕ, ◌+◌, ◌*◌, ◌/◌, ◌<◌, ◌≤◌, List, [], length, take, refl, sym, ap, ◌∙◌, arith, inl, inr}
+use Rattle.std.proofs.Common.{◌≡◌, ◌≢◌, ℕ, ◌+◌, ◌*◌, ◌/◌, ◌<◌, List, [], length, take, refl, sym, ap, ◌∙◌, arith, inl, inr}
 use Rattle.std.specs.Prelude.{slice_index}
 use Rattle.std.proofs.lemmas.Bool.{cases_lt}
 use Rattle.std.proofs.lemmas.List.{get_or-take, length-take-le}
 use Rattle.df_trailer.specs.declared.reader.Reader.{Reader}
 use Rattle.df_trailer.specs.Reading.{IsRestTaken}
 use Rattle.df_trailer.specs.Rooms.{byte_in_checks, byte_in_words}
+use Rattle.df_trailer.proofs.Spread.{clash}
 
 -- one byte more
 pub record IsByteTaken (old new : Reader) (byte : ℕ) : Type 0 where
@@ -43,6 +44,3 @@ rest_more old mid new piece i within at same b was =
             b.check k (omega arith) (omega arith) ∙ ap (λ (p : ℕ). slice_index piece p) (sym e) ∙ sym (get_or-take (i + 1) piece j 0 (omega arith))
       ];
     }
-  where
-    clash : 1 ≤ 0 → ⊥
-    clash h = omega arith

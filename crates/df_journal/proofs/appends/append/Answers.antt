@@ -1,12 +1,12 @@
 -- The events are steps, and their moments and their end are those of the theory's append.
 use Rattle.std.proofs.Common.{◌/◌, ◌∷◌, [], ap, subst, sym}
 use Rattle.df_layout.specs.declared.layout.Layout.{Layout}
-use Rattle.df_disk.proofs.Laws.{adds_part}
+use Rattle.df_disk.proofs.Laws.{adds_part, adds_failed}
 use Rattle.df_format.specs.declared.header.Header.{Header}
 use Rattle.df_headers.specs.Ring.{IsTable}
 use Rattle.df_journal.specs.Append.{journal_events}
 use Rattle.df_journal.proofs.Moments.{append_steps, ends_of, moments_of, sector_of_ring}
-use Rattle.df_journal.proofs.RingWrites.{adds_failed, both_add, put_fails}
+use Rattle.df_journal.proofs.RingWrites.{both_add, put_fails}
 use Rattle.df_journal.proofs.appends.append.Goals as goal
 
 pub settle-requires-clause-table : goal.settle-requires-clause-table

@@ -1,8 +1,8 @@
 -- Each turn puts one more prepare, or a part of the puts was made.
 use Rattle.std.proofs.Common.{◌∙◌, ℕ, subst, sym, arith}
+use Rattle.df_disk.proofs.Laws.{adds_failed}
 use Rattle.df_headers.specs.Ring.{IsTable}
 use Rattle.df_journal.proofs.GroupWrites.{group_fails, group_leads, headers_turn, stands_at}
-use Rattle.df_journal.proofs.RingWrites.{adds_failed}
 use Rattle.df_journal.proofs.flushing.put_all.Goals as goal
 
 pub put-requires-clause-table : goal.put-requires-clause-table
