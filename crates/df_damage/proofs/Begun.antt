@@ -1,5 +1,6 @@
 -- A log begun anew goes on as the whole one does.
 use Rattle.std.proofs.Common.{◌≡◌, inl, inr, ℕ, Bool, ◌||◌, List, [], ◌∷◌, Some, refl, sym, ◌∙◌, ap}
+use Rattle.std.proofs.lemmas.Option.{same_Some}
 use Rattle.df_base.specs.Image.{Image, changed, covers, written}
 use Rattle.df_base.specs.Log.{AreLoose, Event, IsLeft, Log, Stop, Sync, Write, add, after_event, loose, loose_of, now}
 use Rattle.df_disk.specs.Told.{Told, did}
@@ -25,17 +26,14 @@ pub same_goes_on : SameGoesOn
 same_goes_on [] t b same = same
 same_goes_on (e ∷ es) t b same = same_goes_on es (did e t) (did e b) (ap (after_event e) same)
 
-some_is : (t n : Told) → Some n ≡ Some t → n ≡ t
-some_is t n is = cc
-
 -- all of it, or a front of it
 again_none : (events : List Event) (b : Told) → AddsPart events (Some b) (Some b)
 again_none [] b = refl
 again_none (e ∷ es) b = inl refl
 
 pub part_is_events : PartIsEvents
-part_is_events [] t n is = record { part = []; is = some_is t n is; again = λ b. refl }
-part_is_events (e ∷ es) t n (inl is) = record { part = []; is = some_is t n is; again = again_none (e ∷ es) }
+part_is_events [] t n is = record { part = []; is = same_Some n t is; again = λ b. refl }
+part_is_events (e ∷ es) t n (inl is) = record { part = []; is = same_Some n t is; again = again_none (e ∷ es) }
 part_is_events (e ∷ es) t n (inr more) =
     let rest = part_is_events es (did e t) n more in
     record { part = e ∷ rest.part; is = rest.is; again = λ b. inr (rest.again (did e b)) }

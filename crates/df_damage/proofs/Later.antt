@@ -10,7 +10,7 @@ use Rattle.df_theory.specs.Grown.{Grows}
 use Rattle.df_theory.specs.Holds.{Sound}
 use Rattle.df_theory.specs.Next.{Next}
 use Rattle.df_theory.specs.Past.{FromEmpty, Was}
-use Rattle.df_theory.proofs.Laws.{next_grew, next_in}
+use Rattle.df_theory.proofs.Laws.{next_grew, next_in, grows_sound}
 
 -- v is w, or a later view: what it has of prepares is w's, as far as its checkpoint is below them, or was appended since
 pub record IsLater (w v : View) : Type 0 where
@@ -22,10 +22,6 @@ pub record IsLater (w v : View) : Type 0 where
 
 later_self : (v : View) → IsLater v v
 later_self v = record { heads = omega arith; boots = omega arith; ops = omega arith; kept = λ p at above. at; new = λ p at. inl at }
-
-sound_of : (sh : Shape) (images : List Units) (v : View) → Grows sh images v → Sound sh v
-sound_of sh [] v grows = absurd grows
-sound_of sh (image ∷ images) v grows = grows.0.bears.sound
 
 later_next : (sh : Shape) (w u v : View) → Sound sh u → Next u v → IsLater w u → IsLater w v
 later_next sh w u v sound next later =
@@ -46,7 +42,7 @@ pub was_later : (sh : Shape) (images : List Units) (v : View) (grows : Grows sh 
 was_later sh [] v grows w was = absurd was
 was_later sh (image ∷ images) v (holds, inl begins) w is = subst (λ (x : View). IsLater x v) (sym is) (later_self v)
 was_later sh (image ∷ images) v (holds, inr (history, (u, next, grows))) w (inl is) = subst (λ (x : View). IsLater x v) (sym is) (later_self v)
-was_later sh (image ∷ images) v (holds, inr (history, (u, next, grows))) w (inr was) = later_next sh w u v (sound_of sh images u grows) next.next (was_later sh images u grows w was)
+was_later sh (image ∷ images) v (holds, inr (history, (u, next, grows))) w (inr was) = later_next sh w u v (grows_sound sh images u grows) next.next (was_later sh images u grows w was)
 
 -- of two views one is the later
 pub one_later : (sh : Shape) (images : List Units) (v : View) (grows : Grows sh images v) (u w : View) → Was sh images v grows u → Was sh images v grows w → IsLater u w ⊎ IsLater w u

@@ -3,6 +3,7 @@ use Rattle.std.proofs.Common.{◌≡◌, ◌<◌, ℕ, List, Option, Some, None,
 use Rattle.df_base.specs.Log.{Event}
 use Rattle.df_disk.specs.Told.{Told}
 use Rattle.df_disk.specs.Adds.{AddsPart, after_all}
+use Rattle.df_disk.proofs.Laws.{nothing_is_part}
 use Rattle.df_layout.specs.declared.layout.Layout.{Layout}
 use Rattle.df_format.specs.First.{first_super}
 use Rattle.df_format.specs.SuperRules.{IsUsable}
@@ -11,7 +12,7 @@ use Rattle.df_model.specs.declared.errors.FormatError.TheVariants.{ClusterZero, 
 use Rattle.df_opening.specs.Formatting.{RefusesCluster, TellsBlank}
 use Rattle.df_opening.specs.Making.{Formats, Makes, MayMakeOn, making_events}
 use Rattle.df_opening.proofs.Blanks.{blank_alone}
-use Rattle.df_opening.proofs.NewFile.{all_reserved, makes_call, makes_part, named_of, nothing_is_part, steps_of_making, unchanged_adds}
+use Rattle.df_opening.proofs.NewFile.{all_reserved, makes_call, makes_part, named_of, steps_of_making, unchanged_adds}
 
 -- a fault tells nothing of what the disk shows
 fault_tells : (old : Option Told) → TellsBlank {T = Unit {0}} old (Err DiskFault)

@@ -1,6 +1,7 @@
 -- What the crates above cite: the ring of a new file, what steps put and leave shown, what is planned of a file of either version, what is kept of one, and what an open finds.
 pub use Rattle.df_opening.proofs.NewFile.{cleared, how_many, ring_reserved, writable}
-pub use Rattle.df_opening.proofs.StepShows.{StartSynced, same_class, same_sector, shown_after, shown_by, stays_firm, stays_whole, synced_first, unit_after, unwritten}
+pub use Rattle.df_opening.proofs.StepShows.{StartSynced, same_class, same_sector, shown_after, shown_by, stays_firm, stays_whole, synced_first, unit_after, unwritten, after_join}
+pub use Rattle.df_opening.proofs.StepShows.{now_adds}
 pub use Rattle.df_opening.proofs.Fronts.{FrontSteps, all_front, front_of, put_nothing}
 pub use Rattle.df_opening.proofs.KeptFiles.{firm_of, firmly, good_safe}
 pub use Rattle.df_opening.proofs.Opens.{codec_of, found_keeps, layout_shown, second_found, super_shown}

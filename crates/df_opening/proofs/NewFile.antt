@@ -1,14 +1,15 @@
 -- A new file is made by writes of reserved headers and of four copies: these are the theory's making, at every moment and at its end.
-use Rattle.std.proofs.Common.{◌≡◌, inl, ℕ, zero, suc, ◌+◌, ◌*◌, ◌/◌, ◌^◌, ◌<◌, ◌≤◌, List, [], ◌∷◌, length, Option, Some, None, refl, sym, ◌∙◌, ap, subst, arith, Result, Ok, Err}
+use Rattle.std.proofs.Common.{◌≡◌, inl, ℕ, zero, suc, ◌+◌, ◌*◌, ◌/◌, ◌^◌, ◌<◌, ◌≤◌, List, length, Option, Some, None, refl, sym, ◌∙◌, ap, subst, arith, Result, Ok, Err}
 use Rattle.std.specs.Prelude.{slice_get}
 use Rattle.std.proofs.lemmas.List.{ext_get_or}
 use Rattle.std.proofs.lemmas.List.FromFn.{get_or-map-range_with_len, length-map-range_with_len}
 use Rattle.std.proofs.lemmas.Option.{get_or_from_slice_get, slice_get-get_or, slice_get_within, same_Some}
 use Rattle.df_base.specs.Log.{Event, Log}
 use Rattle.df_base.specs.Moments.{adds}
+use Rattle.df_base.proofs.Laws.{zero_plus}
 use Rattle.df_disk.specs.Told.{Told, after}
 use Rattle.df_disk.specs.Adds.{Adds, AddsPart, after_all}
-use Rattle.df_disk.proofs.Laws.{adds_part}
+use Rattle.df_disk.proofs.Laws.{adds_part, nothing_is_part}
 use Rattle.df_layout.specs.declared.layout.Layout.{Layout}
 use Rattle.df_format.specs.declared.header.Header.{Header}
 use Rattle.df_format.specs.declared.kind.Kind.TheVariants.{Reserved}
@@ -39,10 +40,7 @@ pub cleared : (layout : Layout) (cluster : ℕ) (table : List Header) → length
 cleared layout cluster table count are =
     ext_get_or (reserved_header cluster 0) table (reserved_table layout cluster) (count ∙ sym (length-map-range_with_len (reserved_header cluster) 0 layout.slots))
     (λ i inside. get_or_from_slice_get table i (reserved_header cluster i) (reserved_header cluster 0) (are i inside)
-    ∙ sym (get_or-map-range_with_len (reserved_header cluster) 0 layout.slots i i (reserved_header cluster 0) (omega (arith, inside, count)) (plain i)))
-  where
-    plain : (i : ℕ) → 0 + i ≡ i
-    plain i = omega arith
+    ∙ sym (get_or-map-range_with_len (reserved_header cluster) 0 layout.slots i i (reserved_header cluster 0) (omega (arith, inside, count)) (zero_plus i)))
 
 module _ (layout : Layout) (cluster : ℕ) (named : 0 < cluster) (small : cluster < 2 ^ 128) (table : List Header) (count : length table ≡ layout.slots) (are : Ring.AreReserved cluster table) where
   is_table : IsTable layout cluster table
@@ -71,10 +69,7 @@ how_many s (suc n) table = ap suc (how_many (s + 1) n table)
 own_table : (layout : Layout) (cluster : ℕ) → Ring.AreReserved cluster (reserved_table layout cluster)
 own_table layout cluster slot inside =
     slice_get-get_or (reserved_table layout cluster) slot (reserved_header cluster 0) inside
-    ∙ ap (λ (h : Header). Some h) (get_or-map-range_with_len (reserved_header cluster) 0 layout.slots slot slot (reserved_header cluster 0) (subst (λ (n : ℕ). slot < n) (length-map-range_with_len (reserved_header cluster) 0 layout.slots) inside) (plain slot))
-  where
-    plain : (i : ℕ) → 0 + i ≡ i
-    plain i = omega arith
+    ∙ ap (λ (h : Header). Some h) (get_or-map-range_with_len (reserved_header cluster) 0 layout.slots slot slot (reserved_header cluster 0) (subst (λ (n : ℕ). slot < n) (length-map-range_with_len (reserved_header cluster) 0 layout.slots) inside) (zero_plus slot))
 
 -- each of its sectors has reserved headers
 abbrev All : Layout → ℕ → Type 0
@@ -118,11 +113,6 @@ makes_all layout cluster is all before may after x adds_all =
   where
     all_part : Some after ≡ after_all (making_events layout cluster) (Some before) → AddsPart (making_events layout cluster) (Some before) (Some after)
     all_part is = adds_part {T = Unit {0}} {E = Unit {0}} (making_events layout cluster) (Some before) (Some after) (Ok tt) is
-
--- nothing is a part of any events
-pub nothing_is_part : (es : List Event) (old new : Option Told) → new ≡ old → AddsPart es old new
-nothing_is_part [] old new is = is
-nothing_is_part (e ∷ es) old new is = inl is
 
 -- ---- of a superblock that can be used
 

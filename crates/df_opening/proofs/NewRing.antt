@@ -1,6 +1,7 @@
 -- The header ring of a new file: its sectors are written one after the other, and each is one of reserved headers.
 use Rattle.std.proofs.Common.{◌≡◌, ℕ, zero, suc, ◌+◌, ◌-◌, ◌*◌, ◌<◌, List, ◌∷◌, ◌++◌, Option, sym, ◌∙◌, ap, subst, arith}
 use Rattle.df_base.specs.Log.{Event, Write}
+use Rattle.df_base.proofs.Laws.{zero_plus}
 use Rattle.df_disk.specs.Told.{Told}
 use Rattle.df_disk.specs.Adds.{AddsPart, after_all}
 use Rattle.df_disk.proofs.Laws.{all_then, part_then, after_append}
@@ -37,13 +38,10 @@ pub one_more : (layout : Layout) (t : List Header) (k : ℕ) (old mid new : Opti
     → new ≡ after_all (header_writes layout 0 (sectors_of 0 (k + 1) t)) old
 one_more layout t k old mid new before now =
     let first : List Event = header_writes layout 0 (sectors_of 0 k t) in
-    let more : header_writes layout 0 (sectors_of 0 (k + 1) t) ≡ first ++ sector_events layout k t = split layout t 0 k 1 k (plain k) in
+    let more : header_writes layout 0 (sectors_of 0 (k + 1) t) ≡ first ++ sector_events layout k t = split layout t 0 k 1 k (zero_plus k) in
     let all : after_all (header_writes layout 0 (sectors_of 0 (k + 1) t)) old ≡ after_all (sector_events layout k t) (after_all first old) =
     ap (λ (es : List Event). after_all es old) more ∙ after_append first (sector_events layout k t) old in
     now ∙ ap (λ (o : Option Told). after_all (sector_events layout k t) o) before ∙ sym all
-  where
-    plain : (k : ℕ) → 0 + k ≡ k
-    plain k = omega arith
 
 -- the write of a sector fails
 pub one_fails : (layout : Layout) (t : List Header) (k n : ℕ) (old mid new : Option Told) → k < n → mid ≡ after_all (header_writes layout 0 (sectors_of 0 k t)) old → AddsPart (sector_events layout k t) mid new
@@ -53,8 +51,5 @@ one_fails layout t k n old mid new inside before part =
     let all : k + suc rest ≡ n = omega (arith, inside) in
     let last : List Event = header_writes layout (k + 1) (sectors_of (k + 1) rest t) in
     subst (λ (c : ℕ). AddsPart (header_writes layout 0 (sectors_of 0 c t)) old new) all
-    (subst (λ (es : List Event). AddsPart es old new) (sym (split layout t 0 k (suc rest) k (plain k)))
+    (subst (λ (es : List Event). AddsPart es old new) (sym (split layout t 0 k (suc rest) k (zero_plus k)))
     (all_then (header_writes layout 0 (sectors_of 0 k t)) (sector_events layout k t ++ last) old mid new before (part_then (sector_events layout k t) last mid new part)))
-  where
-    plain : (k : ℕ) → 0 + k ≡ k
-    plain k = omega arith

@@ -1,7 +1,8 @@
 -- An image is mended in one way, since it has one superblock, one view, and of these one table of headers and one list.
-use Rattle.std.proofs.Common.{◌≡◌, ◌<◌, ℕ, Bool, true, false, IsTrue, List, ◌++◌, length, get_or, Some, refl, sym, ◌∙◌, ap, subst, arith}
+use Rattle.std.proofs.Common.{◌≡◌, ◌<◌, ℕ, false, List, ◌++◌, length, get_or, Some, sym, ◌∙◌, ap, subst, arith}
 use Rattle.std.proofs.lemmas.List.{ext_get_or}
 use Rattle.df_base.specs.Log.{Event}
+use Rattle.df_base.proofs.Laws.{same_bit}
 use Rattle.df_disk.specs.Told.{Told}
 use Rattle.df_layout.specs.declared.damage.Mend.{Mend}
 use Rattle.df_layout.specs.declared.layout.Layout.{Layout}
@@ -22,12 +23,6 @@ use Rattle.df_superblock.specs.Events.{update_events}
 use Rattle.df_opening.specs.Mending.{mending_events, raising_events}
 use Rattle.df_opening.specs.Opened.{AreRaisingTo, OneMending}
 use Rattle.df_opening.specs.Surveying.{headers_of, mends_of}
-
-same_bit : (a b : Bool) → (IsTrue a → IsTrue b) → (IsTrue b → IsTrue a) → a ≡ b
-same_bit true true one other = refl
-same_bit true false one other = sym (one refl)
-same_bit false true one other = other refl
-same_bit false false one other = refl
 
 module _ (version : ℕ) (d e : SuperFields) (t : Told) (s u : State) (es ds : List Event) (one : AreRaisingTo version d t s es) (other : AreRaisingTo version e t u ds) where
   fields : s.fields ≡ u.fields

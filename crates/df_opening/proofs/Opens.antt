@@ -1,5 +1,5 @@
 -- What an open leaves: which device calls it makes, what stays settled, and what an open finds in an image.
-use Rattle.std.proofs.Common.{◌≡◌, ◌+◌, ℕ, List, [], ◌∷◌, ◌++◌, map, Bool, true, false, Option, Some, None, refl, sym, ◌∙◌, ap, subst, arith}
+use Rattle.std.proofs.Common.{◌≡◌, ◌+◌, ℕ, List, [], ◌∷◌, map, Bool, true, false, Option, Some, None, refl, sym, ◌∙◌, ap, subst, arith}
 use Rattle.std.specs.Prelude.{Ok}
 use Rattle.df_base.specs.Image.{Image, IsImage}
 use Rattle.df_base.specs.Log
@@ -15,12 +15,12 @@ use Rattle.df_format.specs.Copies.{Content}
 use Rattle.df_format.specs.declared.header.Header.{Header}
 use Rattle.df_format.specs.declared.superblock.SuperFields.{SuperFields}
 use Rattle.df_theory.specs.Units
-use Rattle.df_theory.specs.Units.{AnyUnit, BlockPlace, or_else}
+use Rattle.df_theory.specs.Units.{BlockPlace}
 use Rattle.df_theory.specs.Device.{AreSteps}
 use Rattle.df_theory.specs.Found.{IsFound}
 use Rattle.df_theory.specs.MakingLaws.{all_puts}
 use Rattle.df_theory.specs.MendLaws.{copy_steps, header_steps}
-use Rattle.df_theory.specs.Runs.{Puts, Step, Syncs}
+use Rattle.df_theory.specs.Runs.{Syncs}
 use Rattle.df_theory.specs.View.{View}
 use Rattle.df_theory.proofs.Laws.{one_found_law}
 use Rattle.df_units.specs.Bytes.{unit_at}
@@ -32,7 +32,7 @@ use Rattle.df_trailer.specs.Text.{parse_of}
 use Rattle.df_trailer.proofs.Laws.{codec}
 use Rattle.df_units.specs.Meaning.{layout_of, number_of}
 use Rattle.df_opening.proofs.Fronts.{Front, front_of}
-use Rattle.df_opening.proofs.StepShows.{stays_firm, unit_after, unwritten}
+use Rattle.df_opening.proofs.StepShows.{stays_firm, unit_after, unwritten, after_join}
 use Rattle.df_opening.specs.Sparing.{AreSettled}
 use Rattle.df_superblock.specs.Steps.{repaired}
 use Rattle.df_damage.specs.Below.{DataFile, Represents, State, boot_fields, shape, spelling}
@@ -77,18 +77,13 @@ second_found file image view whole second found =
 
 -- ---- no step of a mending puts a block
 
-steps_join : (ss ts : List Step) (place : Units.Place) (o : Option AnyUnit) → unit_after (ss ++ ts) place o ≡ unit_after ts place (unit_after ss place o)
-steps_join [] ts place o = refl
-steps_join ((Puts put) ∷ ss) ts place o = steps_join ss ts place (or_else (put place) o)
-steps_join (Syncs ∷ ss) ts place o = steps_join ss ts place o
-
 puts_aside : (a : ℕ) (table : List Header) (ks : List ℕ) → unit_after (all_puts (sector_puts table ks)) (BlockPlace a) None ≡ None
 puts_aside a table [] = refl
 puts_aside a table (k ∷ ks) = puts_aside a table ks
 
 headers_aside : (a : ℕ) (table : List Header) (ks : List ℕ) → unit_after (header_steps (sector_puts table ks)) (BlockPlace a) None ≡ None
 headers_aside a table [] = refl
-headers_aside a table (k ∷ ks) = steps_join (all_puts (sector_puts table (k ∷ ks))) (Syncs ∷ []) (BlockPlace a) None ∙ puts_aside a table (k ∷ ks)
+headers_aside a table (k ∷ ks) = after_join (all_puts (sector_puts table (k ∷ ks))) (Syncs ∷ []) (BlockPlace a) None ∙ puts_aside a table (k ∷ ks)
 
 copies_aside : (a number : ℕ) (f : SuperFields) (members : List Bool) → unit_after (copy_steps (repaired f number members)) (BlockPlace a) None ≡ None
 copies_aside a number f [] = refl
@@ -99,14 +94,14 @@ mending_aside : (file : DataFile) (table : List Header) (mends : List Mend) (f :
 mending_aside file table mends f members a =
     let headers = header_steps (sector_puts table (sectors_of file.layout mends)) in
     let copies = copy_steps (repaired f 0 members) in
-    steps_join headers copies (BlockPlace a) None ∙ ap (unit_after copies (BlockPlace a)) (headers_aside a table (sectors_of file.layout mends)) ∙ copies_aside a 0 f members
+    after_join headers copies (BlockPlace a) None ∙ ap (unit_after copies (BlockPlace a)) (headers_aside a table (sectors_of file.layout mends)) ∙ copies_aside a 0 f members
 
 -- nor one of the boot update
 pub opening_aside : (s : Survey) (a : ℕ) → unit_after (opening_steps s) (BlockPlace a) None ≡ None
 opening_aside s a =
     let first = mending_steps s.state.file.layout s.state.headers s.mends s.state.fields s.chosen.members in
     let update = update_steps (put_copies (boot_fields s.state)) in
-    steps_join first update (BlockPlace a) None ∙ ap (unit_after update (BlockPlace a)) (mending_aside s.state.file s.state.headers s.mends s.state.fields s.chosen.members a)
+    after_join first update (BlockPlace a) None ∙ ap (unit_after update (BlockPlace a)) (mending_aside s.state.file s.state.headers s.mends s.state.fields s.chosen.members a)
 
 -- so after the barrier none is loose
 pub open_settles : (s : Survey) (base : Told) (w : Work) → AreSteps (format s.state.file) (opening_events s) (opening_steps s) → AreSettled s.state.file (told_after (opening_events s) (did Sync base)).log w

@@ -1,10 +1,10 @@
 -- What an open answers where its mending or its boot update failed; and that another refusal than the disk's is one of the superblock, where no more was read.
-use Rattle.std.proofs.Common.{◌≡◌, ◌∙◌, ℕ, List, [], ◌∷◌, ◌++◌, Option, Some, None, refl, ap, subst, sym}
+use Rattle.std.proofs.Common.{◌≡◌, ◌∙◌, ℕ, List, ◌++◌, Option, Some, None, refl, ap, subst, sym}
 use Rattle.std.specs.Prelude.{Result, Ok, Err}
 use Rattle.df_base.specs.Causes.{Blamed}
 use Rattle.df_base.specs.Log.{Event, Sync}
 use Rattle.df_disk.specs.Adds.{AddsPart, after_all}
-use Rattle.df_disk.proofs.Laws.{after_append, all_is_part, all_then}
+use Rattle.df_disk.proofs.Laws.{after_append, all_is_part, all_then, none_after}
 use Rattle.df_disk.specs.Told.{Told, after, did}
 use Rattle.df_layout.specs.declared.damage.Class.{Class}
 use Rattle.df_layout.specs.declared.layout.Layout.{Layout}
@@ -79,11 +79,6 @@ pub blamed_open : (error : MendError) (before now : ℕ) → Blamed (is_mend_fau
 blamed_open DiskFault before now is = is
 blamed_open (Damaged place kind) before now is = is
 
--- over a disk that tells nothing nothing was told before
-pub adds_none : (events : List Event) → after_all events None ≡ None
-adds_none [] = refl
-adds_none (e ∷ es) = adds_none es
-
 -- a disk that tells is told of no damage
 unharmed_none : (T : Type 0) (t : Told) (events : List Event) (new : Option Told) (place : Place) (kind : Class) → new ≡ after_all events (Some t) → IsUnharmed {T = T} new (Err (Damaged place kind)) → ⊥
 unharmed_none T t events new place kind adds unharmed = subst (λ (o : Option Told). IsUnharmed {T = T} o (Err (Damaged place kind))) (adds ∙ added_is_told events t) unharmed
@@ -97,5 +92,5 @@ refused_tells T version layout (Some t) synced new events (Damaged place kind) b
 pub no_refusal : (T : Type 0) (old synced new : Option Told) (events : List Event) (error : MendError) → synced ≡ after Sync old → AddsRaising {T = T} events synced new (Err error) → IsUnharmed {T = T} new (Err error)
     → (refusal_of error ≡ opens.DiskFault → ⊥) → new ≡ after Sync old
 no_refusal T old synced new events DiskFault barrier adds unharmed other = absurd (other refl)
-no_refusal T None synced new events (Damaged place kind) barrier adds unharmed other = adds ∙ ap (after_all events) barrier ∙ adds_none events
+no_refusal T None synced new events (Damaged place kind) barrier adds unharmed other = adds ∙ ap (after_all events) barrier ∙ none_after events
 no_refusal T (Some t) synced new events (Damaged place kind) barrier adds unharmed other = absurd (unharmed_none T (did Sync t) events new place kind (adds ∙ ap (after_all events) barrier) unharmed)

@@ -1,8 +1,8 @@
 -- What steps put, and what their device calls leave as it was.
-use Rattle.std.proofs.Common.{◌≡◌, ℕ, ◌+◌, ◌<◌, ◌||◌, Bool, true, false, List, [], ◌∷◌, Option, Some, None, refl, sym, ◌∙◌, ap, arith}
+use Rattle.std.proofs.Common.{◌≡◌, ℕ, ◌+◌, ◌<◌, ◌||◌, Bool, true, false, List, [], ◌∷◌, Option, Some, None, refl, sym, ◌∙◌, ap, arith, ◌++◌}
 use Rattle.std.proofs.lemmas.Bool.{and_from, le-leb, lt-ltb, or_parts}
 use Rattle.df_base.specs.Image.{Image, IsImage, covers, written}
-use Rattle.df_base.specs.Log.{Event, Log, Stop, Sync, Write, add, loose}
+use Rattle.df_base.specs.Log.{Event, Log, Stop, Sync, Write, add, loose, now}
 use Rattle.df_base.specs.Moments.{adds}
 use Rattle.df_base.proofs.Laws.{written_is_image, written_else}
 use Rattle.df_disk.specs.Told.{Told, did}
@@ -170,3 +170,13 @@ spared_by file events steps are prepare reply block image whole = record {
     none (PreparePlace k) read = prepare k None
     none (ReplyPlace k) read = reply k None
     none (BlockPlace k) read = block k None
+
+-- of steps, and of events, one after the other
+pub after_join : (ss ts : List Step) (place : Place) (o : Option AnyUnit) → unit_after (ss ++ ts) place o ≡ unit_after ts place (unit_after ss place o)
+after_join [] ts place o = refl
+after_join ((Puts put) ∷ ss) ts place o = after_join ss ts place (or_else (put place) o)
+after_join (Syncs ∷ ss) ts place o = after_join ss ts place o
+
+pub now_adds : (es : List Event) (log : Log) → now (adds es log) ≡ image_after es (now log)
+now_adds [] log = refl
+now_adds (e ∷ es) log = now_adds es (add e log)

@@ -2,13 +2,13 @@
 use Rattle.std.proofs.Common.{◌≡◌, ◌≢◌, inl, inr, ℕ, zero, suc, ◌-◌, ◌<◌, List, [], ◌∷◌, Option, Some, None, refl, sym, ◌∙◌, ap, subst, arith}
 use Rattle.std.specs.Prelude.{Ok, Err, IfSome}
 use Rattle.df_base.specs.Image.{Image}
+use Rattle.df_base.proofs.Laws.{some_number}
 use Rattle.df_disk.specs.Told.{Told}
 use Rattle.df_layout.specs.declared.fields.Field.TheVariants.{Pending}
 use Rattle.df_layout.specs.declared.layout.Layout.{Layout}
 use Rattle.df_format.specs.Copies.{content_with}
 use Rattle.df_format.specs.SuperRules.{IsSuper}
 use Rattle.df_format.specs.declared.superblock.SuperFields.{SuperFields}
-use Rattle.df_sessions.specs.declared.session.Session.{Session}
 use Rattle.df_sessions.specs.Requests.{sessions_of}
 use Rattle.df_theory.specs.Units
 use Rattle.df_theory.specs.Sessions.{Has, Tracks}
@@ -30,17 +30,17 @@ use Rattle.df_grid.specs.Grid.{GridState}
 use Rattle.df_grid.specs.Reads.{shown_of}
 use Rattle.df_grid.specs.Table.{IsIdle, no_blocks}
 use Rattle.df_checkpoint.specs.Chain.{OfTold, content_in, error_of}
-use Rattle.df_checkpoint.specs.Reads.{ChainAnswer, IsAdopted, IsComplete, blocks_read}
+use Rattle.df_checkpoint.specs.Reads.{ChainAnswer, IsAdopted, blocks_read}
 use Rattle.df_checkpoint.specs.Waiting.{IsPending, IsUntracked}
 use Rattle.df_checkpoint.specs.declared.fault.TrailerFault.{TrailerFault}
 use Rattle.df_checkpoint.specs.declared.fault.TrailerFault.TheVariants.{BadField, Damaged, DiskFault}
-use Rattle.df_checkpoint.proofs.Laws.{its_text, some_chain}
+use Rattle.df_checkpoint.proofs.Laws.{its_text, some_chain, sessions_back, has_is, has_not}
 use Rattle.df_rooms.specs.State.{shape}
 use Rattle.df_rooms.specs.declared.file.DataFile.{DataFile}
 use Rattle.df_rooms.specs.declared.trailer_rooms.ReaderRoom.{ReaderRoom}
 use Rattle.df_recovery.specs.Checkpoints.{Base, HasCheckpoint, HasText, RefusesTrailer, TellsCheckpoint, TellsText}
 use Rattle.df_recovery.specs.Scanning.{AreRoomsOf, FitsFile}
-use Rattle.df_recovery.proofs.Tracked.{has_is, has_not, sessions_back, tracked}
+use Rattle.df_recovery.proofs.Tracked.{tracked, none_tracked}
 
 -- ---- the rooms
 
@@ -89,20 +89,13 @@ module _ (file : DataFile) (image : Units.Units) (f : SuperFields) (of : AreFiel
     spare = λ a b no. refl;
   }
 
-  no_tracks : (replies op : ℕ) → op ≡ 0 → Tracks replies op []
-  no_tracks replies op first = record {
-    below = λ k s at. absurd (cc);
-    apart = λ j k s u one two same. absurd (cc);
-    pending = λ o above to. absurd (omega (arith, above, to, first));
-  }
-
   pub no_base : HasCheckpoint file image f (record { root = []; sessions = []; blocks = no_blocks })
   no_base = record {
     chain = [];
     parts = no_parts;
     trailer = trailer;
     shown = λ a b no. absurd no;
-    tracks = no_tracks f.replies f.op (no_op f usable none);
+    tracks = none_tracked f.replies f.op (no_op f usable none);
     root_is = refl;
     sessions_are = refl;
     blocks_are = none_read (layout_of file.layout);
@@ -173,19 +166,7 @@ text_untracked file shown f base n text named lacking = record {
   least = λ m above less. subst (λ (ss : List Units.Session). Has ss m) (sym text.sessions_are) (has_is m base.sessions (lacking.least m above less));
 }
 
--- a reader that has read a whole text gives this of it
-pub complete_gives : (P : Layout → ℕ → Type 0) (g : GridState) (op : ℕ) (reader : Reader) (layout : Layout) → IsComplete g op reader → g.layout ≡ layout → ((l : Layout) (o : ℕ) (text : List ℕ) → HasRead l o reader text → P l o) → P layout op
-complete_gives P g op reader layout complete same gives = subst (λ (l : Layout). P l op) same (gives g.layout op complete.text complete.has)
-
--- the ops that wait, of copies of the sessions and of the superblock
-pub pending_of : (lent ss : List Session) (fields f : SuperFields) (o : Option ℕ) → lent ≡ ss → fields ≡ f → IsPending lent fields.replies fields.op o → IsPending ss f.replies f.op o
-pending_of lent ss fields f o same one pending = subst (λ (l : List Session). IsPending l f.replies f.op o) same (subst (λ (x : SuperFields). IsPending lent x.replies x.op o) one pending)
-
 -- ---- of a disk, told or not
-
-some_address : (n : ℕ) → n ≢ 0 → 0 < n
-some_address zero other = absurd (other refl)
-some_address (suc n) other = omega arith
 
 pub told_text : (file : DataFile) (told : Option Told) (f : SuperFields) (g h : GridState) (reader : Reader) (parts : rooms.Parts) → h.layout ≡ file.layout → h.cluster ≡ file.cluster → g.layout ≡ file.layout
     → OfTold h told (λ shown. ChainAnswer (shape file) shown (content_in f) g reader (Ok tt)) → GivesParts reader parts → TellsText file told f (record { root = parts.root.items; sessions = parts.sessions.items; blocks = g.blocks })
@@ -201,7 +182,7 @@ told_base file (Some t) f base text read pending = text_tracked file (unit_at fi
 pub told_untracked : (file : DataFile) (told : Option Told) (f : SuperFields) (base : Base) (n : ℕ) → f.trailer_address ≢ 0 → TellsText file told f base → IsPending base.sessions f.replies f.op (Some n) → TellsCheckpoint file told f (Err (OpenError.BadField Pending n))
 told_untracked file None f base n named text lacking = tt
 told_untracked file (Some t) f base n named text lacking =
-    let some = some_address f.trailer_address named in (
+    let some = some_number f.trailer_address named in (
       some,
       inr (inr (inr (refl, text_untracked file (shown_of file.layout file.cluster t.shown) f base n text some lacking))),
     )
@@ -219,7 +200,7 @@ pub told_refused : (file : DataFile) (told : Option Told) (f : SuperFields) (g h
     → OfTold h told (λ shown. ChainAnswer (shape file) shown (content_in f) g reader (Err e)) → TellsCheckpoint file told f (Err (error_of e))
 told_refused file None f g h reader e layout cluster named answer = tt
 told_refused file (Some t) f g h reader e layout cluster named answer =
-    refused_shown file t.shown f g reader e (some_address f.trailer_address named) (subst (λ (shown : Shown). ChainAnswer (shape file) shown (content_in f) g reader (Err e)) (λ i. shown_of (layout i) (cluster i) t.shown) answer)
+    refused_shown file t.shown f g reader e (some_number f.trailer_address named) (subst (λ (shown : Shown). ChainAnswer (shape file) shown (content_in f) g reader (Err e)) (λ i. shown_of (layout i) (cluster i) t.shown) answer)
 
 pub told_fault : (file : DataFile) (told : Option Told) (f : SuperFields) → TellsCheckpoint file told f (Err OpenError.DiskFault)
 told_fault file None f = tt

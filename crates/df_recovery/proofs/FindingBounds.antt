@@ -19,7 +19,7 @@ use Rattle.df_theory.specs.Units
 use Rattle.df_theory.specs.Units.{AnyUnit, BlockPlace, CopyPlace, HeaderPlace, HeaderUnit, Message, PreparePlace, PrepareUnit, ReplyPlace, ReplyUnit}
 use Rattle.df_theory.specs.Found.{IsReplies}
 use Rattle.df_theory.specs.Sessions.{MayAsk, Tracks, noted, sessions_after}
-use Rattle.df_theory.proofs.Laws.{tracks_chain}
+use Rattle.df_theory.proofs.Laws.{tracks_chain, chain_near}
 use Rattle.df_rooms.specs.State.{AreAsked}
 use Rattle.df_theory.specs.Tails.{Chain, last_mark}
 use Rattle.df_theory.specs.Shape.{Shape}
@@ -108,18 +108,13 @@ any_is layout f ss = record { slots_are = refl; clients_are = refl; content_is =
 
 -- ---- the bounds
 
-mark_near : (clients op parent mark m : ℕ) (ss : List Units.Session) (ps : List Message) → Chain clients op parent mark ss ps → 0 < length ps → op + length ps ≤ last_mark m ps + 9
-mark_near clients op parent mark m ss [] chain some = absurd (omega arith)
-mark_near clients op parent mark m ss (p ∷ []) chain some = omega (arith, chain.0.mark_near)
-mark_near clients op parent mark m ss (p ∷ q ∷ ps) chain some = omega (arith, mark_near clients (op + 1) p.header.checksum p.header.mark p.header.mark (noted p.header ss) (q ∷ ps) chain.1 (omega arith))
-
 mark_below : (clients op parent mark m : ℕ) (ss : List Units.Session) (ps : List Message) → Chain clients op parent mark ss ps → m < op → last_mark m ps < op + length ps
 mark_below clients op parent mark m ss [] chain small = omega (arith, small)
 mark_below clients op parent mark m ss (p ∷ ps) chain small = omega (arith, mark_below clients (op + 1) p.header.checksum p.header.mark p.header.mark (noted p.header ss) ps chain.1 (omega (arith, chain.0.mark_below)))
 
 tail_near : (clients op parent top n : ℕ) (ss : List Units.Session) (ps : List Message) → Chain clients (op + 1) parent 0 ss ps → top ≡ op + length ps → last_mark 0 ps ≤ n → op ≤ n + 8 → top ≤ n + 8
 tail_near clients op parent top n ss [] chain is mark base = omega (arith, is, base)
-tail_near clients op parent top n ss (p ∷ ps) chain is mark base = omega (arith, is, mark, mark_near clients (op + 1) parent 0 0 ss (p ∷ ps) chain (omega arith))
+tail_near clients op parent top n ss (p ∷ ps) chain is mark base = omega (arith, is, mark, chain_near clients (op + 1) parent 0 0 ss (p ∷ ps) chain (omega arith))
 
 -- ---- the sessions after the tail
 

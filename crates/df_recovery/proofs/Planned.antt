@@ -1,7 +1,7 @@
 -- What a plan means on an image that is found: where each header comes from, and that a slot that isn't listed shows it already.
 use Rattle.std.proofs.Common.{◌≡◌, inl, inr, ℕ, ◌+◌, ◌<◌, ◌≤◌, ◌%◌, List, [], length, Bool, true, false, Option, Some, None, refl, sym, ◌∙◌, ap, subst, arith}
 use Rattle.std.specs.Prelude.{Result, Ok, Err, nat_le, nat_lt, not}
-use Rattle.std.proofs.lemmas.Bool.{cases_lt, cond-false, cond-true, eqb-true, le-leb, le-ltb, lt-leb, lt-ltb}
+use Rattle.std.proofs.lemmas.Bool.{cases_lt, cond-false, cond-true, eqb-true, le-leb, le-ltb, lt-leb, lt-ltb, not-false}
 use Rattle.std.proofs.lemmas.Option.{slice_get_past}
 use Rattle.std.proofs.Math.Nat.{mod-lt}
 use Rattle.df_layout.specs.declared.damage.Class.{Class}
@@ -102,10 +102,6 @@ shows_some checksum (Some (PrepareUnit p)) is = absurd (cc)
 shows_some checksum (Some (ReplyUnit r)) is = absurd (cc)
 shows_some checksum (Some (BlockUnit b)) is = absurd (cc)
 shows_some checksum None is = absurd (cc)
-
-not_not : (b : Bool) → not b ≡ false → b ≡ true
-not_not true is = refl
-not_not false is = cc
 
 -- a header that proves something is shown
 seen_some : (b o : ℕ) (x : Option AnyUnit) → is_nothing (seen_header b o x) ≡ false → (h : Units.Header) × (x ≡ Some (HeaderUnit h))
@@ -210,7 +206,7 @@ module _ (layout : Layout) (sh : Shape) (image : Units.Units) (v : View) (scan :
   own_named slot o q d shown same =
       let take : d ≡ Cases.Take (not (shows_header q.header.checksum (image (HeaderPlace slot)))) = same ∙ ap (named (image (HeaderPlace slot))) shown in (
         subst Cases.IsTake (sym take) tt,
-        λ quiet. shows_some q.header.checksum (image (HeaderPlace slot)) (not_not (shows_header q.header.checksum (image (HeaderPlace slot))) (sym (ap is_mended take) ∙ quiet)),
+        λ quiet. shows_some q.header.checksum (image (HeaderPlace slot)) (not-false (shows_header q.header.checksum (image (HeaderPlace slot))) (sym (ap is_mended take) ∙ quiet)),
       )
 
   own_taken : (slot o : ℕ) (q : Message) (d : Cases.Decision) → image (PreparePlace slot) ≡ Some (PrepareUnit q) → Cases.IsTake d → SaysOfSlot scan.start.boot o (image (HeaderPlace slot)) (image (PreparePlace slot)) d

@@ -1,42 +1,17 @@
 -- The sessions that a trailer's text has, and the ops that wait for their replies.
-use Rattle.std.proofs.Common.{◌≡◌, ℕ, zero, suc, ◌<◌, ◌≤◌, ◌==◌, ◌||◌, Bool, true, false, inl, inr, Option, Some, None, List, [], ◌∷◌, map, refl, sym, ap, ◌∙◌, subst, arith}
+use Rattle.std.proofs.Common.{◌≡◌, ℕ, ◌<◌, ◌≤◌, Option, Some, None, List, [], refl, sym, ap, ◌∙◌, subst, arith}
 use Rattle.std.specs.List.{slice_get}
 use Rattle.std.specs.Option.{option_map}
-use Rattle.std.proofs.lemmas.Bool.{cases_eq, eq-eqb, ne_eqb, or_parts}
 use Rattle.std.proofs.lemmas.Option.{slice_get-map}
 use Rattle.df_format.specs.declared.superblock.SuperFields.{SuperFields}
 use Rattle.df_sessions.specs.declared.session.Session.{Session}
 use Rattle.df_sessions.specs.Requests.{session_of, sessions_of}
 use Rattle.df_theory.specs.Units
-use Rattle.df_theory.specs.Sessions.{Has, Tracks}
-use Rattle.df_trailer.specs.Rooms.{without_reply}
+use Rattle.df_theory.specs.Sessions.{Tracks}
 use Rattle.df_trailer.specs.Sessions.{AreRead}
-use Rattle.df_checkpoint.specs.Waiting.{IsPending, has_op}
+use Rattle.df_checkpoint.specs.Waiting.{IsPending}
+use Rattle.df_checkpoint.proofs.Laws.{has_is}
 use Rattle.df_recovery.specs.Checkpoints.{AreOfCheckpoint}
-
--- the table's sessions are the text's
-pub sessions_back : (ss : List Units.Session) → sessions_of (map without_reply ss) ≡ ss
-sessions_back [] = refl
-sessions_back (s ∷ ss) = ap (λ (l : List Units.Session). s ∷ l) (sessions_back ss)
-
-pub has_is : (op : ℕ) (ss : List Session) → has_op op ss ≡ true → Has (sessions_of ss) op
-has_is op [] is = absurd (cc)
-has_is op (s ∷ ss) is = elim (cases_eq s.op op) [
-  | inl same ↦ (0, session_of s, refl, same)
-  | inr other ↦
-      let rest = has_is op ss (ap (λ (b : Bool). b || has_op op ss) (sym (ne_eqb s.op op other)) ∙ is) in
-      (suc rest.0, rest.1, rest.2, rest.3)
-]
-
-pub has_not : (op : ℕ) (ss : List Session) → has_op op ss ≡ false → Has (sessions_of ss) op → ⊥
-has_not op [] is (k, s, at, same) = let no : None ≡ Some s = at in cc
-has_not op (t ∷ ss) is (zero, s, at, same) =
-    let here : (t.op == op) ≡ false = (or_parts (t.op == op) (has_op op ss) is).0 in
-    let one : session_of t ≡ s = (let both : Some (session_of t) ≡ Some s = at in cc) in
-    let there : (t.op == op) ≡ true = eq-eqb t.op op (ap (λ (x : Units.Session). x.op) one ∙ same) in
-    let both : true ≡ false = sym there ∙ here in
-    cc
-has_not op (t ∷ ss) is (suc k, s, at, same) = has_not op ss (or_parts (t.op == op) (has_op op ss) is).1 (k, s, at, same)
 
 -- a session of the theory's list is one of the table
 record IsOf (ss : List Session) (k : ℕ) (s : Units.Session) : Type 0 where
@@ -72,6 +47,13 @@ of_checkpoint places f ss read pending = record {
   tracks = tracked places f.replies f.op ss read pending;
 }
 
+pub none_tracked : (replies op : ℕ) → op ≡ 0 → Tracks replies op []
+none_tracked replies op first = record {
+  below = λ k s at. absurd (cc);
+  apart = λ j k s t one two same. absurd (cc);
+  pending = λ o above within. absurd (omega (arith, first, above, within));
+}
+
 pub none_of_checkpoint : (f : SuperFields) (ss : List Session) → f.op ≡ 0 → ss ≡ [] → AreOfCheckpoint f ss
 none_of_checkpoint f ss first none = subst (AreOfCheckpoint f) (sym none) (record {
   asked = λ k s at. absurd (cc);
@@ -79,10 +61,3 @@ none_of_checkpoint f ss first none = subst (AreOfCheckpoint f) (sym none) (recor
   unstored = λ k s at. absurd (cc);
   tracks = none_tracked f.replies f.op first;
 })
-  where
-    none_tracked : (replies op : ℕ) → op ≡ 0 → Tracks replies op []
-    none_tracked replies op first = record {
-      below = λ k s at. absurd (cc);
-      apart = λ j k s t one two same. absurd (cc);
-      pending = λ o above within. absurd (omega (arith, first, above, within));
-    }

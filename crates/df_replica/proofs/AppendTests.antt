@@ -1,22 +1,23 @@
 -- What an append that isn't refused may rely on, and where a client's session is found.
 use Rattle.std.proofs.Common.{◌≡◌, inl, inr, ℕ, zero, suc, ◌^◌, ◌<◌, ◌≤◌, Bool, true, false, List, [], ◌∷◌, length, get_or, map, Option, Some, None, IsSome, refl, sym, ◌∙◌, ap, subst, arith, rules, ltb-false, eqb-true}
-use Rattle.std.specs.Prelude.{option_map, if◌then◌else◌, nat_lt}
+use Rattle.std.specs.Prelude.{option_map, if◌then◌else◌, IfSome}
 use Rattle.std.specs.List.{position}
 use Rattle.std.proofs.lemmas.Bool.{cases_Bool, or_parts, not-false, eqb-false}
 use Rattle.std.proofs.lemmas.List.{length-map}
 use borrow.Author.Tests.{ltb-false}
 use Rattle.std.proofs.lemmas.List.Quantifiers.{position-Some}
 use Rattle.std.proofs.lemmas.Option.{slice_get-get_or}
-use Rattle.df_base.proofs.Laws.{and_false, none_passes}
+use Rattle.std.proofs.Common.{◌%◌}
+use Rattle.std.proofs.Math.Nat.{mod-lt}
+use Rattle.df_base.proofs.Laws.{and_false, none_passes, no_elements}
 use Rattle.df_sessions.specs.declared.session.Session as told
 use Rattle.df_sessions.specs.Requests.{session_of, sessions_of}
 use Rattle.df_sessions.specs.Table.{IsKnown, IsTable, has_client, requested, with_request}
 use Rattle.df_theory.specs.Sessions.{MayAsk}
 use Rattle.df_theory.specs.Units.{Header, Session}
-use Rattle.df_model.specs.Work.{Request}
 use Rattle.df_model.specs.Refusals.{append_refusals, first_refusal, is_new, last_op, next_request, session_of_client}
 use Rattle.df_journal.specs.Tail.{AreNumbered}
-use Rattle.df_model.proofs.Laws.{all_pass, known_asks, new_asks}
+use Rattle.df_model.proofs.Laws.{all_pass, known_asks, new_asks, some_request}
 use Rattle.df_opening.specs.Below.{IsState, State, memory}
 use Rattle.df_replica.specs.Refusing.{session_at}
 use Rattle.df_replica.specs.Appending.{MayNext}
@@ -64,10 +65,6 @@ small_session ss (Some i) s all at = all i s at
 
 -- ---- what isn't refused
 
-some_request : (o : Option Session) → 0 < next_request o
-some_request None = omega arith
-some_request (Some s) = omega arith
-
 -- the client may make its request now
 may_ask : (room client request replies : ℕ) (h : Header) (ss : List Session) (o : Option Session) → session_of_client client ss ≡ o → length ss ≤ room → (is_new o ≡ true → length ss ≡ room → ⊥) → last_op o ≤ replies → request ≡ next_request o
     → h.client ≡ client → h.request ≡ request → h.mark ≡ replies → MayAsk room h ss
@@ -75,11 +72,6 @@ may_ask room client request replies h ss None at few places answered next named 
     new_asks room h ss (subst (λ (n : ℕ). session_of_client n ss ≡ None) (sym named) at) (let full = places refl in omega arith) (asked ∙ next)
 may_ask room client request replies h ss (Some s) at few places answered next named asked mark =
     known_asks room h ss s (subst (λ (n : ℕ). session_of_client n ss ≡ Some s) (sym named) at) few (asked ∙ next) (omega (arith, answered, mark))
-
--- nothing is left of a list that isn't counted
-none_left : (rs : List Request) → nat_lt 0 (length rs) ≡ false → rs ≡ []
-none_left [] none = refl
-none_left (r ∷ rs) none = absurd (omega (arith, ltb-false 0 (length (r ∷ rs)) none))
 
 pub may_next : (s : State) (client request : ℕ) (body : List ℕ) → IsState s → IsTable s.table → s.live ≡ true → first_refusal (append_refusals (memory s) client request body) ≡ None → MayNext s client request (length body)
 may_next s client request body is table live none =
@@ -90,7 +82,7 @@ may_next s client request body is table live none =
     record {
       live = live;
       note = record {
-        unstaged = none_left s.staged rest;
+        unstaged = no_elements s.staged rest;
         named = (let named = eqb-false _ _ tests.0 in omega arith);
         request = (omega (arith, asked, some_request (session_of_client client (map session_of s.table.sessions))), ltb-false _ _ last.1);
         few = (let pipeline = eqb-false _ _ tests.1.1.1.1.1.1.0 in omega (arith, is.waiting, is.few));
@@ -120,3 +112,11 @@ pub numbered_on : (client request op : ℕ) (ss : List told.Session) → AreNumb
 numbered_on client request op [] all small zero s at = let same : requested client request op ≡ s = cc in subst (λ (y : told.Session). y.request ≤ 2 ^ 62) same small
 numbered_on client request op [] all small (suc k) s at = absurd (cc)
 numbered_on client request op (x ∷ ss) all small k s at = numbered_case (has_client client x) client request op x ss all small (λ j t there. numbered_on client request op ss (λ i r here. all (suc i) r here) small j t there) k s at
+
+pub each_small : (o : Option told.Session) → ((s : told.Session) → o ≡ Some s → s.request ≤ 2 ^ 62) → IfSome o (λ s. s.request ≤ 2 ^ 62)
+each_small None small = tt
+each_small (Some s) small = small s refl
+
+-- the slot of an op fits its field
+pub small_slot : (op slots : ℕ) → 0 < slots → slots ≤ 1024 → op % slots < 2 ^ 32
+small_slot op slots some few = omega (arith, mod-lt op some, few)

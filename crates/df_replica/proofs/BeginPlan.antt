@@ -3,6 +3,7 @@ use Rattle.std.proofs.Common.{◌≡◌, ◌∙◌, ℕ, zero, suc, ◌+◌, ◌
 use Rattle.std.specs.Prelude.{slice_get}
 use Rattle.std.proofs.Math.Nat.{div-add-mod, lt_of_mul-lt-mul_left}
 use Rattle.std.proofs.lemmas.List.{length-map}
+use Rattle.df_base.proofs.Laws.{suc_minus}
 use Rattle.df_sessions.specs.Requests.{session_of}
 use Rattle.df_theory.specs.Trailer.{IsCount}
 use Rattle.df_units.specs.Meaning.{layout_of}
@@ -28,15 +29,12 @@ pieces_is room size (suc k) some any is =
     let q : ℕ = (size + room - 1) / room in
     let split : room * q + (size + room - 1) % room ≡ size + room - 1 = div-add-mod (size + room - 1) room in
     let rest : (size + room - 1) % room < room = omega arith in
-    let needed : room * k < size = subst (λ (i : ℕ). room * i < size) (less k) (is.needed (omega arith)) in
+    let needed : room * k < size = subst (λ (i : ℕ). room * i < size) (suc_minus k) (is.needed (omega arith)) in
     let one : room * suc k ≡ room * k + room = omega arith in
     let two : room * suc (suc k) ≡ room * suc k + room = omega arith in
     let above : k < q = lt_of_mul-lt-mul_left room (omega (arith, split, rest, needed, some)) in
     let below : q < suc (suc k) = lt_of_mul-lt-mul_left room (omega (arith, split, is.holds, two, some)) in
     omega (arith, above, below)
-  where
-    less : (k : ℕ) → suc k - 1 ≡ k
-    less k = omega arith
 
 module _ (s : State) (root : List ℕ) (live size : ℕ) (live_is : live ≡ ones (map is_referenced (captured_blocks (λ a. sum_at a s.blocks.live) s.file.layout.blocks))) (size_is : size ≡ text_size (layout_of s.file.layout) (length root) (length s.table.sessions) live) where
   pub size_planned : size ≡ length (text_to_write s root)

@@ -7,19 +7,18 @@ use Rattle.std.specs.List.{slice_get}
 use Rattle.df_base.specs.Log.{Event, now}
 use Rattle.df_disk.specs.Told.{Told}
 use Rattle.df_disk.specs.Adds.{after_all}
-use Rattle.df_buffers.specs.Sounds.{Holding}
 use Rattle.df_format.specs.declared.header.Header.{Header}
 use Rattle.df_format.specs.Message.{Message}
 use Rattle.df_theory.specs.Device.{AreSteps, units_log}
 use Rattle.df_theory.specs.Next.{MayAppend}
-use Rattle.df_theory.specs.Runs.{Puts, Step, Syncs}
+use Rattle.df_theory.specs.Runs.{Step, Syncs}
 use Rattle.df_theory.specs.Shape.{Shape}
 use Rattle.df_theory.specs.TidyLaws.{IsTidy}
 use Rattle.df_theory.specs.UnitLog.{put_one}
 use Rattle.df_theory.specs.Units as theory
 use Rattle.df_theory.specs.Units.{AnyUnit, BlockPlace, CopyPlace, Place, PreparePlace, PrepareUnit, ReplyPlace, or_else, overlay}
 use Rattle.df_theory.specs.View.{boot_of}
-use Rattle.df_theory.proofs.Laws.{put_one_law}
+use Rattle.df_theory.proofs.Laws.{put_one_law, else_join}
 use Rattle.df_trailer.specs.Text.{parse_of}
 use Rattle.df_units.specs.Bytes.{unit_at}
 use Rattle.df_units.specs.Format.{format_of, shape_as, shape_of}
@@ -29,7 +28,7 @@ use Rattle.df_headers.specs.Ring.{in_sector, write_steps}
 use Rattle.df_journal.specs.Append.{ShowsRing, settle_events, settle_steps}
 use Rattle.df_journal.specs.Flush as journal
 use Rattle.df_journal.specs.Flush.{EndsFlushed, MayFlushOn, MayPut, flush_steps, group_steps, messages_of, units_of, with_headers}
-use Rattle.df_journal.proofs.Laws.{GroupPuts, flush_are_steps, flush_puts, group_ends}
+use Rattle.df_journal.proofs.Laws.{GroupPuts, flush_are_steps, flush_puts, group_ends, length_of_units}
 use Rattle.df_model.specs.Commands.{Flush, ForFlush, Given, supplied_sums}
 use Rattle.df_model.specs.Laws.{DoesFlush, UnlessRefused}
 use Rattle.df_model.specs.Making.{group_of, prepares_in}
@@ -41,7 +40,7 @@ use Rattle.df_model.specs.Work.{Request, Work}
 use Rattle.df_model.specs.declared.errors.FlushError.{FlushError}
 use Rattle.df_model.proofs.Laws.{all_pass, flush_may_law}
 use Rattle.df_opening.specs.Below.{IsState, Represents, State, memory, shape, spelling}
-use Rattle.df_opening.proofs.Laws.{boot_made, firmly, unit_after}
+use Rattle.df_opening.proofs.Laws.{boot_made, firmly, unit_after, after_join}
 use Rattle.df_replica.specs.declared.flush.Group.{Group}
 use Rattle.df_replica.specs.Appending.{unit_of}
 use Rattle.df_replica.specs.Flushing.{AreHeld, flush_events, flush_units, group_events, group_in, header_in, sums_of, units_in}
@@ -72,16 +71,6 @@ group_same s op parent (r ∷ rs) some =
 
 -- ---- what its steps put
 
--- of steps one after the other
-unit_join : (ss ts : List Step) (place : Place) (o : Option AnyUnit) → unit_after (ss ++ ts) place o ≡ unit_after ts place (unit_after ss place o)
-unit_join [] ts place o = refl
-unit_join ((Puts put) ∷ ss) ts place o = unit_join ss ts place (or_else (put place) o)
-unit_join (Syncs ∷ ss) ts place o = unit_join ss ts place o
-
-else_join : (a b c : Option AnyUnit) → or_else a (or_else b c) ≡ or_else (or_else a b) c
-else_join (Some x) b c = refl
-else_join None b c = refl
-
 -- the puts leave the prepares, each in its slot
 puts_leave : (n : ℕ) (us : List Message) (place : Place) (o : Option AnyUnit) → ((i : ℕ) (u : Message) → slice_get us i ≡ Some u → u.header.slot ≡ u.header.op % n) → unit_after (group_steps us) place o ≡ or_else (group_puts n (messages_of us) place) o
 puts_leave n [] place o slots = refl
@@ -103,7 +92,7 @@ writes_leave table (sector ∷ sectors) place o none =
 flush_leaves : (n : ℕ) (us : List Message) (table : List Header) (place : Place) (o : Option AnyUnit) → ((i : ℕ) (u : Message) → slice_get us i ≡ Some u → u.header.slot ≡ u.header.op % n) → IsNoHeader place
     → unit_after (flush_steps us table) place o ≡ or_else (group_puts n (messages_of us) place) o
 flush_leaves n us table place o slots none =
-    unit_join (group_steps us) (settle_steps (with_headers us table) (journal.sectors_of us)) place o
+    after_join (group_steps us) (settle_steps (with_headers us table) (journal.sectors_of us)) place o
     ∙ writes_leave (with_headers us table) (journal.sectors_of us) place (unit_after (group_steps us) place o) none
     ∙ puts_leave n us place o slots
 
@@ -123,10 +112,6 @@ in_slots : (g : Group) (op : ℕ) (parent : List ℕ) (rs : List Request) (i : �
 in_slots g op parent [] i u at = absurd (cc)
 in_slots g op parent (r ∷ rs) zero u at = subst (λ (x : Message). x.header.slot ≡ x.header.op % g.file.layout.slots) (same_Some _ _ at) refl
 in_slots g op parent (r ∷ rs) (suc i) u at = in_slots g (op + 1) (unit_of (header_in g op parent r) r.body).header.checksum rs i u at
-
-length_of_units : (helds : List Holding) → length (units_of helds) ≡ length helds
-length_of_units [] = refl
-length_of_units (held ∷ helds) = omega (arith, length_of_units helds)
 
 -- ---- a flush
 

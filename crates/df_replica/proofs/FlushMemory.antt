@@ -17,6 +17,7 @@ use Rattle.df_units.specs.Meaning.{header_of, number_of}
 use Rattle.df_model.specs.Changing.{flushed_in, unstored_all}
 use Rattle.df_model.specs.Memory.{Memory, sum_of_message}
 use Rattle.df_model.specs.Work.{Request}
+use Rattle.df_journal.proofs.Laws.{length_messages}
 use Rattle.df_opening.specs.Below.{IsState, State, memory, prepare_sum, stored_sum}
 use Rattle.df_replica.specs.declared.flush.Group.{Group}
 use Rattle.df_replica.specs.Appending.{unit_of}
@@ -25,10 +26,6 @@ use Rattle.df_replica.proofs.AppendMemory.{noted_table, stored_table, sum_at, su
 use Rattle.df_replica.proofs.FlushUnits.{length_units}
 
 -- ---- one after the other
-
-length_messages : (us : List Message) → length (messages_of us) ≡ length us
-length_messages [] = refl
-length_messages (u ∷ us) = omega (arith, length_messages us)
 
 last_same : (check : List ℕ) (us : List Message) → number_of (last_check check us) ≡ last_checksum (number_of check) (messages_of us)
 last_same check [] = refl

@@ -23,6 +23,7 @@ use Rattle.df_theory.specs.Next.{MayAskInTurn}
 use Rattle.df_theory.specs.Sessions.{MayAsk, Tracks, noted}
 use Rattle.df_theory.specs.Units
 use Rattle.df_theory.proofs.Laws.{tracks_noted}
+use Rattle.df_sessions.proofs.Laws.{length_sessions}
 use Rattle.df_replica.specs.declared.flush.Group.{Group}
 use Rattle.df_replica.specs.Appending as appending
 use Rattle.df_replica.specs.Appending.{unit_of}
@@ -45,10 +46,6 @@ asks_place room h (x ∷ ss) (inr there) none = omega (arith, there.2, asks_plac
 has_place : (room : ℕ) (h : Units.Header) (ss : List told.Session) → MayAsk room h (sessions_of ss) → (o : Option Units.Session) → session_of_client h.client (sessions_of ss) ≡ o → length (sessions_of ss) ≡ length ss → IsKnown h.client ss ⊎ (length ss < room)
 has_place room h ss may None at same = inr (omega (arith, asks_place room h (sessions_of ss) may at, same))
 has_place room h ss may (Some s) at same = inl (known_client h.client ss (ap is_new at))
-
-length_sessions : (ss : List told.Session) → length (sessions_of ss) ≡ length ss
-length_sessions [] = refl
-length_sessions (s ∷ ss) = omega (arith, length_sessions ss)
 
 pub have_places : (layout : Layout) (g : Group) (replies op : ℕ) (parent : List ℕ) (rs : List Request) (ss : List told.Session) → ((i : ℕ) (r : Request) → slice_get rs i ≡ Some r → IsRequest layout r) → MayAskInTurn layout.clients (sessions_of ss) (asks_of replies op rs)
     → HavePlaces layout.clients ss (units_in g op parent rs)

@@ -9,6 +9,7 @@ use Rattle.df_theory.specs.Units.{PreparePlace}
 use Rattle.df_units.specs.Bytes.{first_at}
 use Rattle.df_journal.specs.Flush.{AreOwn, group_puts, units_of}
 use Rattle.df_model.specs.Work.{Request}
+use Rattle.df_journal.proofs.Laws.{length_of_units}
 use Rattle.df_opening.specs.Below.{DataFile, IsState, State, first_of}
 use Rattle.df_opening.proofs.Laws.{boot_made}
 use Rattle.df_replica.specs.declared.flush.Group.{Group}
@@ -94,10 +95,6 @@ puts_same file (held ∷ helds) made =
     ∙ ap (λ (es : List Event). Write at (sectors_of held.unit) ∷ es) (puts_same file helds (λ i x there. made (suc i) x there))
 
 -- ---- the rooms that hold them
-
-length_of_units : (helds : List Holding) → length (units_of helds) ≡ length helds
-length_of_units [] = refl
-length_of_units (held ∷ helds) = omega (arith, length_of_units helds)
 
 pub count_held : (g : Group) (op : ℕ) (parent : List ℕ) (rs : List Request) (helds : List Holding) → units_of helds ≡ units_in g op parent rs → length helds ≡ length rs
 count_held g op parent rs helds same = omega (arith, length_of_units helds, length_units g op parent rs, ap (λ (us : List Message). length us) same)

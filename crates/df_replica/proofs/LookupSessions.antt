@@ -4,7 +4,6 @@ use Rattle.std.specs.Prelude.{option_map}
 use Rattle.std.specs.List.{position, slice_get}
 use Rattle.std.proofs.lemmas.Bool.Decides.{nat_tests}
 use Rattle.std.proofs.lemmas.List.Quantifiers.{position-Some}
-use Rattle.std.proofs.lemmas.Option.{slice_get-get_or}
 use Rattle.df_sessions.specs.declared.session.Session as told
 use Rattle.df_sessions.specs.Requests.{session_of}
 use Rattle.df_sessions.specs.Table.{IsTable, has_client}
@@ -43,10 +42,6 @@ map_at f (y ∷ ys) (suc i) x at = map_at f ys i x at
 
 inside : (client : ℕ) (ss : List told.Session) (place : ℕ) → position (has_client client) ss ≡ Some place → place < length ss
 inside client ss place here = (position-Some (has_client client) ss place no_session here).0
-
--- there is a session at a client's place
-pub some_there : (client : ℕ) (ss : List told.Session) (place : ℕ) → position (has_client client) ss ≡ Some place → slice_get ss place ≡ None → ⊥
-some_there client ss place here none = let some = slice_get-get_or ss place no_session (inside client ss place here) in cc
 
 module _ (s : State) (client : ℕ) where
   pub no_client : position (has_client client) s.table.sessions ≡ None → first_refusal (lookup_refusals (memory s) client) ≡ Some NoClient

@@ -1,5 +1,5 @@
 -- The units that a command makes, and that whatever the state after it needs was needed before it or is one of them.
-use Rattle.std.proofs.Common.{◌≡◌, ℕ, ◌==◌, ◌%◌, ◌+◌, nat_lt, inl, inr, Bool, true, false, if◌then◌else◌, List, [], ◌∷◌, length, Option, Some, None, refl, sym, ◌∙◌, ap, subst}
+use Rattle.std.proofs.Common.{◌≡◌, ℕ, ◌==◌, ◌%◌, ◌+◌, inl, inr, Bool, true, false, if◌then◌else◌, List, [], ◌∷◌, length, Option, Some, None, refl, sym, ◌∙◌, ap, subst}
 use Rattle.std.proofs.lemmas.Bool.{eqb-true}
 use Rattle.std.proofs.lemmas.Option.{same_Some}
 use Rattle.df_theory.specs.Next as next
@@ -8,9 +8,9 @@ use Rattle.df_theory.specs.Shape.{Shape, slots}
 use Rattle.df_theory.specs.Shows.{Needs}
 use Rattle.df_theory.specs.Tails.{In}
 use Rattle.df_theory.specs.Trailer.{InChain}
-use Rattle.df_theory.specs.Units.{AnyUnit, Block, BlockPlace, BlockUnit, CopyPlace, HeaderPlace, Message, Parts, Place, PreparePlace, PrepareUnit, ReplyPlace, ReplyUnit, Session}
+use Rattle.df_theory.specs.Units.{AnyUnit, Block, BlockPlace, BlockUnit, CopyPlace, HeaderPlace, Message, Parts, Place, PreparePlace, PrepareUnit, ReplyPlace, ReplyUnit}
 use Rattle.df_theory.specs.View.{head}
-use Rattle.df_theory.proofs.Laws.{in_dropped, in_either}
+use Rattle.df_theory.proofs.Laws.{in_dropped, in_either, kept_some}
 use Rattle.df_model.specs.After.{after_check, after_running, after_step_of, begun, finished, next_trailer, outcome, to_check, with_group, with_live, with_prepare, with_reply, with_running, with_staged, with_trailer_block}
 use Rattle.df_model.specs.Commands.{Advance, Append, Begin, Command, Flush, Given, ReadBlock, ReadPrepare, ReadReply, Recent, Release, Reply, Scrub, Stage, WriteBlock, after, supplied_sum, supplied_sums, supplied_verdict}
 use Rattle.df_model.specs.Making.{group_of, needed_of, next_address, place_of_reply, prepare_of, reply_of}
@@ -105,15 +105,6 @@ pub record HasEach (sh : Shape) (P : Place → AnyUnit → Type 0) (w : Work) : 
   pub needs : (place : Place) (x : AnyUnit) → Needs sh (kept w) place x → P place x
   pub trailer : (r : Running) → w.running ≡ Some r → (a : ℕ) (b : Block) → InChain a b r.written → P (BlockPlace a) (BlockUnit b)
 
--- what is stored after an append was stored before it
-still_stored : (o : Option Session) (op : ℕ) (old : Option Message) (r : Message) → next.kept o op old ≡ Some r → old ≡ Some r
-still_stored None op old r is = absurd (let none : None ≡ Some r = is in cc)
-still_stored (Some s) op old r is = by (nat_lt op s.op) is
-  where
-    by : (b : Bool) → (if b then None else old) ≡ Some r → old ≡ Some r
-    by true is = absurd (let none : None ≡ Some r = is in cc)
-    by false is = is
-
 module _ (sh : Shape) (spell : Parts → List ℕ) (P : Place → AnyUnit → Type 0) (w : Work) (has : HasEach sh P w) where
   -- ---- an append, and a reply
 
@@ -130,7 +121,7 @@ module _ (sh : Shape) (spell : Parts → List ℕ) (P : Place → AnyUnit → Ty
     | inl old ↦ has.needs (PreparePlace s) x (q, old, slot, is)
     | inr new ↦ subst (λ (k : ℕ). P (PreparePlace k) x) (sym slot) (subst (λ (y : AnyUnit). P (PreparePlace (q.header.op % slots sh)) y) (sym is) (own_of ps q new made))
   ]
-  needs_more ps made (ReplyPlace k) x (r, at, is) = has.needs (ReplyPlace k) x (r, still_stored _ (head w.view) (w.view.stored k) r at, is)
+  needs_more ps made (ReplyPlace k) x (r, at, is) = has.needs (ReplyPlace k) x (r, kept_some _ (head w.view) (w.view.stored k) r at, is)
   needs_more ps made (BlockPlace a) x need = has.needs (BlockPlace a) x need
 
   appended_has : (p : Message) → P (PreparePlace (p.header.op % slots sh)) (PrepareUnit p) → HasEach sh P (with_prepare w p)

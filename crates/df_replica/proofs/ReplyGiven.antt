@@ -16,16 +16,17 @@ use Rattle.df_sessions.specs.declared.session.Session as told
 use Rattle.df_sessions.specs.Requests.{session_of}
 use Rattle.df_sessions.specs.Table.{IsTable}
 use Rattle.df_model.specs.Making.{client_of, request_of}
+use Rattle.df_sessions.proofs.Laws.{session_at}
 use Rattle.df_opening.specs.Below.{IsState, State}
 use Rattle.df_replica.specs.Replying.{MayReplyNext, first_check, place_waiting, reply_given, session_waiting}
-use Rattle.df_replica.proofs.ReplyTests.{client_named, place_inside, session_told, waiting_told}
+use Rattle.df_replica.proofs.ReplyTests.{client_named, place_inside, waiting_told}
 
 -- the header of these parts, over a blank one
 pub header_is : (s : State) (blank : Header) (parent : List ℕ) (client place sequence boot : ℕ) (r : told.Session) → blank ≡ blank_header AsReply s.file.cluster → client ≡ r.client → parent ≡ first_check s.waiting → place ≡ place_waiting s → slice_get s.table.sessions place ≡ Some r → sequence ≡ s.fields.sequence → boot ≡ s.fields.boot
     → record blank { parent = parent; client = client; op = s.replies + 1; request = r.request; mark = s.head; checkpoint = sequence; slot = place; version = 2; boot = boot }
     ≡ reply_given s
 header_is s blank parent client place sequence boot r blank_is client_here parent_is place_is at sequence_is boot_is =
-    let there : session_waiting s ≡ Some (session_of r) = session_told s.table.sessions (place_waiting s) r (subst (λ (k : ℕ). slice_get s.table.sessions k ≡ Some r) place_is at) in
+    let there : session_waiting s ≡ Some (session_of r) = session_at s.table.sessions (place_waiting s) r (subst (λ (k : ℕ). slice_get s.table.sessions k ≡ Some r) place_is at) in
     let client_is : client ≡ client_of (session_waiting s) = client_here ∙ ap client_of (sym there) in
     let request_is : r.request ≡ request_of (session_waiting s) = ap request_of (sym there) in
     λ i. record (blank_is i) {

@@ -3,20 +3,15 @@ use Rattle.std.proofs.Common.{◌≡◌, ◌∙◌, ℕ, zero, suc, List, [], �
 use Rattle.std.specs.Prelude.{slice_set}
 use Rattle.df_format.specs.declared.header.Header.{Header}
 use Rattle.df_sessions.specs.declared.session.Session as told
-use Rattle.df_sessions.specs.Requests.{session_of, sessions_of}
+use Rattle.df_sessions.specs.Requests.{sessions_of}
 use Rattle.df_sessions.specs.Table.{with_reply}
 use Rattle.df_theory.specs.Units as theory
 use Rattle.df_units.specs.Meaning.{number_of}
 use Rattle.df_model.specs.Memory.{Memory}
 use Rattle.df_model.specs.Changing.{replied_in}
+use Rattle.df_sessions.proofs.Laws.{reply_unnoted}
 use Rattle.df_opening.specs.Below.{State, memory, stored_sum}
 use Rattle.df_replica.specs.Replying.{place_waiting, replied}
-
--- a stored reply changes no request
-pub sessions_kept : (place : ℕ) (check : List ℕ) (ss : List told.Session) → sessions_of (with_reply place check ss) ≡ sessions_of ss
-sessions_kept place check [] = refl
-sessions_kept zero check (s ∷ ss) = refl
-sessions_kept (suc place) check (s ∷ ss) = ap (λ (l : List theory.Session). session_of s ∷ l) (sessions_kept place check ss)
 
 stored_there : (place : ℕ) (check : List ℕ) (ss : List told.Session) → map stored_sum (with_reply place check ss) ≡ slice_set (map stored_sum ss) place (Some (number_of check))
 stored_there place check [] = refl
@@ -31,7 +26,7 @@ pub replied_memory : (s : State) (h : Header) → h.slot ≡ place_waiting s →
 replied_memory s h place =
     let t : State = replied s h in
     let T : List theory.Session → List (Option ℕ) → List ℕ → Memory = λ ss st ws. record (memory t) { sessions = ss; stored = st; waiting = ws } in
-    ap (λ (ss : List theory.Session). T ss (map stored_sum t.table.sessions) (map number_of t.waiting)) (sessions_kept h.slot h.checksum s.table.sessions)
+    ap (λ (ss : List theory.Session). T ss (map stored_sum t.table.sessions) (map number_of t.waiting)) (reply_unnoted h.slot h.checksum s.table.sessions)
     ∙ ap (λ (st : List (Option ℕ)). T (sessions_of s.table.sessions) st (map number_of t.waiting)) (stored_there h.slot h.checksum s.table.sessions)
     ∙ ap (λ (k : ℕ). T (sessions_of s.table.sessions) (slice_set (map stored_sum s.table.sessions) k (Some (number_of h.checksum))) (map number_of t.waiting)) place
     ∙ ap (λ (ws : List ℕ). T (sessions_of s.table.sessions) (slice_set (map stored_sum s.table.sessions) (place_waiting s) (Some (number_of h.checksum))) ws) (fewer s.waiting)

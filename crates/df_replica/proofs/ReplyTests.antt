@@ -11,6 +11,7 @@ use Rattle.df_theory.specs.Units.{Session}
 use Rattle.df_model.specs.Making.{place_of_op}
 use Rattle.df_model.specs.Refusals.{first_refusal, reply_refusals}
 use Rattle.df_model.proofs.Laws.{all_pass, op_found}
+use Rattle.df_sessions.proofs.Laws.{session_at}
 use Rattle.df_opening.specs.Below.{IsState, State, memory}
 use Rattle.df_replica.specs.Replying.{MayReplyNext, place_waiting, session_waiting}
 
@@ -38,10 +39,6 @@ no_place op (x ∷ ss) none =
 
 -- ---- the session that waits
 
--- a session in the theory's words
-pub session_told : (ss : List told.Session) (k : ℕ) (r : told.Session) → slice_get ss k ≡ Some r → slice_get (sessions_of ss) k ≡ Some (session_of r)
-session_told ss k r at = slice_get-map session_of ss k ∙ ap (option_map session_of) at
-
 module _ (s : State) (is : IsState s) (waits : s.replies < s.head) where
   -- it is in the table
   pub waiting_there : (t : Session) × (session_waiting s ≡ Some t) × (t.op ≡ s.replies + 1)
@@ -51,7 +48,7 @@ module _ (s : State) (is : IsState s) (waits : s.replies < s.head) where
   waiting_told = of (slice_get s.table.sessions (place_waiting s)) refl
     where
       of : (o : Option told.Session) → slice_get s.table.sessions (place_waiting s) ≡ o → (r : told.Session) × (slice_get s.table.sessions (place_waiting s) ≡ Some r) × (session_waiting s ≡ Some (session_of r))
-      of (Some r) at = (r, at, session_told s.table.sessions (place_waiting s) r at)
+      of (Some r) at = (r, at, session_at s.table.sessions (place_waiting s) r at)
       of None at = absurd (let none : None ≡ Some waiting_there.0 = sym (slice_get-map session_of s.table.sessions (place_waiting s) ∙ ap (option_map session_of) at) ∙ waiting_there.1 in cc)
 
   pub place_inside : place_waiting s < length s.table.sessions

@@ -16,7 +16,7 @@ use Rattle.df_model.specs.Making.{first_of, prepare_in, prepares_in}
 use Rattle.df_model.specs.Memory.{Memory}
 use Rattle.df_model.specs.Refusals.{counted, first_refusal, session_of_client, stage_refusals}
 use Rattle.df_model.specs.Work.{Request}
-use Rattle.df_model.proofs.Laws.{all_pass, allowed, allowed_asks, ask_on, some_request}
+use Rattle.df_model.proofs.Laws.{all_pass, allowed, allowed_asks, ask_on, some_request, noted_alike}
 use Rattle.df_opening.specs.Below.{AreStaging, IsRequest, IsState, State, asker_of, asks_of, memory}
 use Rattle.df_replica.specs.Flushing.{request_of, sessions_staged, staged_with}
 
@@ -27,11 +27,6 @@ request_at (r ∷ rs) zero inside = (r, refl)
 request_at (r ∷ rs) (suc i) inside = request_at rs i (omega (arith, inside))
 
 -- ---- sessions after requests
-
--- a table notes headers of one session alike
-noted_alike : (g h : Header) (ss : List Session) → session_of g ≡ session_of h → noted g ss ≡ noted h ss
-noted_alike g h [] same = ap (λ (s : Session). s ∷ []) same
-noted_alike g h (x ∷ ss) same = λ i. if x.client == (same i).client then same i ∷ ss else x ∷ noted_alike g h ss same i
 
 -- so the machine's group leads to the same sessions as what it asks, where so many replies are stored
 pub group_sessions : (m : Memory) (f l op p replies : ℕ) (rs : List Request) (sums : List ℕ) (ss : List Session) → sessions_after ss (prepares_in m f l op p rs sums) ≡ sessions_after ss (asks_of replies op rs)

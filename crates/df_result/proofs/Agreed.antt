@@ -1,5 +1,5 @@
 -- No command tells two things apart that a device may show and that agree: it answers the same and leaves the same, and what it leaves shown agrees.
-use Rattle.std.proofs.Common.{◌≡◌, ℕ, zero, suc, ◌+◌, ◌%◌, ◌<◌, ◌≤◌, ◌==◌, Bool, true, false, if◌then◌else◌, cond, List, [], ◌∷◌, length, Option, Some, None, Result, refl, ◌∙◌, ap, arith, mod-lt}
+use Rattle.std.proofs.Common.{◌≡◌, ℕ, zero, suc, ◌+◌, ◌%◌, ◌<◌, ◌≤◌, ◌==◌, Bool, true, false, if◌then◌else◌, cond, List, [], ◌∷◌, Option, Some, None, Result, refl, ◌∙◌, ap, arith, mod-lt}
 use Rattle.std.specs.Prelude.{nat_lt}
 use Rattle.std.specs.List.{filter, range_with_len}
 use Rattle.std.proofs.lemmas.Bool.{and_from, le-leb, lt-ltb, not-false}
@@ -7,18 +7,18 @@ use Rattle.std.proofs.lemmas.Bool.Decides.{nat_tests}
 use Rattle.df_layout.specs.declared.damage.Class.{Class}
 use Rattle.df_layout.specs.declared.layout.Layout.{Layout}
 use Rattle.df_layout.proofs.Laws.{some_slots}
-use Rattle.df_theory.specs.Units.{AnyUnit, BlockPlace, Message, Place, PreparePlace, ReplyPlace, Session}
+use Rattle.df_theory.specs.Units.{AnyUnit, BlockPlace, Message, Place, PreparePlace, ReplyPlace}
 use Rattle.df_theory.specs.View.{sessions}
 use Rattle.df_model.specs.After.{after_check, lookup_answer, place_of_client, prepare_answer, read_answer, shown_or, to_check}
 use Rattle.df_model.specs.Blocks.{addresses, entries, entry, reference_in, sum_at}
 use Rattle.df_model.specs.Commands.{Advance, Append, Begin, Command, Flush, ReadBlock, ReadPrepare, ReadReply, Recent, Release, Reply, Scrub, Stage, ToReadBlock, ToReadPrepare, ToReadReply, ToScrub, WriteBlock, Answer, as_answer}
 use Rattle.df_model.specs.Memory.{Memory, memory_of, prepare_sum, reply_sum}
-use Rattle.df_model.specs.Refusals.{first_refusal, is_new, lookup_refusals, read_refusals, session_of_client}
+use Rattle.df_model.specs.Refusals.{first_refusal, lookup_refusals, read_refusals}
 use Rattle.df_model.specs.Sense.{IsWork}
 use Rattle.df_model.specs.Supply.{Shown, block_at, block_given, class_at, class_or, first_check, next, no_trailer, prepare_at, prepare_given, reply_at, reply_given, verdict_of}
 use Rattle.df_model.specs.Work.{Work, is_known}
 use Rattle.df_model.specs.declared.answers.Verdict.{Verdict}
-use Rattle.df_model.proofs.Laws.{all_pass}
+use Rattle.df_model.proofs.Laws.{all_pass, place_known}
 use Rattle.df_replica.specs.Below.{DataFile, shape, spelling}
 use Rattle.df_replica.specs.Leaving.{IsReadPlace}
 use Rattle.df_result.specs.Agreeing.{AgreeShown}
@@ -26,16 +26,6 @@ use Rattle.df_result.specs.Calls.{NextAgrees}
 use Rattle.df_result.specs.Codec.{codec}
 
 -- ---- which places are read
-
--- a client that has a session has it at one of their places
-place_case : (client : ℕ) (x : Session) (ss : List Session) (b : Bool) → (is_new (session_of_client client ss) ≡ false → place_of_client client ss < length ss) → is_new (if b then Some x else session_of_client client ss) ≡ false
-    → (if b then 0 else suc (place_of_client client ss)) < length (x ∷ ss)
-place_case client x ss true more known = omega arith
-place_case client x ss false more known = omega (arith, more known)
-
-client_inside : (client : ℕ) (ss : List Session) → is_new (session_of_client client ss) ≡ false → place_of_client client ss < length ss
-client_inside client [] known = absurd (cc)
-client_inside client (x ∷ ss) known = place_case client x ss (x.client == client) (client_inside client ss) known
 
 -- an address that is looked up in a map of these addresses is one of them
 sum_case : (f : ℕ → Option ℕ) (s n a : ℕ) (o : Option ℕ) → (is_known (sum_at a (entries f (range_with_len (s + 1) n))) ≡ true → (s + 1 ≤ a) × (a < s + 1 + n)) → is_known (sum_at a (entry s o (entries f (range_with_len (s + 1) n)))) ≡ true
@@ -128,7 +118,7 @@ module _ (file : DataFile) (one other : Shown) (agree : AgreeShown file.layout o
       let place = place_of_client client m.sessions in
       let same : lookup_answer m (reply_at one (reply_sum m place) place) client ≡ lookup_answer m (reply_at other (reply_sum m place) place) client =
       shown_same (first_refusal (lookup_refusals m client)) _ _ _ (λ none.
-      let inside = client_inside client (sessions w.view) (all_pass (lookup_refusals m client) none).0 in
+      let inside = place_known client (sessions w.view) (all_pass (lookup_refusals m client) none).0 in
       reply_same file.layout one other agree (reply_sum m place) place (omega (arith, inside, work.sessions.few))) in
       ap (λ x. let y : Work × Answer = (w, ToReadReply x) in y) same
 

@@ -3,10 +3,11 @@ pub use Rattle.df_session.proofs.Acknowledged.{keeps_answered}
 pub use Rattle.df_session.proofs.Exact.{append_moves, flush_moves, on_running, reply_moves, write_moves}
 pub use Rattle.df_session.proofs.Joins.{adds_none, calls_join, made, part_told}
 pub use Rattle.df_session.proofs.Kept.{answers_alone, ends_add, ends_told, keeps_over}
-pub use Rattle.df_session.proofs.Resulted.{opened_agrees, opened_answers, unit_spared}
+pub use Rattle.df_session.proofs.Resulted.{opened_agrees, opened_answers, unit_spared, agree_self}
 pub use Rattle.df_session.proofs.Spared.{spares_blocks}
 pub use Rattle.df_session.proofs.Founds.{file_there, layout_there, view_there}
 pub use Rattle.df_session.proofs.Files.{found_file}
 pub use Rattle.df_session.proofs.ReadCalls.{reads_block, reads_prepare, reads_reply}
 pub use Rattle.df_session.proofs.Keepings.{begun_here, calls_keep}
 pub use Rattle.df_result.proofs.Laws.{added_is_told, answer_is_of_hurt, begun_is_work, begun_may_open, call_is_own, call_is_the_one, filter_more, found_is_usable, found_keeps, found_was_since, headers_may_be_hurt, lived_layout, one_more_is_result, one_super, opened_is_written_for, probe_is_of_hurt, safe_is_not_refused, same_file, shown_after, super_shown, two_copies_are_enough}
+pub use Rattle.df_session.proofs.Lived.{told_append}

@@ -1,5 +1,6 @@
 -- Calls on an open file keep its history lived.
-use Rattle.std.proofs.Common.{◌≡◌, List, ◌∷◌, Option, Some, ap, subst, sym}
+use Rattle.std.proofs.Common.{◌≡◌, List, ◌∷◌, Option, ap, subst, sym, ◌++◌, [], refl}
+use Rattle.std.proofs.lemmas.Option.{same_Some}
 use Rattle.df_base.specs.Image.{IsImage}
 use Rattle.df_base.specs.Log.{Event, Log, Sync, add}
 use Rattle.df_base.specs.Moments.{EachMoment}
@@ -22,13 +23,10 @@ use Rattle.df_session.proofs.Kept.{goes_over}
 abbrev IsSafeEach : DataFile → (base n : Told) → Type 0
 IsSafeEach file base n = EachMoment (did Sync base).log n.log (IsSafeDisk (format file) (shape file))
 
-some_is : (t n : Told) → Some n ≡ Some t → n ≡ t
-some_is t n is = cc
-
 pub safe_each : (file : DataFile) (g : Grade) (w : Work) (base : Told) (acts : List Act) (answers : List Answer) (failed : Option Act) (mending added : List Event)
     → KeepsFile file g w base acts answers failed (over mending added base) → IsSafeEach file base (told_after added (told_after mending (did Sync base)))
 safe_each file g w base acts answers failed mending added keeps =
-    subst (λ (n : Told). IsSafeEach file base n) (sym (some_is keeps.after (told_after added (told_after mending (did Sync base))) keeps.is)) (λ l moment. (keeps.moments l moment).safe)
+    subst (λ (n : Told). IsSafeEach file base n) (sym (same_Some (told_after added (told_after mending (did Sync base))) keeps.after keeps.is)) (λ l moment. (keeps.moments l moment).safe)
 
 -- from the barrier of the open on the history is lived with the log that is begun anew there
 pub calls_lived : (t : Told) (s : Replica) (mended : Option Told) (found : MendsAll t s mended) → IsImage t.shown → (events : List Event)
@@ -48,3 +46,9 @@ calls_lived t s mended found whole events safe log logs may =
     (λ l moment.
     raised_goes_on s.file mid.log l (add Sync log) logs opening.raised may.lived moment.since
     (each l (record { since = extends_on l mid.log entry.log moment.since (goes_over found.mending.events entry).grew; until = moment.until })))
+
+-- ---- what is told after events, and after others
+
+pub told_append : (es fs : List Event) (n : Told) → told_after (es ++ fs) n ≡ told_after fs (told_after es n)
+told_append [] fs n = refl
+told_append (e ∷ es) fs n = told_append es fs (did e n)

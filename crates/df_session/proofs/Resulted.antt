@@ -3,6 +3,7 @@ use Rattle.std.proofs.Common.{◌≡◌, List, [], ◌∷◌, map, Option, Some,
 use Rattle.df_base.specs.Image.{Image, IsImage}
 use Rattle.df_base.specs.Log.{Sync}
 use Rattle.df_disk.specs.Told.{Told, did}
+use Rattle.df_layout.specs.declared.layout.Layout.{Layout}
 use Rattle.df_theory.specs.Units.{BlockPlace, CopyPlace, HeaderPlace, Place, PreparePlace, ReplyPlace}
 use Rattle.df_units.specs.Bytes.{unit_at}
 use Rattle.df_model.specs.Commands.{Answer}
@@ -90,3 +91,7 @@ opened_answers s t mended over whole w k last new failed shown agree acts answer
     let calls = calls_answered s last mended new acts answers failed ends in
     let here = opened_agrees s t mended over shown whole agree in
     calls_result s.file s calls.0 mended calls.1 acts answers here.first w shown refl here.told calls.2 k here.whole here.agrees
+
+-- what is shown agrees with itself
+pub agree_self : (layout : Layout) (shown : Shown) → AgreeShown layout shown shown
+agree_self layout shown = record { units = record { prepare = λ k. refl; reply = λ k. refl; block = λ k. refl }; classes = λ place read none. refl }

@@ -1,21 +1,18 @@
 -- After the mending each copy says what the choice did, and the superblock of an upgrade is above that.
 use Rattle.std.proofs.Common.{◌≡◌, inl, inr, ℕ, ◌+◌, ◌*◌, ◌<◌, ◌≤◌, List, [], ◌∷◌, ◌++◌, length, get_or, Bool, true, false, Option, Some, None, refl, sym, ◌∙◌, ap, subst, arith}
 use Rattle.std.proofs.lemmas.Bool.{cases_Bool}
-use Rattle.std.proofs.lemmas.Bool.Decides.{nat_tests}
-use Rattle.df_base.specs.Image.{Image, covers}
-use Rattle.df_base.specs.Log.{Event, Log, Sync, add, now}
+use Rattle.df_base.specs.Image.{Image}
+use Rattle.df_base.specs.Log.{Event, Log, Sync, now}
 use Rattle.df_base.specs.Moments.{adds}
 use Rattle.df_disk.specs.Told.{Told}
 use Rattle.df_disk.specs.Adds.{after_all}
+use Rattle.df_disk.proofs.Laws.{none_after}
 use Rattle.df_layout.specs.declared.layout.Layout.{Layout}
-use Rattle.df_layout.specs.declared.places.Zone.TheVariants.{WalHeaders}
-use Rattle.df_layout.specs.Spans.{sectors_before, span_of}
-use Rattle.df_layout.specs.Zones.{first_sector, zone_sectors}
 use Rattle.df_format.specs.Copies.{Content, content_at, content_with}
-use Rattle.df_format.specs.Own.{place_in}
 use Rattle.df_format.specs.SuperRules.{IsUsable}
 use Rattle.df_format.specs.declared.header.Header.{Header}
 use Rattle.df_format.specs.declared.superblock.SuperFields.{SuperFields}
+use Rattle.df_format.proofs.Laws.{uncovered_below, slot_from}
 use Rattle.df_headers.specs.Ring.{sector_writes}
 use Rattle.df_quorum.specs.Quorum.{IsChosen}
 use Rattle.df_superblock.specs.Events.{repair_events}
@@ -26,7 +23,7 @@ use Rattle.df_opening.specs.Mending.{header_events, sectors_of}
 use Rattle.df_opening.specs.Raising.{IsPlannedOf}
 use Rattle.df_opening.specs.Sparing.{image_after}
 use Rattle.df_opening.specs.Survey.{Survey}
-use Rattle.df_opening.proofs.Laws.{shown_after}
+use Rattle.df_opening.proofs.Laws.{shown_after, now_adds}
 use Rattle.df_upgrade.specs.Base.{IsAbove, base_fields}
 use Rattle.df_upgrade.specs.Upgrading.{restoring_events}
 
@@ -36,24 +33,12 @@ after_both : (xs ys : List Event) (image : Image) → image_after (xs ++ ys) ima
 after_both [] ys image = refl
 after_both (x ∷ xs) ys image = after_both xs ys _
 
-now_adds : (es : List Event) (log : Log) → now (adds es log) ≡ image_after es (now log)
-now_adds [] log = refl
-now_adds (e ∷ es) log = now_adds es (add e log)
-
 -- ---- header sectors stand after the copies
-
-header_behind : (layout : Layout) (slot : ℕ) → 4 ≤ (span_of layout (place_in WalHeaders slot)).first
-unfolding span_of sectors_before first_sector zone_sectors
-header_behind layout slot = omega arith
-
-not_reached : (at : ℕ) (bytes : List ℕ) (n : ℕ) → n < at → covers at bytes n ≡ false
-unfolding covers
-not_reached at bytes n less = grind (arith, nat_tests)
 
 module _ (layout : Layout) (table : List Header) (n : ℕ) (below : n < 4) where
   writes_stay : (ks : List ℕ) (image : Image) → content_at (image_after (sector_writes layout table ks) image) n ≡ content_at image n
   writes_stay [] image = refl
-  writes_stay (k ∷ ks) image = writes_stay ks _ ∙ seen_apart _ _ image n (not_reached _ _ n (omega (arith, below, header_behind layout (16 * k))))
+  writes_stay (k ∷ ks) image = writes_stay ks _ ∙ seen_apart _ _ image n (uncovered_below _ _ n (omega (arith, below, slot_from layout (16 * k))))
 
   headers_stay : (ks : List ℕ) (image : Image) → content_at (image_after (header_events layout table ks) image) n ≡ content_at image n
   headers_stay [] image = refl
@@ -115,11 +100,7 @@ above_told s t four usable one plan = λ whole c chosen.
     let says = chosen_says s t four usable plan c (subst (λ (i : Image). IsChosen (content_at i) c) (shown_after (restoring_events s) t) chosen) in
     omega (arith, none, ap (λ (f : SuperFields). f.boot) says, ap (λ (f : SuperFields). f.sequence) says)
 
-none_told : (es : List Event) → after_all es None ≡ None
-none_told [] = refl
-none_told (e ∷ es) = none_told es
-
 pub is_above : (s : Survey) (old new : Option Told) → length s.chosen.members ≡ 4 → IsUsable s.state.fields → s.state.file.version ≡ 1 → ((t : Told) → old ≡ Some t → IsPlannedOf s t) → new ≡ after_all (restoring_events s) old → IsAbove new (base_fields s.state)
-is_above s None new four usable one plan added = subst (λ (o : Option Told). IsAbove o (base_fields s.state)) (sym (added ∙ none_told (restoring_events s))) tt
+is_above s None new four usable one plan added = subst (λ (o : Option Told). IsAbove o (base_fields s.state)) (sym (added ∙ none_after (restoring_events s))) tt
 is_above s (Some t) new four usable one plan added =
     subst (λ (o : Option Told). IsAbove o (base_fields s.state)) (sym (added ∙ added_is_told (restoring_events s) t)) (above_told s t four usable one (plan t refl))

@@ -8,9 +8,10 @@ use Rattle.df_trailer.specs.Sessions.{AreRead}
 use Rattle.df_grid.specs.Grid.{GridState}
 use Rattle.df_model.specs.declared.errors.OpenError.{OpenError}
 use Rattle.df_sessions.specs.Table.{Table}
+use Rattle.df_checkpoint.proofs.Laws.{complete_gives}
 use Rattle.df_rooms.specs.State.{shape}
 use Rattle.df_recovery.specs.Checkpoints.{TellsCheckpoint, TellsText}
-use Rattle.df_recovery.proofs.Bases.{complete_gives, room_fits, told_refused, told_text}
+use Rattle.df_recovery.proofs.Bases.{room_fits, told_refused, told_text}
 use Rattle.df_recovery.proofs.checkpoint.read_text.Goals as goal
 
 pub invariant_of-room : goal.invariant_of-room

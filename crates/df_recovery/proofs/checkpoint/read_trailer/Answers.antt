@@ -2,9 +2,10 @@
 use Rattle.std.proofs.Common.{None, Some, sym, subst}
 use Rattle.std.specs.Prelude.{Err}
 use Rattle.df_model.specs.declared.errors.OpenError.{OpenError}
+use Rattle.df_checkpoint.proofs.Laws.{pending_of}
 use Rattle.df_recovery.specs.Checkpoints.{TellsCheckpoint}
 use Rattle.df_recovery.specs.Scanning.{base_in}
-use Rattle.df_recovery.proofs.Bases.{pending_of, told_base, told_untracked}
+use Rattle.df_recovery.proofs.Bases.{told_base, told_untracked}
 use Rattle.df_recovery.proofs.Tracked.{of_checkpoint}
 use Rattle.df_recovery.proofs.checkpoint.read_trailer.Goals as goal
 

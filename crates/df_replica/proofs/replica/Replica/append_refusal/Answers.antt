@@ -1,6 +1,6 @@
 -- The refusal is the machine's, by the client's session, and after it by what is staged.
-use Rattle.std.proofs.Common.{◌≡◌, ◌≤◌, ◌^◌, ℕ, nat_lt, [], ◌∷◌, length, map, Option, Some, None, refl, ◌∙◌, sym, ap}
-use Rattle.std.specs.Prelude.{IfSome, option_map}
+use Rattle.std.proofs.Common.{◌≡◌, ℕ, nat_lt, [], ◌∷◌, length, map, ◌∙◌, sym, ap}
+use Rattle.std.specs.Prelude.{option_map}
 use Rattle.std.specs.List.{position}
 use Rattle.df_sessions.specs.declared.session.Session as told
 use Rattle.df_sessions.specs.Requests.{session_of}
@@ -9,12 +9,8 @@ use Rattle.df_model.specs.Refusals.{first_refusal, is_staged, request_refusals, 
 use Rattle.df_model.specs.declared.errors.AppendError.TheVariants as append
 use Rattle.df_model.proofs.Laws.{behind_decides, first_refuses}
 use Rattle.df_opening.specs.Below.{State, memory}
-use Rattle.df_replica.proofs.AppendTests.{session_found, small_session}
+use Rattle.df_replica.proofs.AppendTests.{session_found, small_session, each_small}
 use Rattle.df_replica.proofs.replica.Replica.append_refusal.Goals as goal
-
-each_small : (o : Option told.Session) → ((s : told.Session) → o ≡ Some s → s.request ≤ 2 ^ 62) → IfSome o (λ s. s.request ≤ 2 ^ 62)
-each_small None small = tt
-each_small (Some s) small = small s refl
 
 pub request_refusal-requires-clause-last : goal.request_refusal-requires-clause-last
 request_refusal-requires-clause-last c =

@@ -1,6 +1,5 @@
 -- What the maker says obeys the rules of a prepare, with any body that fits.
-use Rattle.std.proofs.Common.{◌≡◌, ℕ, ◌+◌, ◌∙◌, ◌%◌, ◌^◌, ◌<◌, ◌≤◌, true, sym, ap, subst, arith, rules, refl}
-use Rattle.std.proofs.Math.Nat.{mod-lt}
+use Rattle.std.proofs.Common.{◌≡◌, ◌+◌, ◌∙◌, true, sym, ap, subst, arith, rules, refl}
 use Rattle.df_format.specs.declared.header.Header.{Header}
 use Rattle.df_format.specs.declared.kind.Kind.TheVariants.{Prepare as AsPrepare}
 use Rattle.df_format.specs.Making.{for_body}
@@ -10,9 +9,7 @@ use Rattle.df_format.proofs.Laws.{given_obeys, of_second}
 use Rattle.df_opening.specs.Below.{State, state_in}
 use Rattle.df_replica.specs.Appending.{header_given}
 use Rattle.df_replica.proofs.replica.Replica.header_given.Goals as goal
-
-small_slot : (op slots : ℕ) → 0 < slots → slots ≤ 1024 → op % slots < 2 ^ 32
-small_slot op slots some few = omega (arith, mod-lt op some, few)
+use Rattle.df_replica.proofs.AppendTests.{small_slot}
 
 pub returns-clause-value : goal.returns-clause-value
 returns-clause-value c = search rules

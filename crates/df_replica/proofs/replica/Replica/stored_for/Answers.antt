@@ -2,9 +2,10 @@
 use Rattle.std.proofs.Common.{◌≡◌, Some, sym, subst, ◌∙◌}
 use Rattle.df_model.specs.Refusals.{first_refusal, lookup_refusals}
 use Rattle.df_model.specs.declared.reading.LookupError.TheVariants.{NoClient, ReplyPending}
+use Rattle.df_sessions.proofs.Laws.{no_gap}
 use Rattle.df_opening.specs.Below.{State, memory, state_in}
 use Rattle.df_replica.specs.Lookups.{IsStoredFor}
-use Rattle.df_replica.proofs.LookupSessions.{is_stored, no_client, pending, some_there}
+use Rattle.df_replica.proofs.LookupSessions.{is_stored, no_client, pending}
 use Rattle.df_replica.proofs.replica.Replica.stored_for.Goals as goal
 
 pub returns-in_default-clause-refused : goal.returns-in_default-clause-refused
@@ -12,7 +13,7 @@ returns-in_default-clause-refused c =
     subst (λ (s : State). first_refusal (lookup_refusals (memory s) c.args.client) ≡ Some NoClient) c.self.view_is (no_client (state_in c.self.inside.parts) c.args.client (sym c.place_of.ensures ∙ c.in_default.is))
 
 pub unreachable-requires : goal.unreachable-requires
-unreachable-requires c = some_there c.args.client c.self.inside.parts.sessions.sessions c.in-Some.place (sym c.place_of.ensures ∙ c.in-Some.is) (sym c.get.ensures ∙ c.in_default-get.is)
+unreachable-requires c = no_gap c.args.client c.self.inside.parts.sessions.sessions c.in-Some.place (sym c.place_of.ensures ∙ c.in-Some.is) (sym c.get.ensures ∙ c.in_default-get.is)
 
 pub returns-then-self-session-clause-refused : goal.returns-then-self-session-clause-refused
 returns-then-self-session-clause-refused c =
