@@ -21,6 +21,7 @@ use Rattle.df_model.specs.Blocks.{entries, entry, sum_at}
 use Rattle.df_model.specs.Making.{named_places}
 use Rattle.df_model.specs.Memory.{joined, reply_sum}
 use Rattle.df_model.specs.Sense.{RiseFrom}
+use Rattle.df_model.proofs.Laws.{rise_lower}
 use Rattle.df_rooms.specs.Recorded.{check_or_zeros, stored_check, stored_checks}
 use Rattle.df_opening.specs.Below.{State, memory, reply_sum as check_sum, stored_sum}
 use Rattle.df_copy.specs.Targets.{check_of, superblock_of}
@@ -88,12 +89,8 @@ pair_in (x ∷ xs) (u ∷ us) a b (inr later) =
 abbrev first : ℕ × ℕ → ℕ
 first x = x.0
 
-lower : (a b : ℕ) (xs : List ℕ) → a ≤ b → RiseFrom b xs → RiseFrom a xs
-lower a b [] le rise = tt
-lower a b (x ∷ xs) le rise = (omega (arith, le, rise.0), rise.1)
-
 entry_rises : (a : ℕ) (o : Option ℕ) (rest : List (ℕ × ℕ)) → RiseFrom (a + 1) (map first rest) → RiseFrom a (map first (entry a o rest))
-entry_rises a None rest rise = lower a (a + 1) (map first rest) (omega arith) rise
+entry_rises a None rest rise = rise_lower a (a + 1) (map first rest) (omega arith) rise
 entry_rises a (Some c) rest rise = (omega arith, rise)
 
 entries_rise : (f : ℕ → Option ℕ) (a n : ℕ) → RiseFrom a (map first (entries f (range_with_len a n)))

@@ -1,12 +1,11 @@
 -- The test of the target's first sectors: each shows zeros alone, or which is the first that doesn't.
-use Rattle.std.proofs.Common.{◌≡◌, inl, inr, ℕ, zero, suc, ◌+◌, ◌<◌, ◌≤◌, Bool, true, false, not, if◌then◌else◌, List, [], ◌∷◌, map, Option, Some, None, Ok, Err, refl, ◌∙◌, ap, arith}
+use Rattle.std.proofs.Common.{◌≡◌, inl, inr, ℕ, zero, suc, ◌+◌, ◌<◌, ◌≤◌, Bool, true, false, not, if◌then◌else◌, List, map, Option, Some, None, Ok, Err, refl, ◌∙◌, ap, arith}
 use Rattle.std.specs.List.{range_with_len}
 use Rattle.std.proofs.lemmas.Bool.{cases_eq}
 use Rattle.df_base.specs.Causes.{Blamed}
 use Rattle.df_base.specs.Image.{Image}
-use Rattle.df_base.specs.Log.{Event}
 use Rattle.df_disk.specs.Told.{Told}
-use Rattle.df_disk.specs.Adds.{AddsPart}
+use Rattle.df_disk.proofs.Laws.{nothing_is_part}
 use Rattle.df_format.specs.Copies.{is_blank_copy}
 use Rattle.df_layout.specs.declared.layout.Layout.{Layout}
 use Rattle.df_superblock.specs.Blank.{IsUnformatted}
@@ -49,10 +48,6 @@ one_written image copy is = first_written (λ n. is_blank_copy (image n)) 0 4 co
 
 -- ---- what the test answers
 
-nothing_added : (es : List Event) (old new : Option Told) → new ≡ old → AddsPart es old new
-nothing_added [] old new same = same
-nothing_added (e ∷ es) old new same = inl same
-
 module _ (T : Type 0) (layout : Layout) (cluster : ℕ) where
   pub tested_blank : (old : Option Told) (x : T) → TellsBlank {T = T} old (Ok x) → OverTold old (λ image. first_refusal (blank_tests image) ≡ None)
   tested_blank None x tells = tt
@@ -65,7 +60,7 @@ module _ (T : Type 0) (layout : Layout) (cluster : ℕ) where
   -- the target isn't begun
   pub not_begun : (old new : Option Told) (e : FormatError) → RefusesCluster {T = T} 1 (Err e) → TellsBlank {T = T} old (Err e) → new ≡ old → BeginsTarget {T = T} layout cluster old new (Err (blank_ending e))
   not_begun old new (formats.NotBlank copy) of tells same = (same, tested_written old copy tells)
-  not_begun old new formats.DiskFault of tells same = nothing_added (ring_events layout cluster) old new same
+  not_begun old new formats.DiskFault of tells same = nothing_is_part (ring_events layout cluster) old new same
   not_begun old new formats.ClusterZero of tells same = absurd (omega (arith, of))
 
   pub begin_blames : (before now : ℕ) (e : FormatError) → RefusesCluster {T = T} 1 (Err e) → Blamed (is_format_fault e) before now → Blamed (is_target (blank_ending e)) before now

@@ -1,9 +1,9 @@
 -- The blocks are copied one after the other, in order of address: what stands after each address.
 use Rattle.std.proofs.Common.{◌≡◌, inl, inr, ℕ, suc, ◌+◌, ◌-◌, ◌<◌, ◌≤◌, Bool, true, List, [], ◌∷◌, ◌++◌, length, Option, Some, None, Result, Ok, Err, refl, sym, ◌∙◌, ap, subst, arith, append_assoc, length-append}
 use Rattle.std.specs.Prelude.{nat_lt, slice_get}
-use Rattle.std.proofs.lemmas.Bool.{false≢true}
 use Rattle.std.proofs.lemmas.List.{append-nil}
 use Rattle.df_base.specs.Log.{Event}
+use Rattle.df_base.proofs.Laws.{minus_zero}
 use Rattle.df_disk.specs.Told.{Told}
 use Rattle.df_layout.specs.declared.damage.Class.{Class}
 use Rattle.df_layout.specs.declared.layout.Layout.{Layout}
@@ -16,6 +16,7 @@ use Rattle.df_model.specs.Commands.{ReadBlock}
 use Rattle.df_model.specs.Refusals.{first_refusal}
 use Rattle.df_model.specs.Supply.{Shown, block_read}
 use Rattle.df_model.specs.Work.{is_known}
+use Rattle.df_model.proofs.Laws.{some_known}
 use Rattle.df_opening.specs.Below.{State, memory}
 use Rattle.df_copy.specs.declared.ending.Ending.{Ending}
 use Rattle.df_copy.specs.declared.ending.Ending.TheVariants.{BlockTooLong}
@@ -66,18 +67,15 @@ module _ (layout : Layout) (s : State) (rs : List Message) (from old : Option To
     bs = [];
     before = [];
     count = refl;
-    of = ap (references_from (memory s) 1) (whole (addresses_of s));
+    of = ap (references_from (memory s) 1) (minus_zero (addresses_of s));
     is = is;
     written = record {
       fit = record { are = record { each = λ k u at. absurd (cc) }; fit = λ k u at. absurd (cc) };
       added = refl;
       decide = over_all s.file from (λ shown. first_refusal (all_tests shown) ≡ first_refusal (left_from layout s 0 shown))
-          (λ shown. ap (λ (n : ℕ). first_refusal (block_tests_of layout shown (memory s) (references_from (memory s) 1 n))) (whole (addresses_of s)));
+          (λ shown. ap (λ (n : ℕ). first_refusal (block_tests_of layout shown (memory s) (references_from (memory s) 1 n))) (minus_zero (addresses_of s)));
     };
   }
-    where
-      whole : (n : ℕ) → n ≡ n - 0
-      whole n = omega arith
 
   module _ (t : Target) (new : Option Told) (b : ℕ) (less : b < addresses_of s) (is : IsBlocking layout s rs t from old new b) where
     -- what stands at the next address, and after it
@@ -192,15 +190,11 @@ module _ (layout : Layout) (s : State) (rs : List Message) (from old : Option To
 
 -- ---- a turn of the loop, in which the source and the layout are as they were at the entry
 
-known_some : (o : Option ℕ) → is_known o ≡ true → (x : ℕ) × (o ≡ Some x)
-known_some (Some x) known = (x, refl)
-known_some None known = absurd (false≢true known)
-
 module _ {layout l : Layout} {at kept : Beside} {x : Unit {0}} {rs : List Message} {t : Target} {old new : Option Told} {b : ℕ} (same : l ≡ layout) (leaves : Leaves at kept (Ok x)) (less : b < addresses_of at.source)
     (is : IsBlocking layout at.source rs t at.told old new b) (before : ℕ) (address : before ≡ b) where
   pub blocking_room : is_known (sum_at (before + 1) kept.source.blocks.live) ≡ true → length (references (memory at.source)) ≤ layout.blocks → t.copied < l.blocks
   blocking_room known room =
-      let one = known_some (sum_at (before + 1) kept.source.blocks.live) known in
+      let one = some_known (sum_at (before + 1) kept.source.blocks.live) known in
       let found : sum_at (b + 1) at.source.blocks.live ≡ Some one.0 = ap (λ (k : ℕ). sum_at (k + 1) at.source.blocks.live) (sym address) ∙ ap (λ (q : State). sum_at (before + 1) q.blocks.live) (sym leaves.kept) ∙ one.1 in
       let has = room_for layout at.source rs at.told old t new b less is one.0 found room in
       let blocks = ap (λ (k : Layout). k.blocks) same in

@@ -1,8 +1,9 @@
 -- The addresses of a target: those of the blocks that were written are held, and the free ones stand after them, one after the other.
-use Rattle.std.proofs.Common.{◌≡◌, inl, inr, ℕ, zero, suc, ◌+◌, ◌-◌, ◌<◌, ◌≤◌, ◌||◌, Bool, true, false, not, if◌then◌else◌, List, [], ◌∷◌, length, take, Some, None, refl, sym, ◌∙◌, ap, arith}
+use Rattle.std.proofs.Common.{◌≡◌, inl, inr, ℕ, zero, suc, ◌+◌, ◌-◌, ◌<◌, ◌≤◌, Bool, true, false, not, if◌then◌else◌, List, [], ◌∷◌, length, take, Some, None, refl, sym, ◌∙◌, ap, arith}
 use Rattle.std.specs.Prelude.{slice_get}
 use Rattle.std.specs.List.{filter, range_with_len}
 use Rattle.std.proofs.lemmas.Bool.{cases_eq, eq-eqb, ne_eqb}
+use Rattle.df_base.proofs.Laws.{or_false}
 use Rattle.df_layout.specs.declared.layout.Layout.{Layout}
 use Rattle.df_format.specs.Message.{Message}
 use Rattle.df_units.specs.Meaning.{number_of}
@@ -67,10 +68,6 @@ known_there a k (u ∷ us) from inside = elim (cases_eq a k) [
 ]
 
 -- ---- which addresses are held
-
-or_false : (b : Bool) → (b || false) ≡ b
-or_false true = refl
-or_false false = refl
 
 held_is_known : (us : List Message) (k : ℕ) → is_held_in (blocks_with us) k ≡ is_known (sum_at k (numbered 1 us))
 held_is_known us k = or_false (is_known (sum_at k (numbered 1 us)))

@@ -1,6 +1,7 @@
 -- The grid of a target with one block more.
-use Rattle.std.proofs.Common.{◌≡◌, ℕ, suc, ◌+◌, ◌==◌, Bool, if◌then◌else◌, List, [], ◌∷◌, ◌++◌, length, refl, sym, ◌∙◌, ap, arith}
+use Rattle.std.proofs.Common.{◌≡◌, ℕ, ◌+◌, ◌==◌, Bool, if◌then◌else◌, List, [], ◌∷◌, ◌++◌, length, refl, sym, ◌∙◌, ap, arith}
 use Rattle.std.proofs.lemmas.Bool.{le-ltb, ne_eqb}
+use Rattle.df_base.proofs.Laws.{plus_zero, plus_suc}
 use Rattle.df_layout.specs.declared.layout.Layout.{Layout}
 use Rattle.df_format.specs.Message.{Message}
 use Rattle.df_units.specs.Meaning.{number_of}
@@ -14,15 +15,9 @@ use Rattle.df_copy.specs.Units.{moved, moved_from}
 use Rattle.df_copy.proofs.Listed.{moved_length, moved_push, push_length}
 
 pub numbered_push : (a : ℕ) (us : List Message) (u : Message) → numbered a (us ++ u ∷ []) ≡ numbered a us ++ (a + length us, number_of u.header.checksum) ∷ []
-numbered_push a [] u = ap (λ (k : ℕ). (k, number_of u.header.checksum) ∷ []) (plain a)
-  where
-    plain : (k : ℕ) → k ≡ k + 0
-    plain k = omega arith
+numbered_push a [] u = ap (λ (k : ℕ). (k, number_of u.header.checksum) ∷ []) (plus_zero a)
 numbered_push a (v ∷ us) u =
-    ap (λ (l : List (ℕ × ℕ)). (a, number_of v.header.checksum) ∷ l) (numbered_push (a + 1) us u ∙ ap (λ (k : ℕ). numbered (a + 1) us ++ (k, number_of u.header.checksum) ∷ []) (later a (length us)))
-  where
-    later : (k n : ℕ) → k + 1 + n ≡ k + suc n
-    later k n = omega arith
+    ap (λ (l : List (ℕ × ℕ)). (a, number_of v.header.checksum) ∷ l) (numbered_push (a + 1) us u ∙ ap (λ (k : ℕ). numbered (a + 1) us ++ (k, number_of u.header.checksum) ∷ []) (plus_suc a (length us)))
 
 -- an address after all of them goes last
 pub with_last : (a : ℕ) (us : List Message) (k c : ℕ) → k ≡ a + length us → with_entry k c (numbered a us) ≡ numbered a us ++ (k, c) ∷ []

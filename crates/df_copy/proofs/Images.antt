@@ -11,8 +11,8 @@ use Rattle.df_theory.specs.UnitLog.{same_place}
 use Rattle.df_theory.specs.Units.{AnyUnit, BlockPlace, CopyPlace, CopyUnit, Header, HeaderPlace, HeaderUnit, IsReserved, Place, PreparePlace, ReplyPlace, Units, or_else}
 use Rattle.df_units.specs.Meaning.{content_of}
 use Rattle.df_units.specs.Puts.{put_copies}
-use Rattle.df_opening.proofs.Laws.{unit_after}
-use Rattle.df_copy.proofs.Afters.{IsReservedUnit, after_above, after_below, after_join, after_other, after_there, placed, ring_other, ring_reached, update_other, update_there}
+use Rattle.df_opening.proofs.Laws.{unit_after, after_join}
+use Rattle.df_copy.proofs.Afters.{IsReservedUnit, after_above, after_below, after_other, after_there, placed, ring_other, ring_reached, update_other, update_there}
 
 -- ---- the ring alone
 

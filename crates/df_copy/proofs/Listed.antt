@@ -6,6 +6,7 @@ use Rattle.std.proofs.lemmas.List.{append-nil, ext_get_or, get_or-set_other, get
 use Rattle.std.proofs.lemmas.List.FromFn.{get_or-map-range_with_len, length-map-range_with_len}
 use Rattle.std.proofs.lemmas.Option.{same_Some}
 use Rattle.df_base.specs.Log.{Event}
+use Rattle.df_base.proofs.Laws.{zero_plus, plus_zero, plus_suc}
 use Rattle.df_disk.specs.Told.{Told}
 use Rattle.df_format.specs.Message.{Message}
 use Rattle.df_model.specs.Making.{named_places}
@@ -58,14 +59,8 @@ events_push events [] u = append-nil (events u)
 events_push events (v ∷ us) u = ap (λ (l : List Event). events v ++ l) (events_push events us u) ∙ sym (append_assoc (events v) (all_events events us) (events u))
 
 pub moved_push : (a : ℕ) (us : List Message) (u : Message) → moved_from a (us ++ u ∷ []) ≡ moved_from a us ++ moved (a + length us) u ∷ []
-moved_push a [] u = ap (λ (k : ℕ). moved k u ∷ []) (plain a)
-  where
-    plain : (k : ℕ) → k ≡ k + 0
-    plain k = omega arith
-moved_push a (v ∷ us) u = ap (λ (l : List Message). moved a v ∷ l) (moved_push (a + 1) us u ∙ ap (λ (k : ℕ). moved_from (a + 1) us ++ moved k u ∷ []) (later a (length us)))
-  where
-    later : (k n : ℕ) → k + 1 + n ≡ k + suc n
-    later k n = omega arith
+moved_push a [] u = ap (λ (k : ℕ). moved k u ∷ []) (plus_zero a)
+moved_push a (v ∷ us) u = ap (λ (l : List Message). moved a v ∷ l) (moved_push (a + 1) us u ∙ ap (λ (k : ℕ). moved_from (a + 1) us ++ moved k u ∷ []) (plus_suc a (length us)))
 
 pub moved_length : (a : ℕ) (us : List Message) → length (moved_from a us) ≡ length us
 moved_length a [] = refl
@@ -77,10 +72,7 @@ pub many_checks : (us : List Message) → length (checks_of us) ≡ named_places
 many_checks us = length-map-range_with_len (λ (k : ℕ). check_of (slice_get us k)) 0 named_places
 
 pub check_at : (us : List Message) (k : ℕ) (past : List ℕ) → k < named_places → get_or (checks_of us) k past ≡ check_of (slice_get us k)
-check_at us k past inside = get_or-map-range_with_len (λ (j : ℕ). check_of (slice_get us j)) 0 named_places k k past inside (plain k)
-  where
-    plain : (j : ℕ) → 0 + j ≡ j
-    plain j = omega arith
+check_at us k past inside = get_or-map-range_with_len (λ (j : ℕ). check_of (slice_get us j)) 0 named_places k k past inside (zero_plus k)
 
 -- another list has them, but for one place
 pub checks_with : (us vs : List Message) (k : ℕ) (check : List ℕ) → k < named_places → check_of (slice_get vs k) ≡ check → ((i : ℕ) → (i ≡ k → ⊥) → check_of (slice_get vs i) ≡ check_of (slice_get us i)) → checks_of vs ≡ slice_set (checks_of us) k check

@@ -1,9 +1,10 @@
 -- The checksums of replies, as those of a list of messages: whatever was set at places of sessions.
-use Rattle.std.proofs.Common.{◌≡◌, inl, inr, ℕ, zero, suc, ◌+◌, ◌<◌, ◌≤◌, List, [], ◌∷◌, length, take, map, refl, sym, ◌∙◌, ap, arith}
+use Rattle.std.proofs.Common.{◌≡◌, inl, inr, ℕ, zero, suc, ◌<◌, ◌≤◌, List, [], ◌∷◌, length, take, map, refl, sym, ◌∙◌, ap, arith}
 use Rattle.std.specs.Prelude.{get_or, slice_get}
 use Rattle.std.proofs.lemmas.Bool.{cases_lt}
 use Rattle.std.proofs.lemmas.List.{ext_get_or, get_or-set_other, length-set}
-use Rattle.std.proofs.lemmas.List.FromFn.{get_or-map-range_with_len, length-map-range_with_len}
+use Rattle.std.proofs.lemmas.List.FromFn.{get_or-map-range_with_len}
+use Rattle.df_base.proofs.Laws.{zero_plus}
 use Rattle.df_format.specs.Making.{blank_header}
 use Rattle.df_format.specs.Message.{Message}
 use Rattle.df_format.specs.Spelling.{no_checksum}
@@ -11,24 +12,19 @@ use Rattle.df_format.specs.declared.kind.Kind.TheVariants.{Reply}
 use Rattle.df_model.specs.Making.{named_places}
 use Rattle.df_copy.specs.Acts.{SetsCheck}
 use Rattle.df_copy.specs.Targets.{check_of, checks_of}
+use Rattle.df_copy.proofs.Listed.{many_checks}
 
 -- no place after the sessions has a checksum
 pub record AreNamed (sessions : ℕ) (checks : List (List ℕ)) : Type 0 where
   pub count : length checks ≡ named_places
   pub spare : (k : ℕ) → sessions ≤ k → k < named_places → get_or checks k no_checksum ≡ no_checksum
 
-all_checks : (us : List Message) → length (checks_of us) ≡ named_places
-all_checks us = length-map-range_with_len (λ (k : ℕ). check_of (slice_get us k)) 0 named_places
-
 check_there : (us : List Message) (k : ℕ) → k < named_places → get_or (checks_of us) k no_checksum ≡ check_of (slice_get us k)
-check_there us k within = get_or-map-range_with_len (λ (i : ℕ). check_of (slice_get us i)) 0 named_places k k no_checksum within (plain k)
-  where
-    plain : (i : ℕ) → 0 + i ≡ i
-    plain i = omega arith
+check_there us k within = get_or-map-range_with_len (λ (i : ℕ). check_of (slice_get us i)) 0 named_places k k no_checksum within (zero_plus k)
 
 pub named_none : (sessions : ℕ) (checks : List (List ℕ)) → checks ≡ checks_of [] → AreNamed sessions checks
 named_none sessions checks is = record {
-  count = ap (λ (l : List (List ℕ)). length l) is ∙ all_checks [];
+  count = ap (λ (l : List (List ℕ)). length l) is ∙ many_checks [];
   spare = λ k from within. ap (λ (l : List (List ℕ)). get_or l k no_checksum) is ∙ check_there [] k within;
 }
 
@@ -66,7 +62,7 @@ front_past (suc n) zero (c ∷ checks) past = absurd (omega (arith, past))
 front_past (suc n) (suc k) (c ∷ checks) past = front_past n k checks (omega (arith, past))
 
 pub named_by : (n : ℕ) (checks : List (List ℕ)) → n ≤ named_places → AreNamed n checks → (us : List Message) × (length us ≡ n) × (checks ≡ checks_of us)
-named_by n checks few are = (front n checks, front_length n checks (omega (arith, few, are.count)), ext_get_or no_checksum checks (checks_of (front n checks)) (are.count ∙ sym (all_checks (front n checks))) same)
+named_by n checks few are = (front n checks, front_length n checks (omega (arith, few, are.count)), ext_get_or no_checksum checks (checks_of (front n checks)) (are.count ∙ sym (many_checks (front n checks))) same)
   where
     same : (k : ℕ) → k < length checks → get_or checks k no_checksum ≡ get_or (checks_of (front n checks)) k no_checksum
     same k within = elim (cases_lt k n) [

@@ -1,11 +1,11 @@
 -- After the open of its source a copy spares the sectors of the target's superblock until the first copy of it, and the target holds it whole where it is made.
-use Rattle.std.proofs.Common.{◌≡◌, ◌⊎◌, inl, inr, ℕ, ◌<◌, ◌≤◌, ◌++◌, true, List, [], ◌∷◌, length, Option, Some, None, Result, Ok, Err, refl, sym, ◌∙◌, ap, subst, arith}
+use Rattle.std.proofs.Common.{◌≡◌, ◌⊎◌, inl, inr, ℕ, ◌<◌, ◌≤◌, ◌++◌, true, List, [], length, Option, Some, None, Result, Ok, Err, sym, ◌∙◌, ap, subst, arith}
 use Rattle.std.specs.Prelude.{slice_get}
 use Rattle.std.proofs.lemmas.Bool.{cases_lt}
 use Rattle.std.proofs.lemmas.Option.{same_Some}
 use Rattle.df_base.specs.Fields.{AreBytes}
 use Rattle.df_base.specs.Image.{Image, IsImage}
-use Rattle.df_base.specs.Log.{Event, Log, Sync, add, now}
+use Rattle.df_base.specs.Log.{Log, Sync, now}
 use Rattle.df_base.specs.Moments.{adds}
 use Rattle.df_disk.specs.Told.{Told, did}
 use Rattle.df_disk.specs.Adds.{AddsPart, after_all}
@@ -33,7 +33,7 @@ use Rattle.df_model.specs.Work.{kept}
 use Rattle.df_opening.specs.Below.{IsOpened, IsState, State, memory, shape, told_after}
 use Rattle.df_opening.specs.Opened.{Mends, MendsAll, begun_state, raised_state}
 use Rattle.df_opening.specs.Sparing.{image_after}
-use Rattle.df_opening.proofs.Laws.{added_is_told, clean_beyond, shown_after}
+use Rattle.df_opening.proofs.Laws.{added_is_told, clean_beyond, shown_after, now_adds}
 use Rattle.df_replica.specs.Reading.{shown_of}
 use Rattle.df_copy.specs.declared.ending.Ending.{Ending}
 use Rattle.df_copy.specs.declared.ending.Ending.TheVariants.{BlockTooLong, Damaged, NotAtRest, NotBlank, ReplyTooLong, Source, Target, TooFewBlocks, TooFewClients}
@@ -84,10 +84,6 @@ pub passes_all : (layout : Layout) (s : State) (seen : Shown) (image : Image) �
 passes_all layout s seen image none = passes_tests layout s (blank_tests image ++ unit_tests layout seen (memory s)) none
 
 -- ---- the target
-
-now_adds : (es : List Event) (log : Log) → now (adds es log) ≡ image_after es (now log)
-now_adds [] log = refl
-now_adds (e ∷ es) log = now_adds es (add e log)
 
 module _ (layout : Layout) (t m : Told) (whole : IsImage t.shown) where
   -- what is asked of a source all of which is copied

@@ -16,7 +16,7 @@ use Rattle.df_format.specs.Own.{own_place, place_in}
 use Rattle.df_format.specs.Rules.{ObeysRules, ObeysVersion}
 use Rattle.df_format.specs.Spelling.{no_checksum}
 use Rattle.df_format.specs.Valid.{IsUnit}
-use Rattle.df_format.proofs.Laws.{given_obeys, is_own, sealed_is}
+use Rattle.df_format.proofs.Laws.{given_obeys, is_own, sealed_is, zeros_are}
 use Rattle.df_theory.specs.Trailer.{InChain, Links, piece_size, text_of}
 use Rattle.df_theory.specs.Units.{Block, Content}
 use Rattle.df_units.specs.Meaning.{block_of, number_of}
@@ -45,10 +45,6 @@ listed_address (x ∷ xs) = refl
 listed_sum : (chain : List (ℕ × Block)) → first_sum (map pair_of chain) ≡ last_sum chain
 listed_sum [] = refl
 listed_sum (x ∷ xs) = refl
-
-zeros_are : spelled 16 0 ≡ no_checksum
-unfolding spelled no_checksum
-zeros_are = refl
 
 pub zeros_back : number_of (spelled 16 0) ≡ 0
 zeros_back = ap number_of zeros_are ∙ no_number

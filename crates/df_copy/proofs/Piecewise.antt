@@ -3,6 +3,7 @@ use Rattle.std.proofs.Common.{◌≡◌, ℕ, zero, suc, ◌+◌, ◌-◌, ◌<�
 use Rattle.std.specs.Prelude.{slice_get}
 use Rattle.std.specs.List.{range_with_len}
 use Rattle.df_base.specs.Log.{Event}
+use Rattle.df_base.proofs.Laws.{minus_zero, plus_zero}
 use Rattle.df_disk.specs.Told.{Told}
 use Rattle.df_disk.specs.Adds.{AddsPart, after_all}
 use Rattle.df_disk.proofs.Laws.{after_append, all_then, part_then}
@@ -89,20 +90,14 @@ module _ (sequence : ℕ) (text : List ℕ) where
   -- ---- what is counted
 
   pub count_left : (g : GridState) (n : ℕ) → length (grid g n).blocks.left ≡ length g.blocks.left - n
-  count_left g zero = plain (length g.blocks.left)
-    where
-      plain : (k : ℕ) → k ≡ k - 0
-      plain k = omega arith
+  count_left g zero = minus_zero (length g.blocks.left)
   count_left g (suc n) =
       let more = count_left (behind_piece g sequence text) n in
       let one = one_left g.blocks (number_of (next g).header.checksum) g.blocks.left refl in
       omega (arith, more, one)
 
   pub count_written : (g : GridState) (n : ℕ) → n ≤ length g.blocks.left → length (grid g n).blocks.written ≡ length g.blocks.written + n
-  count_written g zero inside = plain (length g.blocks.written)
-    where
-      plain : (k : ℕ) → k ≡ k + 0
-      plain k = omega arith
+  count_written g zero inside = plus_zero (length g.blocks.written)
   count_written g (suc n) inside =
       let left = one_left g.blocks (number_of (next g).header.checksum) g.blocks.left refl in
       let more = count_written (behind_piece g sequence text) n (omega (arith, inside, left)) in

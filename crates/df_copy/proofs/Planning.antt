@@ -1,7 +1,7 @@
 -- What the tests that read nothing say: none holds, or the first that does.
 use Rattle.std.proofs.Common.{◌≡◌, ℕ, suc, ◌+◌, ◌-◌, ◌<◌, ◌≤◌, ◌==◌, Bool, true, false, not, if◌then◌else◌, List, [], ◌∷◌, ◌++◌, length, Option, Some, None, refl, sym, ◌∙◌, ap, subst, arith}
 use Rattle.std.specs.Prelude.{nat_lt}
-use Rattle.std.proofs.lemmas.Bool.{eq-eqb, le-ltb, lt-ltb, ltb-false, ne_eqb}
+use Rattle.std.proofs.lemmas.Bool.{eq-eqb, le-ltb, lt-ltb, ltb-false, ne_eqb, not-false}
 use Rattle.std.proofs.lemmas.List.{length-map}
 use Rattle.std.proofs.lemmas.Option.{none-some, same_Some}
 use Rattle.df_base.specs.Causes.{Blamed}
@@ -24,10 +24,6 @@ passes_first : (b : Bool) (e : Ending) (rest : List (Bool × Ending)) → first_
 passes_first true e rest none = absurd (cc)
 passes_first false e rest none = (refl, none)
 
-not_false : (b : Bool) → not b ≡ false → b ≡ true
-not_false true is = refl
-not_false false is = absurd (cc)
-
 -- none of them holds
 pub record Passes (layout : Layout) (s : State) : Type 0 where
   pub rest : is_at_rest (memory s) ≡ true
@@ -42,7 +38,7 @@ passes_tests layout s behind none =
     let two = passes_first few.0 few.1 (full ∷ behind) one.1 in
     let three = passes_first full.0 full.1 behind two.1 in
     record {
-      rest = not_false (is_at_rest (memory s)) one.0;
+      rest = not-false (is_at_rest (memory s)) one.0;
       fits = omega (arith, ltb-false layout.clients (length (memory s).sessions) two.0, length-map s.table.sessions session_of);
       room = ltb-false layout.blocks (needed layout (memory s)) three.0;
     }

@@ -3,6 +3,7 @@ use Rattle.std.proofs.Common.{◌≡◌, inl, inr, ℕ, suc, ◌+◌, ◌-◌, �
 use Rattle.std.specs.Prelude.{nat_lt, slice_set}
 use Rattle.df_disk.specs.Told.{Told}
 use Rattle.df_base.specs.Log.{Event}
+use Rattle.df_base.proofs.Laws.{minus_zero}
 use Rattle.df_layout.specs.declared.damage.Class.{Class}
 use Rattle.df_layout.specs.declared.layout.Layout.{Layout}
 use Rattle.df_format.specs.Message.{Message}
@@ -67,12 +68,9 @@ module _ (layout : Layout) (s : State) (from old : Option Told) where
     written = record {
       fit = record { are = record { each = λ k u at. absurd (cc) }; fit = λ k u at. absurd (cc) };
       added = refl;
-      decide = over_all s.file from (λ shown. first_refusal (all_tests shown) ≡ first_refusal (left_from layout s 0 shown)) (λ shown. ap (λ (n : ℕ). first_refusal (reply_tests_from layout shown (memory s) 0 n)) (whole (length (memory s).sessions)));
+      decide = over_all s.file from (λ shown. first_refusal (all_tests shown) ≡ first_refusal (left_from layout s 0 shown)) (λ shown. ap (λ (n : ℕ). first_refusal (reply_tests_from layout shown (memory s) 0 n)) (minus_zero (length (memory s).sessions)));
     };
   }
-    where
-      whole : (n : ℕ) → n ≡ n - 0
-      whole n = omega arith
 
   module _ (now : List (List ℕ)) (new : Option Told) (n : ℕ) (less : n < length (memory s).sessions) (is : IsReplying layout s now from old new n) where
     -- the test of the next place, and those after it

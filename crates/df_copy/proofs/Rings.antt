@@ -1,17 +1,16 @@
 -- The header ring of a copy: a reserved header in each slot, as in a new file.
-use Rattle.std.proofs.Common.{◌≡◌, inl, inr, ℕ, zero, suc, ◌+◌, ◌/◌, ◌%◌, ◌^◌, ◌<◌, ◌≤◌, ◌==◌, true, List, [], ◌∷◌, length, Option, Some, None, refl, ◌∙◌, arith}
+use Rattle.std.proofs.Common.{◌≡◌, ℕ, zero, suc, ◌/◌, ◌^◌, ◌<◌, true, List, [], ◌∷◌, length, refl, arith}
 use Rattle.std.specs.Prelude.{slice_get}
-use Rattle.std.proofs.lemmas.Bool.{cases_eq, eq-eqb, cond-true}
 use Rattle.df_layout.specs.declared.layout.Layout.{Layout}
 use Rattle.df_format.specs.declared.header.Header.{Header}
-use Rattle.df_theory.specs.Units.{AnyUnit, HeaderPlace, is_some}
+use Rattle.df_theory.specs.Units.{HeaderPlace, is_some}
 use Rattle.df_theory.specs.MakingLaws.{AllReserved, all_puts}
 use Rattle.df_theory.specs.MendLaws.{Reaches}
 use Rattle.df_theory.specs.Device.{AreSteps}
 use Rattle.df_units.specs.Format.{format_of}
-use Rattle.df_units.specs.Making.{AreReserved, header_puts, header_writes}
+use Rattle.df_units.specs.Making.{header_puts, header_writes}
 use Rattle.df_units.specs.Puts.{header_unit}
-use Rattle.df_units.proofs.Laws.{headers_are_steps, reserved_put}
+use Rattle.df_units.proofs.Laws.{headers_are_steps, all_reserved, reached}
 use Rattle.df_opening.specs.Making.{reserved_table, sectors_in}
 use Rattle.df_opening.proofs.Laws.{how_many, ring_reserved}
 
@@ -21,10 +20,6 @@ pub ring_steps : (layout : Layout) (cluster : ℕ) → 0 < cluster → cluster <
     → AreSteps (format_of layout cluster) (header_writes layout 0 (sectors_in layout (reserved_table layout cluster))) (all_puts (header_puts 0 (sectors_in layout (reserved_table layout cluster))))
 ring_steps layout cluster named small = headers_are_steps layout cluster 0 (sectors_in layout (reserved_table layout cluster)) (ring_reserved layout cluster named small)
 
-all_reserved : (layout : Layout) (cluster sector : ℕ) (sectors : List (List Header)) → AreReserved layout cluster sector sectors → AllReserved (header_puts sector sectors)
-all_reserved layout cluster sector [] are = tt
-all_reserved layout cluster sector (headers ∷ rest) are = (reserved_put sector headers are.0.sixteen are.1, all_reserved layout cluster (sector + 1) rest are.2)
-
 pub ring_all_reserved : (layout : Layout) (cluster : ℕ) → 0 < cluster → cluster < 2 ^ 128 → AllReserved (header_puts 0 (sectors_in layout (reserved_table layout cluster)))
 ring_all_reserved layout cluster named small = all_reserved layout cluster 0 (sectors_in layout (reserved_table layout cluster)) (ring_reserved layout cluster named small)
 
@@ -32,19 +27,6 @@ some_header : (headers : List Header) (i : ℕ) → i < length headers → is_so
 some_header [] i inside = absurd (omega arith)
 some_header (h ∷ hs) zero inside = refl
 some_header (h ∷ hs) (suc i) inside = some_header hs i (omega arith)
-
-some_unit : (o : Option AnyUnit) → is_some o ≡ true → (y : AnyUnit) × (o ≡ Some y)
-some_unit None is = absurd (cc)
-some_unit (Some y) is = (y, refl)
-
-reached : (layout : Layout) (cluster sector : ℕ) (sectors : List (List Header)) → AreReserved layout cluster sector sectors → (s : ℕ) → sector ≤ s / 16 → s / 16 < sector + length sectors → Reaches (header_puts sector sectors) (HeaderPlace s)
-reached layout cluster sector [] are s from upto = absurd (omega arith)
-reached layout cluster sector (headers ∷ rest) are s from upto = elim (cases_eq (s / 16) sector) [
-  | inl here ↦
-      let one = some_unit (header_unit (slice_get headers (s % 16))) (some_header headers (s % 16) (omega (arith, are.0.sixteen.count))) in
-      inl (one.0, cond-true (s / 16 == sector) (header_unit (slice_get headers (s % 16))) None (eq-eqb (s / 16) sector here) ∙ one.1)
-  | inr later ↦ inr (reached layout cluster (sector + 1) rest are.2 s (omega arith) (omega arith))
-]
 
 -- each slot of the ring is reached
 pub ring_reaches : (layout : Layout) (cluster : ℕ) → 0 < cluster → cluster < 2 ^ 128 → (s : ℕ) → s < layout.slots → Reaches (header_puts 0 (sectors_in layout (reserved_table layout cluster))) (HeaderPlace s)

@@ -13,7 +13,7 @@ use Rattle.df_theory.specs.Shape.{Shape}
 use Rattle.df_theory.specs.UnitLog.{UnitLog, put_one}
 use Rattle.df_theory.specs.Units.{AnyUnit, Block, BlockPlace, BlockUnit, Content, CopyPlace, CopyUnit, Header, HeaderPlace, HeaderUnit, Layout, Message, Parts, Place, PreparePlace, PrepareUnit, ReplyPlace, ReplyUnit, Session, Units}
 use Rattle.df_theory.specs.View.{Checkpoint, IsSoundCheckpoint, View}
-use Rattle.df_theory.proofs.Laws.{AreTold, all_reserved, anew_law, clean_start_law, copies_of, distinct_of, may_raise, put_one_law, puts_reserved, reserved, rests_law}
+use Rattle.df_theory.proofs.Laws.{AreTold, all_reserved, anew_law, clean_start_law, copies_of, distinct_of, may_raise, put_one_law, puts_reserved, reserved, rests_law, low_bytes}
 use Rattle.df_history.specs.Histories.{InHistoryPools, IsLived, MayStart}
 use Rattle.df_history.specs.Lives.{Starts}
 use Rattle.df_history.specs.OpenLaws.{BeginsHistory, IsOpening}
@@ -274,16 +274,8 @@ told = record {
 
 of_block : (a : ℕ) (x : AnyUnit) → block_at a ≡ Some x → IsOurs x × IsOfPlace shape (BlockPlace a) x
 of_block zero x at = absurd (let both : None ≡ Some x = at in cc)
-of_block (suc zero) x at = let both : Some (BlockUnit (renamed 33 block)) ≡ Some x = at in let same : BlockUnit (renamed 33 block) ≡ x = cc in (subst IsOurs same refl, (renamed 33 block, sym same, omega arith, λ i. low i))
-  where
-    low : (i : ℕ) → slice_index (0 ∷ []) i < 256
-    low zero = omega arith
-    low (suc i) = omega arith
-of_block (suc (suc zero)) x at = let both : Some (BlockUnit (trailer 32)) ≡ Some x = at in let same : BlockUnit (trailer 32) ≡ x = cc in (subst IsOurs same refl, (trailer 32, sym same, omega arith, λ i. low i))
-  where
-    low : (i : ℕ) → slice_index (0 ∷ []) i < 256
-    low zero = omega arith
-    low (suc i) = omega arith
+of_block (suc zero) x at = let both : Some (BlockUnit (renamed 33 block)) ≡ Some x = at in let same : BlockUnit (renamed 33 block) ≡ x = cc in (subst IsOurs same refl, (renamed 33 block, sym same, omega arith, λ i. low_bytes i))
+of_block (suc (suc zero)) x at = let both : Some (BlockUnit (trailer 32)) ≡ Some x = at in let same : BlockUnit (trailer 32) ≡ x = cc in (subst IsOurs same refl, (trailer 32, sym same, omega arith, λ i. low_bytes i))
 of_block (suc (suc (suc a))) x at = absurd (let both : None ≡ Some x = at in cc)
 
 in_range : IsInRange reply.header

@@ -30,10 +30,10 @@ use Rattle.df_units.specs.Meaning.{block_of, content_of, layout_of}
 use Rattle.df_units.proofs.Laws.{of_places}
 use Rattle.df_rooms.specs.Recorded.{stored_checks}
 use Rattle.df_model.specs.Blocks.{addresses, entries, sum_at}
-use Rattle.df_model.specs.Codec.{AreLawful, IsCodec, IsLawful}
+use Rattle.df_model.specs.Codec.{AreLawful, IsLawful}
 use Rattle.df_model.specs.Memory.{Memory, memory_of}
 use Rattle.df_model.specs.Work.{kept, opened}
-use Rattle.df_model.proofs.Laws.{entry_at, entry_in}
+use Rattle.df_model.proofs.Laws.{entry_at, entry_in, parts_lawful}
 use Rattle.df_opening.specs.Below.{IsOpened, State, boot_fields, memory, shape, spelling}
 use Rattle.df_opening.specs.Opened.{begun_state}
 use Rattle.df_opening.specs.Mending.{raised_state}
@@ -82,16 +82,6 @@ module _ (layout : Layout) (cluster : ℕ) (image : ℕ → List ℕ) (whole : I
   trailer_second b is kind = by_unit b (Shown.unit_at layout cluster image (place_in Grid a)) refl is kind
 
 -- ---- the parts
-
-parts_lawful : (sh : Shape) (spell : Parts → List ℕ) → IsCodec sh spell → (op : ℕ) (chain : List (ℕ × Block)) (parts : Parts) → AreBytes (text_of chain) → Says sh op chain parts → IsLawful sh.layout op parts
-parts_lawful sh spell codec op [] parts bytes says = subst (IsLawful sh.layout op) (sym says) (record {
-  root = (omega arith, bytes);
-  sessions = record { few = omega arith; each = λ k x at. absurd (cc); apart = λ j k x y at other same. absurd (cc) };
-  reached = λ k x at. absurd (cc);
-  ops = λ j k x y at other same. absurd (cc);
-  references = λ a c is. absurd (cc);
-})
-parts_lawful sh spell codec op (x ∷ xs) parts bytes says = codec.lawful op (text_of (x ∷ xs)) parts bytes says
 
 none_linked : (sh : Shape) (room op checksum : ℕ) (c : Content) (chain : List (ℕ × Block)) (parts : Parts) → Links room c chain 0 checksum → Says sh op chain parts → parts ≡ no_parts
 none_linked sh room op checksum c [] parts links says = says

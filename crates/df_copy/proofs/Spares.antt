@@ -17,6 +17,7 @@ use Rattle.df_format.specs.declared.header.Header.{Header}
 use Rattle.df_format.specs.Message.{Message}
 use Rattle.df_format.specs.Own.{place_in}
 use Rattle.df_format.specs.Super.{copy_bytes}
+use Rattle.df_format.proofs.Laws.{slot_from}
 use Rattle.df_units.specs.Making.{header_writes}
 use Rattle.df_superblock.specs.Events.{copy_written}
 use Rattle.df_opening.specs.Below.{State}
@@ -57,10 +58,6 @@ replies_from layout = omega arith
 
 grid_from : (layout : Layout) → 4 ≤ first_sector layout Grid
 grid_from layout = let behind = (zones_follow layout).grid in omega (arith, behind, replies_from layout)
-
-slot_from : (layout : Layout) (slot : ℕ) → 4 ≤ (span_of layout (place_in WalHeaders slot)).first
-unfolding span_of
-slot_from layout slot = omega (arith, ring_from layout)
 
 place_from : (layout : Layout) (place : ℕ) → 4 ≤ (span_of layout (place_in ClientReplies place)).first
 unfolding span_of

@@ -2,7 +2,7 @@
 use Rattle.std.proofs.Common.{◌≡◌, inl, inr, ℕ, ◌<◌, false, List, [], ◌∷◌, Option, Some, None, refl, sym, ◌∙◌, ap, subst, arith}
 use Rattle.std.specs.Prelude.{slice_get}
 use Rattle.df_base.specs.Image.{Image, IsImage, blank}
-use Rattle.df_base.specs.Log.{Event, IsLog, Log, Sync, add, now, settled}
+use Rattle.df_base.specs.Log.{IsLog, Log, Sync, add, now, settled}
 use Rattle.df_base.specs.Moments.{EachMoment, Passed, adds}
 use Rattle.df_base.proofs.Laws.{adds_extends, adds_on, blank_is_image}
 use Rattle.df_disk.specs.Told.{Told}
@@ -27,12 +27,11 @@ use Rattle.df_units.specs.Puts.{put_copies}
 use Rattle.df_units.proofs.Laws.{is_format}
 use Rattle.df_superblock.specs.Events.{update_events}
 use Rattle.df_opening.specs.Below.{State, begun, format_of}
-use Rattle.df_opening.specs.Sparing.{image_after}
-use Rattle.df_opening.proofs.Laws.{shown_by, unit_after}
+use Rattle.df_opening.proofs.Laws.{shown_by, unit_after, after_join, now_adds}
 use Rattle.df_copy.specs.Stops.{AreSplit, LeavesCopy, StopsCopy}
 use Rattle.df_copy.specs.Targets.{copy_events, front_events, front_steps, superblock_of, superblock_steps}
 use Rattle.df_copy.specs.Views.{IsEmpty, ShowsCopy}
-use Rattle.df_copy.proofs.Afters.{after_join, update_other}
+use Rattle.df_copy.proofs.Afters.{update_other}
 use Rattle.df_copy.proofs.Holding.{nothing_shown, shown, shown_after}
 use Rattle.df_copy.proofs.Sources.{IsSource}
 use Rattle.df_copy.proofs.Spares.{before_copies, spare_before}
@@ -40,11 +39,6 @@ use Rattle.df_copy.proofs.UnderWay.{IsUnderWay, Leaves, update_leaves}
 use Rattle.df_copy.proofs.Untouched.{IsUntouched, all_split, log_on, no_copy, none_in, stops_part, untouched_begun, untouched_leaves, untouched_on, untouched_then}
 use Rattle.df_copy.proofs.Usables.{IsNamed, superblock_are_steps}
 use Rattle.df_copy.proofs.Written.{front_are_steps}
-
--- what an image shows after events
-now_behind : (es : List Event) (log : Log) → now (adds es log) ≡ image_after es (now log)
-now_behind [] log = refl
-now_behind (e ∷ es) log = now_behind es (add e log)
 
 apart : (place : Place) → (IsCopy place → ⊥) → (n : ℕ) → same_place (CopyPlace n) place ≡ false
 apart (CopyPlace m) other n = absurd (other tt)
@@ -115,7 +109,7 @@ module _ (layout : Layout) (s : State) (rs bs : List Message) (image : Units) (v
 
     shown_now : (place : Place) → unit_at layout cluster (now written) place ≡ unit_after (front_steps layout s rs bs) place None
     shown_now place =
-        ap (λ (i : Image). unit_at layout cluster i place) (now_behind (front_events layout s rs bs) start)
+        ap (λ (i : Image). unit_at layout cluster i place) (now_adds (front_events layout s rs bs) start)
         ∙ shown_by layout cluster (front_events layout s rs bs) (front_steps layout s rs bs) o.shown front_are is_log.start place
         ∙ ap (unit_after (front_steps layout s rs bs) place) ((nothing_shown layout cluster o.shown empty).1 place)
 

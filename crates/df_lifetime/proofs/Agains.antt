@@ -1,5 +1,6 @@
 -- A life with damage is lived: what each of its opens finds was had since the last one that raised its boot.
 use Rattle.std.proofs.Common.{◌≡◌, ◌⊎◌, inl, inr, ℕ, List, [], ◌∷◌, Option, Some, refl, sym, ◌∙◌, subst}
+use Rattle.std.proofs.lemmas.Option.{same_Some}
 use Rattle.df_base.specs.Image.{Image, changed}
 use Rattle.df_base.specs.Log as logs
 use Rattle.df_base.specs.Log.{AreLoose, Event, IsLeft, Log, Stop, Sync, add}
@@ -161,9 +162,6 @@ module _ (file : DataFile) (log : Log) (older : List Log) (t : Told) (may : MayR
     | inr same ↦ (serves_over_history mode layout old new status serves file t log older same from may).lived
   ]
 
-some_is : (t n : Told) → Some n ≡ Some t → n ≡ t
-some_is t n is = cc
-
 word_lives : (file : DataFile) (older : List Log) (b t n p m : Told) (word : Word t n) → IsSound file older b → IsSpared file b.log older t.shown → (AddsPart (Sync ∷ []) (Some t) (Some n) → ⊥)
     → Extends n.log p.log → GoesAlong (did Sync t) p (did Sync (begun t)) m → IsLivedFile file (add Sync b.log ∷ older) m.log
 word_lives file older b t n p m word is spared wrote until along =
@@ -171,7 +169,7 @@ word_lives file older b t n p m word is spared wrote until along =
       | inl synced ↦ absurd (wrote (subst (λ (o : Option Told). AddsPart (Sync ∷ []) (Some t) o) word.to synced))
       | inr lives ↦
           let end : Told = told_after lives.events (did Sync (begun t)) in
-          let told : n ≡ told_after lives.events (did Sync t) = some_is (told_after lives.events (did Sync t)) n (sym word.to ∙ lives.told ∙ added_is_told lives.events (did Sync t)) in
+          let told : n ≡ told_after lives.events (did Sync t) = same_Some n (told_after lives.events (did Sync t)) (sym word.to ∙ lives.told ∙ added_is_told lives.events (did Sync t)) in
           let all : GoesAlong (did Sync t) n (did Sync (begun t)) end = subst (λ (x : Told). GoesAlong (did Sync t) x (did Sync (begun t)) end) (sym told) (after_along lives.events (did Sync t) (did Sync (begun t)) refl) in
           lives.moments m.log (moment_along (did Sync t) p n (did Sync (begun t)) m end all along until)
     ]

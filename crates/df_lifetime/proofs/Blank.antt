@@ -8,12 +8,12 @@ use Rattle.df_layout.specs.declared.layout.Layout.{Layout}
 use Rattle.df_format.specs.First.{first_content, first_super}
 use Rattle.df_format.specs.Spelling.{IsCheck, no_checksum}
 use Rattle.df_format.specs.Super.{AreChecks, FitsSuper, no_checksums}
-use Rattle.df_format.proofs.Laws.{no_names}
+use Rattle.df_format.proofs.Laws.{no_names, no_check}
 use Rattle.df_theory.specs.Device.{units_log}
 use Rattle.df_theory.specs.MakingLaws.{IsMaking}
 use Rattle.df_units.specs.Format.{format_of}
 use Rattle.df_units.specs.Meaning.{content_of}
-use Rattle.df_units.proofs.Laws.{new_is_making, zeros_check}
+use Rattle.df_units.proofs.Laws.{new_is_making}
 use Rattle.df_replica.specs.Below.{shape}
 use Rattle.df_replica.specs.Making.{file_of}
 use Rattle.df_replica.proofs.Laws.{first_is_super}
@@ -23,7 +23,7 @@ use Rattle.df_lifetime.specs.NewDisks.{NewDisksAreMadeOn}
 
 no_checks : AreChecks no_checksums
 unfolding no_checksums
-no_checks = record { size = length-replicate {A = List ℕ} 64 no_checksum; each = λ k past inside. subst IsCheck (sym (no_names k past inside)) zeros_check }
+no_checks = record { size = length-replicate {A = List ℕ} 64 no_checksum; each = λ k past inside. subst IsCheck (sym (no_names k past inside)) no_check }
 
 first_fits : (layout : Layout) (cluster : ℕ) → cluster < 2 ^ 128 → FitsSuper (first_super layout cluster)
 unfolding first_super
@@ -37,14 +37,14 @@ first_fits layout cluster below = record {
   cluster = below;
   sequence = omega arith;
   op = omega arith;
-  op_checksum = zeros_check;
+  op_checksum = no_check;
   head = omega arith;
   replies = omega arith;
   trailer_address = omega arith;
-  trailer_checksum = zeros_check;
+  trailer_checksum = no_check;
   trailer_size = omega arith;
   boot = omega arith;
-  head_checksum = zeros_check;
+  head_checksum = no_check;
   reply_checksums = no_checks;
 }
 

@@ -3,6 +3,7 @@ use Rattle.std.proofs.Common.{◌≡◌, inl, inr, [], refl, sym, ◌∙◌, sub
 use Rattle.df_base.specs.Image.{Image}
 use Rattle.df_base.specs.Log.{now}
 use Rattle.df_base.specs.Moments.{IsMoment}
+use Rattle.df_base.proofs.Laws.{one_some}
 use Rattle.df_disk.specs.Told.{Told}
 use Rattle.df_layout.specs.declared.layout.Layout.{Layout}
 use Rattle.df_theory.specs.View.{View}
@@ -17,7 +18,6 @@ use Rattle.df_lifetime.specs.Copied.{CopiedBegins, IsCopied, MadeIsCopied, Stopp
 use Rattle.df_lifetime.specs.Life.{GoesAlong}
 use Rattle.df_lifetime.specs.Life.Life.{Taken}
 use Rattle.df_lifetime.proofs.Along.{after_along, moment_along}
-use Rattle.df_lifetime.proofs.Files.{one_told}
 use Rattle.df_lifetime.proofs.Openings.{distinct_left}
 
 -- what shows the copy may be taken
@@ -40,7 +40,7 @@ made_is_copied layout t read o n run done empty honest distinct =
 pub stopped_is_copied : StoppedIsCopied
 stopped_is_copied layout t read o n p m run image empty until along left chance =
     let stops = run.copies.stops read o run.source run.target empty run.view run.found in
-    let told : told_after stops.events o ≡ n = one_told run.new.second (told_after stops.events o) n (stops.told ∙ added_is_told stops.events o) run.later in
+    let told : told_after stops.events o ≡ n = one_some run.new.second (told_after stops.events o) n (stops.told ∙ added_is_told stops.events o) run.later in
     let all : GoesAlong o n (begun o) (told_after stops.events (begun o)) = subst (λ (x : Told). GoesAlong o x (begun o) (told_after stops.events (begun o))) told (after_along stops.events o (begun o) refl) in
     let moment : IsMoment (begun o).log (told_after stops.events (begun o)).log m.log = moment_along o p n (begun o) m (told_after stops.events (begun o)) all along until in
     elim (stops.moments m.log moment image left chance) [

@@ -6,7 +6,7 @@ use Rattle.df_theory.specs.Shape.{Shape}
 use Rattle.df_theory.specs.Tails.{In}
 use Rattle.df_theory.specs.Units.{Message, Parts}
 use Rattle.df_theory.specs.View.{View, head}
-use Rattle.df_theory.proofs.Laws.{tracks, stored_at}
+use Rattle.df_theory.proofs.Laws.{tracks, stored_at, in_back}
 use Rattle.df_model.specs.After.{after_running, after_step_of, outcome, with_group, with_prepare, with_reply}
 use Rattle.df_model.specs.Commands.{Advance, Append, Command, Flush, Given, Reply, ToAdvance, ToAppend, ToFlush, ToReply, after, as_answer, supplied_sum, supplied_sums}
 use Rattle.df_model.specs.Making.{first_of, group_of, place_of_reply, prepare_in, prepare_of, prepares_in, reply_of}
@@ -26,10 +26,6 @@ at_end p (x ∷ ps) = inr (at_end p ps)
 
 same_number : (n m : ℕ) → not (n == m) ≡ false → n ≡ m
 same_number n m is = grind (arith, nat_tests)
-
-behind : (p : Message) (ps qs : List Message) → In p qs → In p (ps ++ qs)
-behind p [] qs at = at
-behind p (x ∷ ps) qs at = inr (behind p ps qs at)
 
 promised_count : (op : ℕ) (rs : List Request) → length (promised_from op rs) ≡ length rs
 promised_count op [] = refl
@@ -65,7 +61,7 @@ module _ (sh : Shape) (spell : Parts → List ℕ) (w : Work) where
       let ps = group_of m sums in
       let many = length_in m (m.head + 1) (m.head + length w.staged) (m.head + 1) m.head_checksum w.staged sums in (
         promised_count (m.head + 1) w.staged,
-        group_there (appended w.view ps) m (m.head + 1) (m.head + length w.staged) (m.head + 1) m.head_checksum w.staged sums (omega (arith, length-append w.view.tail ps, many)) (λ p at. behind p w.view.tail ps at),
+        group_there (appended w.view ps) m (m.head + 1) (m.head + length w.staged) (m.head + 1) m.head_checksum w.staged sums (omega (arith, length-append w.view.tail ps, many)) (λ p at. in_back p w.view.tail ps at),
       )
 
   reply_there : (rs : List Promised) (given : Given) (sum op : ℕ) (body : List ℕ) (o : Option ReplyError) → first_refusal (reply_refusals (memory_of sh spell w) op body) ≡ o → IsWork sh spell w

@@ -1,7 +1,6 @@
 -- What an open finds is the file: its layout and its cluster are those of the superblock that is chosen.
-use Rattle.std.proofs.Common.{◌≡◌, ℕ, Option, Some, sym, ◌∙◌}
+use Rattle.std.proofs.Common.{◌≡◌, ℕ}
 use Rattle.df_base.specs.Image.{Image}
-use Rattle.df_disk.specs.Told.{Told}
 use Rattle.df_layout.specs.declared.layout.Layout.{Layout}
 use Rattle.df_theory.specs.Found.{IsFound}
 use Rattle.df_theory.specs.View.{View}
@@ -15,6 +14,3 @@ pub one_file : (version : ℕ) (file : DataFile) (layout : Layout) (image : Imag
 one_file version file layout image view s found is = found_file file s.file layout image view is.view found is.found
 
 -- ---- one thing is told
-
-pub one_told : (o : Option Told) (a b : Told) → o ≡ Some a → o ≡ Some b → a ≡ b
-one_told o a b one two = let both : Some a ≡ Some b = sym one ∙ two in cc

@@ -5,7 +5,7 @@ use Rattle.std.proofs.lemmas.List.{append-nil}
 use Rattle.df_base.specs.Image.{Image, changed}
 use Rattle.df_base.specs.Log.{AreLoose, Event, Stop, Sync, now}
 use Rattle.df_base.specs.Moments.{EachMoment, Extends, IsMoment}
-use Rattle.df_base.proofs.Laws.{extends_self}
+use Rattle.df_base.proofs.Laws.{extends_self, one_some}
 use Rattle.df_disk.specs.Adds.{after_all}
 use Rattle.df_disk.specs.Told.{IsHonest, Told, did}
 use Rattle.df_theory.specs.Device.{IsSafeDisk, NoChanceOf}
@@ -42,7 +42,7 @@ use Rattle.df_lifetime.specs.Life.{ShowsFile}
 use Rattle.df_lifetime.specs.There.{promised_in}
 use Rattle.df_lifetime.proofs.Acts.{ends_inputs, first_answers, front_and_rest, has_front, work_on}
 use Rattle.df_lifetime.proofs.Bases.{AnsweredOver, KeepsOver, told_over}
-use Rattle.df_lifetime.proofs.Files.{one_file, one_told}
+use Rattle.df_lifetime.proofs.Files.{one_file}
 use Rattle.df_lifetime.proofs.Found.{front_inputs, front_there}
 use Rattle.df_lifetime.proofs.Lives.{left_by}
 use Rattle.df_lifetime.proofs.Openings.{answers_begun, keeps_begun, work_begun}
@@ -135,7 +135,7 @@ module _ (file : DataFile) (g : Grade) (view : View) (t base : Told) (version : 
     last = at_end mending c base
 
     after_is : keeps.after ≡ last
-    after_is = one_told (over mending (events_made c) base) keeps.after last keeps.is refl
+    after_is = one_some (over mending (events_made c) base) keeps.after last keeps.is refl
 
     moments : EachMoment (did Sync base).log last.log (IsMidway file g start (c.acts ++ list_of c.failed))
     moments = subst (λ (x : Told). EachMoment (did Sync base).log x.log (IsMidway file g start (c.acts ++ list_of c.failed))) after_is keeps.moments
@@ -168,13 +168,13 @@ module _ (file : DataFile) (g : Grade) (view : View) (t base : Told) (version : 
 shows_over : (mending : List Event) (c : CallsMade) (t base : Told) → base.shown ≡ t.shown → c.old ≡ after_all mending (Some (did Sync t)) → c.new ≡ after_all (events_made c) c.old → (n : Told) → c.new ≡ Some n → (at_end mending c base).shown ≡ n.shown
 shows_over mending c t base same from to n is =
     let told : Told = at_end mending c t in
-    let one : told ≡ n = one_told c.new told n (told_over mending (events_made c) t c.old c.new from to) is in
+    let one : told ≡ n = one_some c.new told n (told_over mending (events_made c) t c.old c.new from to) is in
     same_goes_on (events_made c) (told_after mending (did Sync t)) (told_after mending (did Sync base)) (same_goes_on mending (did Sync t) (did Sync base) same) ∙ ap (λ (x : Told). x.shown) one
 
 -- and where it was begun at the end of that
 pub shows_begun : (mending : List Event) (c : CallsMade) (t : Told) → c.old ≡ after_all mending (Some (did Sync t)) → c.new ≡ after_all (events_made c) c.old → (n : Told) → c.new ≡ Some n → (at_end [] c (begun_after mending t)).shown ≡ n.shown
 shows_begun mending c t from to n is =
-    let one : at_end mending c t ≡ n = one_told c.new (at_end mending c t) n (told_over mending (events_made c) t c.old c.new from to) is in
+    let one : at_end mending c t ≡ n = one_some c.new (at_end mending c t) n (told_over mending (events_made c) t c.old c.new from to) is in
     same_goes_on (events_made c) (told_after mending (did Sync t)) (did Sync (begun_after mending t)) refl ∙ ap (λ (x : Told). x.shown) one
 
 -- ---- the laws

@@ -1,13 +1,11 @@
 -- Each thing that happens to a file that is in order leaves it in order.
-use Rattle.std.proofs.Common.{◌≡◌, ◌<◌, ◌^◌, inl, inr, ℕ, zero, suc, true, false, List, [], ◌∷◌, ◌++◌, Option, Some, None, refl, sym, ◌∙◌, ap, subst, arith}
+use Rattle.std.proofs.Common.{◌≡◌, ◌<◌, ◌^◌, inl, inr, ℕ, zero, suc, List, [], ◌∷◌, ◌++◌, Option, Some, None, refl, sym, ◌∙◌, ap, subst}
 use Rattle.std.specs.Prelude.{take, drop}
-use Rattle.std.proofs.lemmas.Bool.{cases_eq}
-use Rattle.std.proofs.lemmas.Bool.Decides.{nat_tests}
 use Rattle.std.proofs.lemmas.List.{append-nil}
 use Rattle.df_base.specs.Image.{Image, IsImage, changed}
-use Rattle.df_base.specs.Log.{AreLoose, Event, IsLeft, IsLog, Log, Stop, Sync, loose_of, now}
+use Rattle.df_base.specs.Log.{AreLoose, Event, IsLeft, IsLog, Log, Stop, Sync, now}
 use Rattle.df_base.specs.Moments.{EachMoment, Extends}
-use Rattle.df_base.proofs.Laws.{changed_is_image, extends_self, from_before, now_is_image, weaker}
+use Rattle.df_base.proofs.Laws.{changed_is_image, extends_self, from_before, now_is_image, weaker, one_some}
 use Rattle.df_disk.specs.Adds.{AddsPart, after_all}
 use Rattle.df_disk.specs.Told.{IsHonest, Told, did}
 use Rattle.df_format.specs.declared.superblock.SuperFields.{SuperFields}
@@ -17,7 +15,7 @@ use Rattle.df_theory.specs.Found.{IsFound}
 use Rattle.df_theory.specs.Rests.{RestsOn}
 use Rattle.df_theory.specs.Next.{IsSameBare}
 use Rattle.df_theory.specs.View.{View, boot_of}
-use Rattle.df_theory.proofs.Laws.{disk_stop_law, one_found_law, rests_safe, safe_disk_law}
+use Rattle.df_theory.proofs.Laws.{disk_stop_law, one_found_law, rests_safe, safe_disk_law, changed_kept}
 use Rattle.df_units.specs.Bytes.{unit_at}
 use Rattle.df_units.specs.Making.{first_view}
 use Rattle.df_units.proofs.Laws.{is_format}
@@ -56,7 +54,7 @@ use Rattle.df_lifetime.specs.Life.OtherWord.{ToFormat, ToUpgrade}
 use Rattle.df_lifetime.proofs.Bases.{AnsweredOver, KeepsOver, told_over}
 use Rattle.df_lifetime.proofs.Along.{after_along, along_on, answered_along, extends_along, grows, moment_along, one_end}
 use Rattle.df_lifetime.proofs.Acts.{HasFront, ends_inputs, first_answers, front_and_rest, has_front, work_on}
-use Rattle.df_lifetime.proofs.Files.{one_file, one_told}
+use Rattle.df_lifetime.proofs.Files.{one_file}
 use Rattle.df_lifetime.proofs.Haves.{begun_bare, had_on}
 use Rattle.df_lifetime.proofs.Openings.{opened_in_order}
 use Rattle.df_lifetime.proofs.Orders.{Has, Order, after_barrier, goes_on, here, in_order, made_in_order, made_safe, may, none_referenced, order_of, same_moments, shows, stands_shown, synced, synced_moments, taken_in_order}
@@ -64,11 +62,11 @@ use Rattle.df_lifetime.proofs.Orders.{Has, Order, after_barrier, goes_on, here, 
 -- the word `format` leaves a disk as it is whose superblock isn't blank
 pub format_spares : (layout : Layout) (cluster : ℕ) (t n : Told) (old new : Option (List ℕ)) (status : Status) → (IsUnformatted t.shown → ⊥) → Formats layout cluster (Some t) (Some n) old new status → t ≡ n
 format_spares layout cluster t n old new Done formatted made = absurd (formatted (made.0.may.blank t refl))
-format_spares layout cluster t n old new Refused formatted refuses = one_told (Some n) t n refuses.1.same refl
-format_spares layout cluster t n old new DiskFault formatted part = elim part.2 [ inl none ↦ one_told (Some n) t n none refl | inr blank ↦ absurd (formatted blank) ]
+format_spares layout cluster t n old new Refused formatted refuses = one_some (Some n) t n refuses.1.same refl
+format_spares layout cluster t n old new DiskFault formatted part = elim part.2 [ inl none ↦ one_some (Some n) t n none refl | inr blank ↦ absurd (formatted blank) ]
 format_spares layout cluster t n old new WriteFault formatted (inl made) = absurd (formatted (made.0.may.blank t refl))
-format_spares layout cluster t n old new WriteFault formatted (inr refuses) = one_told (Some n) t n refuses.1.same refl
-format_spares layout cluster t n old new Memory formatted nothing = one_told (Some n) t n nothing.0 refl
+format_spares layout cluster t n old new WriteFault formatted (inr refuses) = one_some (Some n) t n refuses.1.same refl
+format_spares layout cluster t n old new Memory formatted nothing = one_some (Some n) t n nothing.0 refl
 format_spares layout cluster t n old new Found formatted none = absurd none
 format_spares layout cluster t n old new Words formatted none = absurd none
 format_spares layout cluster t n old new Script formatted none = absurd none
@@ -108,8 +106,8 @@ module _ (file : DataFile) (first : View) (chapters : List Chapter) (b : Told) (
   sync_comes n same = quiet_comes (Sync ∷ []) n same (synced file first chapters b is chance) (synced_moments file first chapters b is chance)
 
   part_comes : (new : Option Told) (n : Told) → new ≡ Some n → AddsPart (Sync ∷ []) (Some t) new → Comes file first chapters None t n b
-  part_comes new n to (inl none) = same_comes n (one_told new t n none to)
-  part_comes new n to (inr all) = sync_comes n (one_told new (did Sync t) n all to)
+  part_comes new n to (inl none) = same_comes n (one_some new t n none to)
+  part_comes new n to (inr all) = sync_comes n (one_some new (did Sync t) n all to)
 
   -- ---- the view that is found
 
@@ -176,17 +174,17 @@ module _ (file : DataFile) (first : View) (chapters : List Chapter) (b : Told) (
       let later : EachMoment (did Sync b).log end.log (Order file first chapters) =
       weaker (did Sync b).log end.log (IsGoodFor Whole (format file) (shape file) view raised) (Order file first chapters) (λ log good. good_order raised both.1 log good) both.0 in
       let grew : Extends end.log (did Sync b).log = grows es (did Sync b) in
-      quiet_comes (Sync ∷ es) n (one_told new (told_after es (did Sync t)) n (mends.mending.told ∙ added_is_told es (did Sync t)) to) (later end.log (record { since = grew; until = extends_self end.log }))
+      quiet_comes (Sync ∷ es) n (one_some new (told_after es (did Sync t)) n (mends.mending.told ∙ added_is_told es (did Sync t)) to) (later end.log (record { since = grew; until = extends_self end.log }))
       (after_barrier file first chapters b is chance end.log grew later)
 
   stops_comes : (layout : Layout) (new : Option Told) (n : Told) → new ≡ Some n → StopsOpening layout t new → Comes file first chapters None t n b
-  stops_comes layout new n to (inl none) = same_comes n (one_told new t n none to)
-  stops_comes layout new n to (inr (inl all)) = sync_comes n (one_told new (did Sync t) n all to)
+  stops_comes layout new n to (inl none) = same_comes n (one_some new t n none to)
+  stops_comes layout new n to (inr (inl all)) = sync_comes n (one_some new (did Sync t) n all to)
   stops_comes layout new n to (inr (inr mends)) = mends_comes layout new n to mends
 
   -- it was refused after the barrier, as one of another layout is
   refused_comes : (layout : Layout) (old new : Outside) (status : Status) (n : Told) → new.told ≡ Some n → RefusesFile layout t old new status → Comes file first chapters None t n b
-  refused_comes layout old new status n to refuses = sync_comes n (one_told new.told (did Sync t) n refuses.barrier to)
+  refused_comes layout old new status n to refuses = sync_comes n (one_some new.told (did Sync t) n refuses.barrier to)
 
   -- ---- the file was opened, and kept
 
@@ -202,7 +200,7 @@ module _ (file : DataFile) (first : View) (chapters : List Chapter) (b : Told) (
 
   module _ (acts : List Act) (xs : List Answer) (failed : Option Act) (e : Told) (keeps : KeepsFile file Whole start b acts xs failed (Some e)) where
     same_end : keeps.after ≡ e
-    same_end = one_told (Some e) keeps.after e keeps.is refl
+    same_end = one_some (Some e) keeps.after e keeps.is refl
 
     honest_end : IsHonest e
     honest_end = subst IsHonest same_end keeps.honest
@@ -357,7 +355,7 @@ module _ (file : DataFile) (first : View) (chapters : List Chapter) (b : Told) (
         let inputs : AreInputs (c.acts ++ list_of c.failed) = ends_inputs c.from c.to c.old c.new c.acts c.answers c.failed c.calls in
         let told : Told = told_after (events_made c) (told_after mending.events (did Sync t)) in
         served_comes c mending.events unspent inputs (keeps_as replica c.acts c.answers c.failed mending.events (events_made c) one keeps) (answered_as replica c mending.events one acknowledged) n
-        (one_told new.told told n (told_over mending.events (events_made c) t c.old new.told mending.told adds) to) (told_over mending.events [] t c.old c.old mending.told refl)
+        (one_some new.told told n (told_over mending.events (events_made c) t c.old new.told mending.told adds) to) (told_over mending.events [] t c.old c.old mending.told refl)
 
     -- what was found is the file
     found_one : (found : FoundFile layout t) → found.replica.file ≡ file
@@ -370,7 +368,7 @@ module _ (file : DataFile) (first : View) (chapters : List Chapter) (b : Told) (
     idles : (found : FoundFile layout t) → new.told ≡ found.mended → CallsKeep t found.replica found.mended found.mending (no_calls found) → Comes file first chapters None t n b
     idles found told calls =
         idle_comes found.mending.events n (keeps_as found.replica [] [] None found.mending.events [] (found_one found) calls.keeps)
-        (one_told new.told (told_after found.mending.events (did Sync t)) n (told ∙ told_over found.mending.events [] t found.mended found.mended found.mending.told refl) to)
+        (one_some new.told (told_after found.mending.events (did Sync t)) n (told ∙ told_over found.mending.events [] t found.mended found.mended found.mending.told refl) to)
 
     works_come : (mode : Mode) (found : FoundFile layout t) (works : Works mode layout t found old new status) → Comes file first chapters (word_calls mode layout t found old new status works) t n b
     works_come (Format shape cluster) found works = absurd works
@@ -378,7 +376,7 @@ module _ (file : DataFile) (first : View) (chapters : List Chapter) (b : Told) (
     works_come Run found serves = calls_come found.replica (script_calls serves.session) found.mending (found_one found) (found_unspent found) serves.adds serves.calls.keeps serves.calls.acknowledged
     works_come (Paced pace) found serves = calls_come found.replica (script_calls serves.session) found.mending (found_one found) (found_unspent found) serves.adds serves.calls.keeps serves.calls.acknowledged
     works_come Recover found recovers = idles found recovers.told recovers.calls
-    works_come Inspect found inspects = sync_comes n (one_told new.told (did Sync t) n inspects.barrier to)
+    works_come Inspect found inspects = sync_comes n (one_some new.told (did Sync t) n inspects.barrier to)
     works_come Scrub found scrubs = idles found (scrubs.told ∙ sym scrubs.is_mended) scrubs.calls
     works_come (Workload seed count) found works = calls_come found.replica (run_calls works.worked) found.mending (found_one found) (found_unspent found) works.calls.adds works.calls.keeps works.calls.acknowledged
 
@@ -403,8 +401,8 @@ module _ (file : DataFile) (first : View) (chapters : List Chapter) (b : Told) (
 
   outcome_comes : (mode : Mode) (old new : Outside) (status : Status) (n : Told) → old.told ≡ Some t → new.told ≡ Some n → (outcome : Outcome mode t old new status)
       → Comes file first chapters (calls_in mode t old new status outcome) t n b
-  outcome_comes mode old new status n from to (inl nothing) = same_comes n (one_told new.told t n (nothing.without.same ∙ from) to)
-  outcome_comes mode old new status n from to (inr (inl refuses)) = same_comes n (one_told new.told t n (refuses.same ∙ from) to)
+  outcome_comes mode old new status n from to (inl nothing) = same_comes n (one_some new.told t n (nothing.without.same ∙ from) to)
+  outcome_comes mode old new status n from to (inr (inl refuses)) = same_comes n (one_some new.told t n (refuses.same ∙ from) to)
   outcome_comes mode old new status n from to (inr (inr does)) = does_comes does.0 old new status n to mode does.1
 
   pub word_comes : (n : Told) (word : Word t n) → Comes file first chapters (calls_made t n word) t n b
@@ -415,17 +413,9 @@ module _ (file : DataFile) (first : View) (chapters : List Chapter) (b : Told) (
   -- neither does anything to a file of version 2
   pub other_same : (n : Told) → OtherWord t n → t ≡ n
   other_same n (ToFormat layout cluster status word) = format_spares layout cluster t n word.old word.new status formatted word.formats
-  other_same n (ToUpgrade status word) = one_told word.new.told t n (second_is_left file view t word.old word.new status is.version whole found_shown word.from word.runs ∙ word.from) word.to
+  other_same n (ToUpgrade status word) = one_some word.new.told t n (second_is_left file view t word.old word.new status is.version whole found_shown word.from word.runs ∙ word.from) word.to
 
 -- ---- a stop
-
-changed_kept : (es : List Event) (changes : List (ℕ × List ℕ)) (image : Image) (sector : ℕ) → AreLoose es changes → loose_of es sector ≡ false → changed changes image sector ≡ image sector
-changed_kept es [] image sector are firm = refl
-changed_kept es (c ∷ changes) image sector are firm =
-    changed_kept es changes _ sector are.2 firm ∙ elim (cases_eq sector c.0) [
-      | inl here ↦ absurd (let wet : loose_of es sector ≡ true = subst (λ (s : ℕ). loose_of es s ≡ true) (sym here) are.0 in cc)
-      | inr elsewhere ↦ grind (arith, nat_tests)
-    ]
 
 -- what a stop leaves is one of the images that it may leave
 pub left_by : (log : Log) (changes : List (ℕ × List ℕ)) → IsLog log → AreLoose log.events changes → IsLeft log (changed changes (now log))

@@ -40,13 +40,12 @@ use Rattle.df_workload.specs.declared.state.State.{State as Run}
 use Rattle.df_session.specs.Begun.{begun_work}
 use Rattle.df_session.specs.Found.{FoundFile}
 use Rattle.df_session.specs.Links.{AreCalls, EndsCalls, command_in}
-use Rattle.df_session.proofs.Laws.{file_there, layout_there, view_there}
+use Rattle.df_session.proofs.Laws.{file_there, layout_there, view_there, agree_self}
 use Rattle.df_top.specs.Outside.{Outside}
 use Rattle.df_top.specs.Working.{WorksThrough}
 use Rattle.df_top.specs.Works.{Writes, asked_by, workload_of}
 use Rattle.df_top.specs.declared.status.Status.{Status}
 use Rattle.df_top.specs.declared.status.Status.TheVariants.{Done, Script, Words, Refused, Memory as NoMemory, DiskFault, ReadFault, WriteFault, Found}
-use Rattle.df_top.proofs.Laws.{agree_self}
 use Rattle.df_lifetime.specs.Printed.{HasEnded, OnFile, PrintsOne, Twice, WorkloadHasOneText}
 use Rattle.df_lifetime.proofs.Alike.{agree_there, file_alike, units_alike, view_alike}
 

@@ -5,7 +5,7 @@ use Rattle.std.proofs.lemmas.List.{append-nil}
 use Rattle.df_base.specs.Image.{Image}
 use Rattle.df_base.specs.Log.{IsLeft, Log, Sync}
 use Rattle.df_base.specs.Moments.{EachMoment, Extends}
-use Rattle.df_base.proofs.Laws.{extends_self}
+use Rattle.df_base.proofs.Laws.{extends_self, one_some}
 use Rattle.df_disk.specs.Told.{IsHonest, Told, did}
 use Rattle.df_format.specs.Copies.{content_with}
 use Rattle.df_layout.specs.declared.layout.Layout.{Layout}
@@ -39,7 +39,7 @@ use Rattle.df_lifetime.specs.Hurt.{StoppedOpensBegin}
 use Rattle.df_lifetime.specs.Life.{AreMade, Extent, IsInOrder, ShowsFile, ToAMoment, ToItsEnd, chapter_of}
 use Rattle.df_lifetime.proofs.Acts.{ends_inputs, first_answers, front_and_rest, has_front, work_on}
 use Rattle.df_lifetime.proofs.Along.{grows}
-use Rattle.df_lifetime.proofs.Files.{one_file, one_told}
+use Rattle.df_lifetime.proofs.Files.{one_file}
 use Rattle.df_lifetime.proofs.Orders.{in_order}
 
 -- ---- what an open found
@@ -109,7 +109,7 @@ module _ (file : DataFile) (g : Grade) (w : Work) where
     end = told_after (events_made c) (did Sync b)
 
     same_end : keeps.after ≡ end
-    same_end = one_told (over [] (events_made c) b) keeps.after end keeps.is refl
+    same_end = one_some (over [] (events_made c) b) keeps.after end keeps.is refl
 
     grew : Extends end.log (did Sync b).log
     grew = grows (events_made c) (did Sync b)

@@ -3,7 +3,7 @@ use Rattle.std.proofs.Common.{◌≡◌, ℕ, List, [], Some, None, refl, sym, �
 use Rattle.df_base.specs.Image.{Image}
 use Rattle.df_base.specs.Log.{IsLeft, IsLog, Log, Sync, add, now}
 use Rattle.df_base.specs.Moments.{EachMoment, Extends}
-use Rattle.df_base.proofs.Laws.{adds_extends, extends_self, from_before, now_is_image, started}
+use Rattle.df_base.proofs.Laws.{adds_extends, extends_self, from_before, now_is_image, started, one_some}
 use Rattle.df_disk.specs.Adds.{after_all}
 use Rattle.df_disk.specs.Told.{IsHonest, Told}
 use Rattle.df_disk.proofs.Laws.{told_log}
@@ -27,7 +27,6 @@ use Rattle.df_top.specs.Formats.{MakesOn}
 use Rattle.df_top.specs.declared.status.Status.{Status}
 use Rattle.df_top.specs.declared.status.Status.TheVariants.{Done, Memory}
 use Rattle.df_lifetime.specs.Life.{Chapter, FormatWord, IsInOrder, MayBeOpened, MayHave, MayTake}
-use Rattle.df_lifetime.proofs.Files.{one_told}
 
 -- what is there now is one of the images that a stop may leave
 pub now_left : (log : Log) → IsLog log → IsLeft log (now log)
@@ -128,7 +127,7 @@ module _ (layout : Layout) (cluster : ℕ) (t n : Told) (may : MayMakeOn layout 
   makes = word.makes t may wanting refl honest
 
   same : makes.after ≡ n
-  same = one_told (Some n) makes.after n makes.is refl
+  same = one_some (Some n) makes.after n makes.is refl
 
   -- the log is safe at each moment of a making
   pub made_safe : EachMoment t.log n.log (IsSafeDisk (format made) (shape made))
@@ -143,7 +142,7 @@ module _ (layout : Layout) (cluster : ℕ) (t n : Told) (may : MayMakeOn layout 
 pub made_grew : (layout : Layout) (cluster : ℕ) (t n : Told) → Some n ≡ after_all (making_events layout cluster) (Some t) → Extends n.log t.log
 made_grew layout cluster t n events =
     let all = told_log (making_events layout cluster) t in
-    let is : n ≡ all.0 = one_told (Some n) n all.0 refl (events ∙ all.1) in
+    let is : n ≡ all.0 = one_some (Some n) n all.0 refl (events ∙ all.1) in
     subst (λ (l : Log). Extends l t.log) (sym (ap (λ (x : Told). x.log) is ∙ all.2)) (adds_extends (making_events layout cluster) t.log)
 
 pub made_in_order : (layout : Layout) (cluster : ℕ) (t n : Told) (may : MayMakeOn layout cluster t) → IsHonest t → FormatWord layout cluster t n Done → IsInOrder (file_of layout cluster may.named) (first_view layout cluster) [] n

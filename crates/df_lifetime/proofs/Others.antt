@@ -5,6 +5,7 @@ use Rattle.std.specs.Prelude.{true}
 use Rattle.df_base.specs.Image.{Image}
 use Rattle.df_base.specs.Log as logs
 use Rattle.df_base.specs.Log.{Log, Sync}
+use Rattle.df_base.proofs.Laws.{one_some}
 use Rattle.df_disk.specs.Told.{Told}
 use Rattle.df_format.specs.Copies.{content_of as content_of_copy, copy_at, copy_in, if_here, is_blank_copy}
 use Rattle.df_format.specs.declared.superblock.SuperCopy.{SuperCopy}
@@ -28,7 +29,6 @@ use Rattle.df_lifetime.specs.Again.{IsSpared, OtherWordsLeaveIt}
 use Rattle.df_lifetime.specs.Life.{OtherWord}
 use Rattle.df_lifetime.specs.Life.OtherWord.{ToFormat, ToUpgrade}
 use Rattle.df_lifetime.proofs.Agains.{IsSound, every_life_is_lived, may_reopen}
-use Rattle.df_lifetime.proofs.Files.{one_told}
 use Rattle.df_lifetime.proofs.Lives.{format_spares}
 use Rattle.df_lifetime.proofs.Orders.{now_left}
 
@@ -77,8 +77,8 @@ module _ (file : DataFile) (older : List Log) (b t : Told) (is : IsSound file ol
   spares : (n : Told) → OtherWord t n → t ≡ n
   spares n (ToFormat layout cluster status word) = format_spares layout cluster t n word.old word.new status formatted word.formats
   spares n (ToUpgrade status word) = elim (word.runs t word.from may.whole) [
-    | inl nothing ↦ one_told word.new.told t n (nothing.without.same ∙ word.from) word.to
-    | inr (inl refuses) ↦ one_told word.new.told t n (refuses.same ∙ word.from) word.to
+    | inl nothing ↦ one_some word.new.told t n (nothing.without.same ∙ word.from) word.to
+    | inr (inl refuses) ↦ one_some word.new.told t n (refuses.same ∙ word.from) word.to
     | inr (inr own) ↦ absurd (not_first own.layout own.shown)
   ]
 

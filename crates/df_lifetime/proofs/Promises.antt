@@ -1,6 +1,6 @@
 -- What is staged after an answer is what the answers so far say of it.
-use Rattle.std.proofs.Common.{◌≡◌, ℕ, ◌+◌, ◌-◌, ◌≤◌, true, false, nat_lt, List, [], ◌∷◌, ◌++◌, length, Option, Some, None, refl, sym, ◌∙◌, ap, arith, length-drop}
-use Rattle.std.proofs.lemmas.Bool.Decides.{nat_tests}
+use Rattle.std.proofs.Common.{◌≡◌, ℕ, ◌+◌, ◌-◌, ◌≤◌, List, [], ◌∷◌, ◌++◌, length, Option, Some, None, refl, sym, ◌∙◌, ap, arith, length-drop}
+use Rattle.df_base.proofs.Laws.{no_elements}
 use Rattle.df_theory.specs.Shape.{Shape}
 use Rattle.df_theory.specs.Units.{Message, Parts}
 use Rattle.df_theory.specs.View.{head}
@@ -22,10 +22,6 @@ use Rattle.df_lifetime.specs.There.{Promised, promised_by, promised_from, promis
 promised_more : (op n : ℕ) (rs : List Request) (r : Request) → op + length rs ≡ n → promised_from op (rs ++ r ∷ []) ≡ promised_from op rs ++ record { op = n; client = r.client; request = r.request; body = r.body } ∷ []
 promised_more op n [] r same = let here : op ≡ n = omega (arith, same) in ap (λ (k : ℕ). record { op = k; client = r.client; request = r.request; body = r.body } ∷ []) here
 promised_more op n (x ∷ rs) r same = ap (λ (l : List Promised). record { op = op; client = x.client; request = x.request; body = x.body } ∷ l) (promised_more (op + 1) n rs r (omega (arith, same)))
-
-none_staged : (rs : List Request) → nat_lt 0 (length rs) ≡ false → rs ≡ []
-none_staged [] none = refl
-none_staged (r ∷ rs) none = absurd (let some : nat_lt 0 (length (r ∷ rs)) ≡ true = grind (arith, nat_tests) in cc (some, none))
 
 -- from any head on where nothing is staged
 promised_none : (op n : ℕ) (rs : List Request) → rs ≡ [] → promised_from op rs ≡ promised_from n rs
@@ -70,7 +66,7 @@ module _ (sh : Shape) (spell : Parts → List ℕ) (w : Work) (given : Given) (w
   promised_on (Append client request body) =
       let m = memory_of sh spell w in
       let p = prepare_of m (supplied_sum given) client request body in
-      append_promised (first_refusal (append_refusals m client request body)) w p (p.header.op, supplied_sum given) (λ none. none_staged w.staged (all_pass (append_refusals m client request body) none).1.1.1.1.1.1.1.1.1.0)
+      append_promised (first_refusal (append_refusals m client request body)) w p (p.header.op, supplied_sum given) (λ none. no_elements w.staged (all_pass (append_refusals m client request body) none).1.1.1.1.1.1.1.1.1.0)
   promised_on (Stage client request body) =
       let m = memory_of sh spell w in
       stage_promised (first_refusal (stage_refusals m client request body)) w client request (m.head + length w.staged + 1) body

@@ -39,13 +39,12 @@ use Rattle.df_workload.proofs.Laws.{asks_end}
 use Rattle.df_session.specs.Begun.{begun_work}
 use Rattle.df_session.specs.Found.{FoundFile}
 use Rattle.df_session.specs.Links.{command_in}
-use Rattle.df_session.proofs.Laws.{layout_there}
+use Rattle.df_session.proofs.Laws.{layout_there, agree_self}
 use Rattle.df_top.specs.Outside.{Outside}
 use Rattle.df_top.specs.Working.{WorksThrough}
 use Rattle.df_top.specs.Works.{workload_of, workload_with}
 use Rattle.df_top.specs.declared.status.Status.{Status}
 use Rattle.df_top.specs.declared.status.Status.TheVariants.{Done}
-use Rattle.df_top.proofs.Laws.{agree_self}
 use Rattle.df_lifetime.specs.Printed.{HasEnded, IsRun, OneRun, RunTextIsResult, run_text, workload_by}
 use Rattle.df_lifetime.proofs.OneRun.{Numbers, after_answer, after_answers, asks_none, by_end, first_numbers, last_numbers, numbers_in, same_run}
 

@@ -4,7 +4,7 @@ use Rattle.std.specs.Prelude.{length}
 use Rattle.df_base.specs.Image.{Image, IsImage}
 use Rattle.df_base.specs.Log.{Event, IsLeft, Log, Sync, now}
 use Rattle.df_base.specs.Moments.{EachMoment, Extends}
-use Rattle.df_base.proofs.Laws.{started}
+use Rattle.df_base.proofs.Laws.{started, one_some}
 use Rattle.df_disk.specs.Told.{Told, did}
 use Rattle.df_disk.specs.Adds.{after_all}
 use Rattle.df_layout.specs.declared.layout.Layout.{Layout}
@@ -33,7 +33,7 @@ use Rattle.df_lifetime.specs.Life.Life.{Taken}
 use Rattle.df_lifetime.specs.Upgraded.{DoneIsUpgraded, IsOld, IsUpgraded, StoppedIsUpgraded, UpgradedBegins}
 use Rattle.df_lifetime.proofs.Along.{after_along, moment_along}
 use Rattle.df_lifetime.proofs.Reborn.{begins_history}
-use Rattle.df_lifetime.proofs.Files.{one_file, one_told}
+use Rattle.df_lifetime.proofs.Files.{one_file}
 use Rattle.df_lifetime.proofs.Openings.{distinct_left}
 
 -- ---- blocks
@@ -133,7 +133,7 @@ at_file file view t s one old = subst (λ (f : DataFile). IsOld f view t.shown) 
 module _ (file : DataFile) (view : View) (t n : Told) (status : Status) (old : IsOld file view t.shown) (word : UpgradeWord t n status) where
   -- the disk told no more than that it was synced, and these events
   told_is : (es : List Event) → word.new.told ≡ after_all es (Some (did Sync t)) → told_after es (did Sync t) ≡ n
-  told_is es told = one_told word.new.told (told_after es (did Sync t)) n (told ∙ added_is_told es (did Sync t)) word.to
+  told_is es told = one_some word.new.told (told_after es (did Sync t)) n (told ∙ added_is_told es (did Sync t)) word.to
 
   comes_done : (layout : Layout) → status ≡ Done → ComesToUpgrade layout t word.old word.new status → (sequence : ℕ) × UpgradesAll layout t sequence word.new.told
   comes_done layout done (inl refuses) = absurd (elim refuses.refusal.prints [ inl printed ↦ (let no = sym done ∙ printed.0 in cc) | inr part ↦ (let no = sym done ∙ part.0 in cc) ])
@@ -196,10 +196,10 @@ module _ (file : DataFile) (view : View) (t n : Told) (status : Status) (old : I
         (subst (λ (f : DataFile). NoChanceOf (format f) log image) (sym one) chance)))
 
     comes_kept : (layout : Layout) → ComesToUpgrade layout t word.old word.new status → IsKeptBy m.log
-    comes_kept layout (inl refuses) = by_barrier (one_told word.new.told (did Sync t) n refuses.barrier word.to)
+    comes_kept layout (inl refuses) = by_barrier (one_some word.new.told (did Sync t) n refuses.barrier word.to)
     comes_kept layout (inr (inl fails)) = elim fails.disk [
-      | inl same ↦ absurd (too_long (one_told word.new.told n t word.to same))
-      | inr (inl synced) ↦ by_barrier (one_told word.new.told (did Sync t) n synced word.to)
+      | inl same ↦ absurd (too_long (one_some word.new.told n t word.to same))
+      | inr (inl synced) ↦ by_barrier (one_some word.new.told (did Sync t) n synced word.to)
       | inr (inr part) ↦ by_upgrade layout part.found part.writes.events part.opened (told_is part.writes.events part.writes.told) (λ own. part.anew view own.whole own.found own.distinct)
     ]
     comes_kept layout (inr (inr upgrades)) =
@@ -208,8 +208,8 @@ module _ (file : DataFile) (view : View) (t n : Told) (status : Status) (old : I
 
     pub stopped_kept : IsKeptBy m.log
     stopped_kept = elim (word.runs t word.from old.whole) [
-      | inl nothing ↦ absurd (too_long (one_told word.new.told n t word.to (nothing.without.same ∙ word.from)))
-      | inr (inl refuses) ↦ absurd (too_long (one_told word.new.told n t word.to (refuses.same ∙ word.from)))
+      | inl nothing ↦ absurd (too_long (one_some word.new.told n t word.to (nothing.without.same ∙ word.from)))
+      | inr (inl refuses) ↦ absurd (too_long (one_some word.new.told n t word.to (refuses.same ∙ word.from)))
       | inr (inr own) ↦ comes_kept own.layout own.comes
     ]
 

@@ -7,3 +7,4 @@ pub use Rattle.df_lines.proofs.Decimals.{one_number}
 pub use Rattle.df_lines.proofs.Naming.{Begun, cut_name, one_name}
 pub use Rattle.df_lines.proofs.WordsBehind.{same_rest}
 pub use Rattle.df_lines.proofs.OneMeaning.{one_word, two_words}
+pub use Rattle.df_lines.proofs.Pieces.{unread_none}

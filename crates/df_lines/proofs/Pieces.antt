@@ -1,5 +1,5 @@
 -- What a buffer holds after bytes were taken from it, and after a read into it.
-use Rattle.std.proofs.Common.{◌≡◌, ℕ, ◌+◌, ◌-◌, ◌≤◌, List, ◌++◌, length, take, drop, refl, sym, ap, ◌∙◌, append_assoc, arith, length-take}
+use Rattle.std.proofs.Common.{◌≡◌, ℕ, ◌+◌, ◌-◌, ◌≤◌, List, ◌++◌, length, take, drop, refl, sym, ap, ◌∙◌, append_assoc, arith, length-take, []}
 use Rattle.std.specs.Prelude.{Option, None, Some}
 use Rattle.std.proofs.lemmas.List.{take-append-drop, take-take, drop-take, drop-drop}
 use Rattle.df_base.specs.Streams.{Gives}
@@ -23,3 +23,7 @@ read_on bytes buffer n k count (Some xs) None held sum gives = absurd gives
 read_on bytes buffer n k count (Some xs) (Some ys) held sum gives =
     let front : take k buffer ≡ bytes ++ take count (drop n buffer) = ap (λ (m : ℕ). take m buffer) sum ∙ take_sum n count buffer ∙ ap (λ (l : List ℕ). l ++ take count (drop n buffer)) held in
     ap (λ (l : List ℕ). Some (l ++ ys)) front ∙ ap Some (append_assoc bytes (take count (drop n buffer)) ys ∙ ap (λ (l : List ℕ). bytes ++ l) (sym gives.0))
+
+pub unread_none : (left : Option (List ℕ)) → unread [] left ≡ left
+unread_none None = refl
+unread_none (Some xs) = refl

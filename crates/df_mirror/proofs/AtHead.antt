@@ -11,6 +11,7 @@ use Rattle.df_format.specs.declared.kind.Kind.TheVariants.{Reply}
 use Rattle.df_format.specs.declared.superblock.SuperFields.{SuperFields}
 use Rattle.df_format.specs.Spelling.{IsCheck, no_checksum}
 use Rattle.df_format.specs.SuperRules.{IsUsable}
+use Rattle.df_format.proofs.Laws.{no_check}
 use Rattle.df_journal.specs.Scan.{Scan}
 use Rattle.df_journal.specs.Shows.{ShowsHeader, ShowsPrepare}
 use Rattle.df_sessions.specs.declared.session.Session.{Session}
@@ -19,8 +20,9 @@ use Rattle.df_sessions.specs.Table.{Table}
 use Rattle.df_theory.specs.Sessions.{sessions_after}
 use Rattle.df_theory.specs.Units.{AnyUnit, BlockPlace, HeaderPlace, Message, Parts, Place, PreparePlace, PrepareUnit, ReplyPlace, ReplyUnit, Units}
 use Rattle.df_theory.specs.Units as units
+use Rattle.df_theory.proofs.Laws.{known_one}
 use Rattle.df_units.specs.Meaning.{number_of}
-use Rattle.df_units.proofs.Laws.{no_number, one_number, zeros_check}
+use Rattle.df_units.proofs.Laws.{no_number, one_number}
 use Rattle.df_opening.specs.Below.{shape}
 use Rattle.df_mirror.specs.declared.ending.Ending.{Ending}
 use Rattle.df_mirror.specs.declared.superblock.Superblock.{Superblock}
@@ -29,7 +31,6 @@ use Rattle.df_mirror.specs.Mends.{AreOfKind}
 use Rattle.df_mirror.specs.Outside.{Outside, Tell}
 use Rattle.df_mirror.specs.Walks.{HasHead, HasLater, HasNewer, Mended, MendsRecorded, ShowsReplies, content_of, units_of}
 use Rattle.df_mirror.proofs.Frames.{other_place}
-use Rattle.df_mirror.proofs.Logs.{same_known}
 use Rattle.df_mirror.proofs.Named.{ring_there}
 use Rattle.df_mirror.proofs.Ones.{one_trailer, trailer_there}
 use Rattle.df_mirror.proofs.Recorded.{recorded_sum}
@@ -47,7 +48,7 @@ front_get (suc n) (x ∷ ss) (suc k) s at = front_get n ss k s at
 one_head : (b : Superblock) (image : Units) (ss others : List units.Session) → HasSessions (shape b.file) image (content_of b) ss → HasSessions (shape b.file) image (content_of b) others → ss ≡ others
 one_head b image ss others one two =
     let parts = one_trailer (shape b.file) image (content_of b) one.says two.says in
-    let named = same_known b.file.layout.slots image (b.content.op + 1) (content_of b).pin_checksum one.named two.named one.known two.known (omega (arith, one.count, two.count)) in
+    let named = known_one b.file.layout.slots image (b.content.op + 1) (content_of b).pin_checksum one.named two.named one.known two.known (omega (arith, one.count, two.count)) in
     one.sessions_are ∙ ap (λ (p : Parts). sessions_after p.sessions one.named) parts ∙ ap (λ (l : List Message). sessions_after two.says.parts.sessions l) named ∙ sym two.sessions_are
 
 -- ---- where replies alone differ
@@ -118,7 +119,7 @@ module _ (b : Superblock) (image : Units) (slots : Scan) (table : Table) (k : �
       session = session_of s;
       at = session_there;
       sum_is = sym (recorded_sum b k check sum);
-      some = elim (cases_lt 0 (number_of check)) [ inl above ↦ above | inr none ↦ absurd (some (one_number check no_checksum fits zeros_check (omega (arith, none, no_number)))) ];
+      some = elim (cases_lt 0 (number_of check)) [ inl above ↦ above | inr none ↦ absurd (some (one_number check no_checksum fits no_check (omega (arith, none, no_number)))) ];
       no_reply = λ r shown boot. elim (cases_lt (content_of b).replies r.header.op) [ inl above ↦ absurd (no_newer (r, shown, boot, above)) | inr within ↦ within ];
       no_prepare = λ n p shown boot above client. no_later (n, p, shown, record { boot = boot; above = above; of_client = client });
     }

@@ -1,5 +1,5 @@
 -- What was read of a place is what the disk shows there, and a unit that is wanted is the theory's.
-use Rattle.std.proofs.Common.{◌≡◌, ◌≢◌, ℕ, ◌/◌, ◌*◌, List, length, Option, Some, None, refl, sym, ◌∙◌, ap, subst, arith}
+use Rattle.std.proofs.Common.{◌≡◌, ℕ, ◌/◌, ◌*◌, List, length, Option, Some, None, refl, sym, ◌∙◌, ap, subst, arith}
 use Rattle.std.specs.Prelude.{Result, Ok, Err, IfOk, IfErr}
 use Rattle.df_base.specs.Image.{Image, IsImage, bytes_at}
 use Rattle.df_disk.specs.Told.{Shows, Told}
@@ -7,12 +7,12 @@ use Rattle.df_layout.specs.declared.damage.Class.{Class}
 use Rattle.df_layout.specs.declared.layout.Layout.{Layout}
 use Rattle.df_layout.specs.declared.places.Place.{Place as FilePlace}
 use Rattle.df_layout.specs.declared.places.Zone.{Zone}
-use Rattle.df_layout.specs.declared.places.Zone.TheVariants.{Superblock, WalHeaders, WalPrepares, ClientReplies, Grid}
+use Rattle.df_layout.specs.declared.places.Zone.TheVariants.{Superblock}
 use Rattle.df_layout.specs.Spans.{place_sectors, span_of}
 use Rattle.df_format.specs.declared.kind.Kind.{Kind}
 use Rattle.df_format.specs.declared.kind.Kind.TheVariants.{Block, Prepare, Reply, Reserved, Trailer}
 use Rattle.df_format.specs.Message.{Message}
-use Rattle.df_format.specs.Shown.{bytes_of, class_of, part_in, unit_in}
+use Rattle.df_format.specs.Shown.{bytes_of, class_of, unit_in}
 use Rattle.df_format.specs.Shown
 use Rattle.df_format.specs.Wanted as words
 use Rattle.df_format.proofs.Laws.{shown_is_unit}
@@ -28,19 +28,13 @@ use Rattle.df_units.specs.Bytes.{message_unit}
 use Rattle.df_units.specs.Meaning.{number_of, place_of, unit_of}
 use Rattle.df_units.specs.Wanted.{IsOfKind, checksum_of, class_at}
 use Rattle.df_units.proofs.Laws.{none_wanted, units_told}
+use Rattle.df_places.proofs.Laws.{all_own}
 use Rattle.df_opening.specs.Below.{DataFile}
 use Rattle.df_mirror.specs.Known.{IsShownAs}
 use Rattle.df_mirror.specs.Mends.{units_in}
 use Rattle.df_mirror.specs.Taking.{IsFor, LacksIt, Loads, ShowsIt, ShowsUnit}
 
 -- ---- bytes
-
-whole_part : (zone : Zone) (index : ℕ) (bytes : List ℕ) → zone ≢ WalHeaders → bytes ≡ part_in zone index bytes
-whole_part Grid index bytes alone = refl
-whole_part ClientReplies index bytes alone = refl
-whole_part WalPrepares index bytes alone = refl
-whole_part Superblock index bytes alone = refl
-whole_part WalHeaders index bytes alone = absurd (alone refl)
 
 sectors_are : (layout : Layout) (place : FilePlace) (zone : Zone) (n : ℕ) → place.zone ≡ zone → n ≡ 4096 * place_sectors layout zone → n / 4096 ≡ (span_of layout place).count
 unfolding span_of
@@ -52,7 +46,7 @@ module _ (kind : Kind) (zone : Zone) (identity : Identity) (bytes : List ℕ) (s
   of_place t shows =
       let span = span_of identity.layout identity.place in
       shows ∙ ap (λ (n : ℕ). bytes_at t.shown span.first n) (sectors_are identity.layout identity.place zone (length bytes) in_zone fills)
-      ∙ whole_part identity.place.zone identity.place.index (bytes_at t.shown span.first span.count) (λ ring. is_no_ring kind zone stands (sym in_zone ∙ ring))
+      ∙ all_own identity.place.zone identity.place.index (bytes_at t.shown span.first span.count) (λ ring. is_no_ring kind zone stands (sym in_zone ∙ ring))
 
   unit_shown : (t : Told) → Shows (Some t) (span_of identity.layout identity.place).first bytes → unit_in identity.layout identity.cluster identity.place bytes ≡ shown_at identity t.shown
   unfolding Shown.unit_at

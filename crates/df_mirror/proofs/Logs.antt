@@ -21,6 +21,7 @@ use Rattle.df_theory.specs.Opens.{AreKnown, named_by}
 use Rattle.df_theory.specs.Sessions.{sessions_after}
 use Rattle.df_theory.specs.Units as model
 use Rattle.df_theory.specs.Units.{BlockPlace, Message, Parts, Place, PreparePlace, PrepareUnit, ReplyPlace, Units}
+use Rattle.df_theory.proofs.Laws.{known_one}
 use Rattle.df_opening.specs.Below.{shape}
 use Rattle.df_mirror.specs.declared.ending.Ending.{Ending}
 use Rattle.df_mirror.specs.declared.ending.Ending.TheVariants.{First, Neither, Second, Sink, Unopened}
@@ -72,23 +73,13 @@ refused_here b rank m o old e Shows tell reads = record { answers = by e reads; 
 
 -- ---- the prepares that are named
 
-pub same_known : (n : ℕ) (image : Units) (op sum : ℕ) (ps qs : List Message) → AreKnown n image op sum ps → AreKnown n image op sum qs → length ps ≡ length qs → ps ≡ qs
-same_known n image op sum [] [] one two size = refl
-same_known n image op sum [] (q ∷ qs) one two size = absurd (omega (arith, size))
-same_known n image op sum (p ∷ ps) [] one two size = absurd (omega (arith, size))
-same_known n image op sum (p ∷ ps) (q ∷ qs) one two size =
-    let both : Some (PrepareUnit p) ≡ Some (PrepareUnit q) = sym one.0 ∙ two.0 in
-    let head : p ≡ q = cc in
-    let rest : ps ≡ qs = same_known n image (op + 1) sum ps qs one.2 two.2 (omega (arith, size)) in
-    λ i. head i ∷ rest i
-
 named_shown : (n : ℕ) (image : Units) (sum pin op a : ℕ) (ps later : List Message) → AreKnown n image (op + 1) sum ps → op + length ps ≡ pin → op < a → AreKnown n image (a + 1) sum later → a + length later ≡ pin
     → (p : Message) × (image (PreparePlace (a % n)) ≡ Some (PrepareUnit p)) × (p.header.checksum ≡ named_by sum later)
 named_shown n image sum pin op a [] later known count above also size = absurd (omega (arith, count, above, size))
 named_shown n image sum pin op a (p ∷ ps) later known count above also size = elim (cases_eq a (op + 1)) [
   | inl here ↦
       let from : AreKnown n image (op + 1 + 1) sum later = subst (λ (x : ℕ). AreKnown n image (x + 1) sum later) here also in
-      let rest : ps ≡ later = same_known n image (op + 1 + 1) sum ps later known.2 from (omega (arith, count, size, here)) in
+      let rest : ps ≡ later = known_one n image (op + 1 + 1) sum ps later known.2 from (omega (arith, count, size, here)) in
       (p, ap (λ (x : ℕ). image (PreparePlace (x % n))) here ∙ known.0, known.1 ∙ ap (λ (l : List Message). named_by sum l) rest)
   | inr other ↦ named_shown n image sum pin (op + 1) a ps later known.2 (omega (arith, count)) (omega (arith, above, other)) also size
 ]
@@ -104,7 +95,7 @@ prepares_shown b image named place sum known = by place known
         record { unit = PrepareUnit there.0; shown = ap (λ (x : ℕ). image (PreparePlace x)) of.slot_is ∙ there.1; of_kind = tt; sum_is = there.2 ∙ sym of.sum_is }
     by place is = absurd is
 
-known_there : (n : ℕ) (image other : Units) (op sum : ℕ) (ps : List Message) → ((s : ℕ) → other (PreparePlace s) ≡ image (PreparePlace s)) → AreKnown n image op sum ps → AreKnown n other op sum ps
+pub known_there : (n : ℕ) (image other : Units) (op sum : ℕ) (ps : List Message) → ((s : ℕ) → other (PreparePlace s) ≡ image (PreparePlace s)) → AreKnown n image op sum ps → AreKnown n other op sum ps
 known_there n image other op sum [] same known = tt
 known_there n image other op sum (p ∷ ps) same known = (same (op % n) ∙ known.0, known.1, known_there n image other (op + 1) sum ps same known.2)
 

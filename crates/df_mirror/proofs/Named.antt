@@ -12,7 +12,7 @@ use Rattle.df_buffers.specs.declared.identity.Identity.{Identity}
 use Rattle.df_buffers.specs.Sounds.{Holding}
 use Rattle.df_theory.specs.Opens.{AreKnown, named_by}
 use Rattle.df_theory.specs.Units.{BlockPlace, Message, Place, PreparePlace, PrepareUnit, ReplyPlace, Units}
-use Rattle.df_theory.proofs.Laws.{mod_apart}
+use Rattle.df_theory.proofs.Laws.{mod_apart, known_one}
 use Rattle.df_units.specs.Meaning.{message_of, number_of}
 use Rattle.df_units.specs.Wanted.{checksum_of}
 use Rattle.df_opening.specs.Below.{shape}
@@ -24,7 +24,6 @@ use Rattle.df_mirror.specs.Outside.{Outside, Tell}
 use Rattle.df_mirror.specs.Taking.{HoldsShown, IsFor, MendsUnit, count_in}
 use Rattle.df_mirror.specs.Walks.{Mended, NamesFrom, ShowsNamed, content_of, units_of}
 use Rattle.df_mirror.proofs.Frames.{other_place}
-use Rattle.df_mirror.proofs.Logs.{same_known}
 use Rattle.df_mirror.proofs.Turns.{MendsDue, due_mended, of_one}
 
 -- known prepares are known in an image whose ring shows them, too
@@ -85,7 +84,7 @@ module _ (b : Superblock) where
             let high : known.op ≤ (content_of b).pin = omega (arith, known.count) in
             let one : known.op ≡ op = one_slot b.file.layout.slots b.content.op known.op op some known.above (omega (arith, high, within usable)) above (omega (arith, up_to_pin, within usable)) (sym known.slot_is ∙ slot) in
             let there : AreKnown b.file.layout.slots (units_of b t.shown) (op + 1) (content_of b).pin_checksum known.later = subst (λ (o : ℕ). AreKnown b.file.layout.slots (units_of b t.shown) (o + 1) (content_of b).pin_checksum known.later) one known.known in
-            let later : known.later ≡ from.later = same_known b.file.layout.slots (units_of b t.shown) (op + 1) (content_of b).pin_checksum known.later from.later there from.known (omega (arith, known.count, from.count, one)) in
+            let later : known.later ≡ from.later = known_one b.file.layout.slots (units_of b t.shown) (op + 1) (content_of b).pin_checksum known.later from.later there from.known (omega (arith, known.count, from.count, one)) in
             let sums : k ≡ sum = known.sum_is ∙ ap (λ (l : List Message). named_by (content_of b).pin_checksum l) later ∙ sym from.sum_is in
             lacks (subst (λ (n : ℕ). IsShownAs (units_of b t.shown) Prepare (PreparePlace (op % b.file.layout.slots)) n) sums (subst (λ (p : Place). IsShownAs (units_of b t.shown) Prepare p k) same shown))
         at_kind Trailer (BlockPlace a) k known shown same = cc

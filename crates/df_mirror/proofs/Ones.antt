@@ -1,17 +1,16 @@
 -- An image shows one trailer, and each block that is wanted of it is one of its chain.
-use Rattle.std.proofs.Common.{◌≡◌, ℕ, ◌-◌, ◌<◌, List, [], ◌∷◌, length, Some, refl, sym, ◌∙◌, ap, subst, arith, inl, inr}
+use Rattle.std.proofs.Common.{◌≡◌, ℕ, ◌-◌, ◌<◌, List, [], ◌∷◌, length, Some, refl, sym, ◌∙◌, subst, arith, inl, inr}
 use Rattle.df_theory.specs.Opens.{Arrives, ReadsTo}
 use Rattle.df_theory.specs.Shape.{Shape}
 use Rattle.df_theory.specs.Trailer.{InChain, Links, Says}
-use Rattle.df_theory.specs.Units.{Block, BlockPlace, BlockUnit, Content, Parts, Units}
+use Rattle.df_theory.specs.Units.{Block, BlockPlace, BlockUnit, Content, Units}
+use Rattle.df_theory.proofs.Laws.{same_says}
 use Rattle.df_model.proofs.Laws.{count_le}
+use Rattle.df_checkpoint.proofs.Laws.{one_block}
 use Rattle.df_mirror.specs.Known.{ShowsTrailer}
 
 abbrev Shown : Units → List (ℕ × Block) → Type 0
 Shown image xs = (a : ℕ) (b : Block) → InChain a b xs → image (BlockPlace a) ≡ Some (BlockUnit b)
-
-same_block : (image : Units) (a e : ℕ) (x y : Block) → a ≡ e → image (BlockPlace a) ≡ Some (BlockUnit x) → image (BlockPlace e) ≡ Some (BlockUnit y) → x ≡ y
-same_block image a e x y same one two = let both : Some (BlockUnit x) ≡ Some (BlockUnit y) = sym one ∙ ap (λ (n : ℕ). image (BlockPlace n)) same ∙ two in cc
 
 -- chains from one reference that an image shows are one
 one_chain : (image : Units) (room : ℕ) (c : Content) (xs ys : List (ℕ × Block)) (address sum : ℕ) → Links room c xs address sum → Links room c ys address sum → Shown image xs → Shown image ys → xs ≡ ys
@@ -20,26 +19,22 @@ one_chain image room c [] (y ∷ ys) address sum one two shown also = absurd (om
 one_chain image room c (x ∷ xs) [] address sum one two shown also = absurd (omega (arith, two, one.0))
 one_chain image room c (x ∷ xs) (y ∷ ys) address sum one two shown also =
     let place : x.0 ≡ y.0 = one.1 ∙ sym two.1 in
-    let block : x.1 ≡ y.1 = same_block image x.0 y.0 x.1 y.1 place (shown x.0 x.1 (inl (refl, refl))) (also y.0 y.1 (inl (refl, refl))) in
+    let block : x.1 ≡ y.1 = one_block image x.0 y.0 x.1 y.1 place (shown x.0 x.1 (inl (refl, refl))) (also y.0 y.1 (inl (refl, refl))) in
     let later : Links room c ys x.1.before x.1.before_checksum = subst (λ (b : Block). Links room c ys b.before b.before_checksum) (sym block) two.7 in
     let rest : xs ≡ ys = one_chain image room c xs ys x.1.before x.1.before_checksum one.7 later (λ a b at. shown a b (inr at)) (λ a b at. also a b (inr at)) in
     λ i. (place i, block i) ∷ rest i
 
-one_says : (sh : Shape) (op : ℕ) (xs : List (ℕ × Block)) (p q : Parts) → Says sh op xs p → Says sh op xs q → p ≡ q
-one_says sh op [] p q one two = one ∙ sym two
-one_says sh op (x ∷ xs) p q one two = let both : Some p ≡ Some q = sym one ∙ two in cc
-
 pub one_trailer : (sh : Shape) (image : Units) (c : Content) (one two : ShowsTrailer sh image c) → one.parts ≡ two.parts
 one_trailer sh image c one two =
     let chain = one_chain image (sh.layout.block_size - 256) c one.chain two.chain c.trailer c.trailer_checksum one.trailer.links two.trailer.links one.shown two.shown in
-    one_says sh c.op two.chain one.parts two.parts (subst (λ (l : List (ℕ × Block)). Says sh c.op l one.parts) chain one.trailer.says) two.trailer.says
+    same_says sh c.op two.chain one.parts two.parts (subst (λ (l : List (ℕ × Block)). Says sh c.op l one.parts) chain one.trailer.says) two.trailer.says
 
 -- a walk that is shorter than the chain wants a block of it
 wants : (image : Units) (room : ℕ) (c : Content) (xs ys : List (ℕ × Block)) (address sum a k : ℕ) → Links room c xs address sum → Shown image xs → Arrives image ys address sum a k → length ys < length xs → (b : Block) × InChain a b xs
 wants image room c [] ys address sum a k links shown arrives less = absurd (omega (arith, less))
 wants image room c (x ∷ xs) [] address sum a k links shown arrives less = (x.1, inl (arrives.0 ∙ sym links.1, refl))
 wants image room c (x ∷ xs) (y ∷ ys) address sum a k links shown arrives less =
-    let same : y.1 ≡ x.1 = same_block image address x.0 y.1 x.1 (sym links.1) arrives.3 (shown x.0 x.1 (inl (refl, refl))) in
+    let same : y.1 ≡ x.1 = one_block image address x.0 y.1 x.1 (sym links.1) arrives.3 (shown x.0 x.1 (inl (refl, refl))) in
     let rest = wants image room c xs ys x.1.before x.1.before_checksum a k links.7 (λ e b at. shown e b (inr at)) (subst (λ (b : Block). Arrives image ys b.before b.before_checksum a k) same arrives.5) (omega (arith, less)) in
     (rest.0, inr rest.1)
 

@@ -11,7 +11,7 @@ use Rattle.df_theory.specs.Chance.{InImages}
 use Rattle.df_theory.specs.Grown.{AllInHistory, Grows}
 use Rattle.df_theory.proofs.Laws.{made_reply, one_view, reply_here}
 use Rattle.df_history.specs.Histories.{Among, GrowsOn, InHistoryPool, IsBegunAnew, IsFirstLog, IsLived, IsSettled, StaysBare, all_settled}
-use Rattle.df_history.proofs.Laws.{choice_stays_law}
+use Rattle.df_history.proofs.Laws.{choice_stays_law, images_either}
 use Rattle.df_mirror.proofs.OpenedPasts.{Rises, among_low, grows_rises, later_rises, newest_holds, newest_is, not_made, old_replies, old_start, pooled_settled, reply_agrees, rises_sound}
 
 -- a reply of the content's boot that it records was stored below the head that it records
@@ -69,14 +69,9 @@ ends_settled start ((Wrote touches stands after) ∷ es) = ends_settled start es
 ends_settled start (Synced ∷ es) = ends_more _ start (settled_of start es) (ends_settled start es)
 ends_settled start ((Stopped after) ∷ es) = ends_more after start (settled_of start es) (ends_settled start es)
 
-in_either_part : (some rest : List Units) (place : Place) (x : AnyUnit) → InImages (some ++ rest) place x → InImages some place x ⊎ InImages rest place x
-in_either_part [] rest place x at = inr at
-in_either_part (image ∷ some) rest place x (inl here) = inl (inl here)
-in_either_part (image ∷ some) rest place x (inr there) = elim (in_either_part some rest place x there) [ inl own ↦ inl (inr own) | inr older ↦ inr older ]
-
 settled_pooled : (logs : List UnitLog) (place : Place) (x : AnyUnit) → InImages (all_settled logs) place x → InHistoryPool logs place x
 settled_pooled [] place x at = at
-settled_pooled (log ∷ logs) place x at = elim (in_either_part (settled log) (all_settled logs) place x at) [ inl own ↦ inl (inl own) | inr older ↦ inr (settled_pooled logs place x older) ]
+settled_pooled (log ∷ logs) place x at = elim (images_either (settled log) (all_settled logs) place x at) [ inl own ↦ inl (inl own) | inr older ↦ inr (settled_pooled logs place x older) ]
 
 pub same_reply : (r q : Message) → ReplyUnit r ≡ ReplyUnit q → q ≡ r
 same_reply r q both = (let two : ReplyUnit r ≡ ReplyUnit q = both in cc)
@@ -152,7 +147,7 @@ module _ (sh : Shape) (log last : UnitLog) (logs : List UnitLog) (begun : IsBegu
       let elder : WasThere k r → IsCounted v.checkpoint.content r =
       λ was. old_step u v (boot_of begun.view) goes.next from.0 (λ boot. (stays.0 u v rises.0 holds boot).content.sequence) r (old_boot k r was) (later_counted (before ∷ images) u grows stays.1 ends k r (inr was)) in
       let settled_before : InImages ((before ∷ images) ++ all_settled (last ∷ logs)) (ReplyPlace k) (ReplyUnit r) → IsCounted v.checkpoint.content r =
-      λ old. elim (in_either_part (before ∷ images) (all_settled (last ∷ logs)) (ReplyPlace k) (ReplyUnit r) old) [ inl there ↦ older there | inr was ↦ elder (settled_pooled (last ∷ logs) (ReplyPlace k) (ReplyUnit r) was) ] in
+      λ old. elim (images_either (before ∷ images) (all_settled (last ∷ logs)) (ReplyPlace k) (ReplyUnit r) old) [ inl there ↦ older there | inr was ↦ elder (settled_pooled (last ∷ logs) (ReplyPlace k) (ReplyUnit r) was) ] in
       elim at [
         | inr was ↦ elder was
         | inl (inr there) ↦ older there

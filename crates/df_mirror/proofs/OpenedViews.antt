@@ -1,5 +1,5 @@
 -- An image that shows each known unit holds the view that was left, where what else it shows was left so or is of what is recorded.
-use Rattle.std.proofs.Common.{◌≡◌, ◌⊎◌, inl, inr, ℕ, ◌+◌, ◌-◌, ◌%◌, ◌<◌, ◌≤◌, List, [], ◌∷◌, slice_index, Some, refl, sym, ◌∙◌, ap, subst, arith}
+use Rattle.std.proofs.Common.{◌≡◌, ◌⊎◌, inl, inr, ℕ, ◌+◌, ◌-◌, ◌%◌, ◌<◌, ◌≤◌, List, ◌∷◌, slice_index, Some, refl, sym, ◌∙◌, ap, subst, arith}
 use Rattle.std.proofs.lemmas.Bool.{cases_lt}
 use Rattle.df_format.specs.declared.kind.Kind.TheVariants.{Reply as AsReply}
 use Rattle.df_theory.specs.Units.{AnyUnit, BlockPlace, BlockUnit, Content, CopyPlace, HeaderPlace, Message, Place, PreparePlace, PrepareUnit, ReplyPlace, ReplyUnit, Units}
@@ -11,15 +11,15 @@ use Rattle.df_theory.specs.Holds.{Holds}
 use Rattle.df_theory.specs.UnitLog.{UnitLog, now, settled}
 use Rattle.df_theory.specs.Chance.{Distinct, InImages, InPool}
 use Rattle.df_theory.specs.Found.{AreOfPlaces}
-use Rattle.df_theory.specs.Opens.{AreKnown}
 use Rattle.df_theory.proofs.Laws.{pool_pools, short_same}
 use Rattle.df_units.specs.Wanted.{checksum_of}
-use Rattle.df_history.specs.Histories.{InHistoryPool, InHistoryPools, IsLived, MayStart}
-use Rattle.df_history.proofs.Laws.{choice_stays_law}
+use Rattle.df_history.specs.Histories.{IsLived, MayStart}
+use Rattle.df_history.proofs.Laws.{choice_stays_law, history_pools}
 use Rattle.df_mirror.specs.Known.{AllShown, IsRecorded, ShowsTrailer}
 use Rattle.df_mirror.proofs.OpenedKnown.{chain_shown, front_shown, reply_of}
 use Rattle.df_mirror.proofs.OpenedMarks.{agrees_as, all_counted, same_reply}
 use Rattle.df_mirror.proofs.OpenedPasts.{Rises, newest_rises, old_replies, pooled_settled, reply_low}
+use Rattle.df_mirror.proofs.Logs.{known_there}
 
 -- ---- what is shown of what was left
 
@@ -49,16 +49,6 @@ abbrev pub ShowsNoNewer : (was image : Units) → View → Type 0
 ShowsNoNewer was image v = (k : ℕ) (r : Message) → image (ReplyPlace k) ≡ Some (ReplyUnit r) → r.header.boot ≡ boot_of v → v.checkpoint.content.replies < r.header.op → was (ReplyPlace k) ≡ Some (ReplyUnit r)
 
 -- ---- pools
-
-history_pools : (logs : List UnitLog) (place : Place) (x : AnyUnit) → InHistoryPool logs place x → InHistoryPools logs place x
-history_pools [] place x pool = pool
-history_pools (log ∷ logs) place x (inl own) = inl (pool_pools log.start log.events place x own)
-history_pools (log ∷ logs) place x (inr older) = inr (history_pools logs place x older)
-
--- what is shown on both rings is what was
-same_known : (n : ℕ) (was image : Units) (op sum : ℕ) (ps : List Message) → ((s : ℕ) → image (PreparePlace s) ≡ was (PreparePlace s)) → AreKnown n was op sum ps → AreKnown n image op sum ps
-same_known n was image op sum [] same known = tt
-same_known n was image op sum (p ∷ ps) same known = (same (op % n) ∙ known.0, known.1, same_known n was image (op + 1) sum ps same known.2)
 
 module _ (sh : Shape) (second : sh.version ≡ 2) (log : UnitLog) (logs : List UnitLog) (v : View) (image : Units) (lived : IsLived sh (log ∷ logs)) (may : MayStart log logs image) (holds : Holds sh (now log) v)
     (places : AreOfPlaces sh image) (chosen : IsChosen image v.checkpoint.content) (all : AllShown sh image v.checkpoint.content) (left : ShowsLeft sh (now log) image v.checkpoint.content)
@@ -147,7 +137,7 @@ module _ (sh : Shape) (second : sh.version ≡ 2) (log : UnitLog) (logs : List U
     has = record {
       says = record { chain = is.has.says.chain; parts = is.has.says.parts; trailer = is.has.says.trailer; shown = chain_shown sh was image c places all one is.has.says };
       named = is.has.named;
-      known = same_known sh.layout.slots was image (c.op + 1) c.pin_checksum is.has.named prepares_same is.has.known;
+      known = known_there sh.layout.slots was image (c.op + 1) c.pin_checksum is.has.named prepares_same is.has.known;
       count = is.has.count;
       sessions_are = is.has.sessions_are;
     };

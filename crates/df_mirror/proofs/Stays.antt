@@ -9,11 +9,11 @@ use Rattle.df_disk.specs.Told.{IsHonest, Told, did}
 use Rattle.df_disk.proofs.Laws.{honest_did}
 use Rattle.df_format.specs.declared.kind.Kind.{Kind}
 use Rattle.df_format.specs.declared.kind.Kind.TheVariants.{Block as AsBlock, Prepare, Reply, Reserved, Trailer}
-use Rattle.df_theory.specs.Opens.{AreKnown, AreLinks, Arrives, IsLink, ReadsTo}
+use Rattle.df_theory.specs.Opens.{AreKnown, AreLinks, Arrives, ReadsTo}
 use Rattle.df_theory.specs.Shape.{Shape, slots}
 use Rattle.df_theory.specs.Trailer.{InChain, IsCount, Links}
 use Rattle.df_theory.specs.Units.{AnyUnit, Block, BlockPlace, BlockUnit, Content, CopyPlace, HeaderPlace, Message, Place, PreparePlace, PrepareUnit, ReplyPlace, Units, is_some, or_else}
-use Rattle.df_theory.proofs.Laws.{arrives_more, links_more}
+use Rattle.df_theory.proofs.Laws.{arrives_more, links_more, link_of}
 use Rattle.df_units.specs.Bytes.{first_at}
 use Rattle.df_units.specs.Wanted.{checksum_of}
 use Rattle.df_units.proofs.Laws.{is_format}
@@ -29,10 +29,6 @@ use Rattle.df_mirror.proofs.OpenedPlaces.{known_reply}
 use Rattle.df_mirror.proofs.Referenced.{shown_there}
 
 -- ---- each block of a chain is known
-
-link_of : (sh : Shape) (c : Content) (d : ℕ × Block) (ds : List (ℕ × Block)) (a k : ℕ) → Links (sh.layout.block_size - 256) c (d ∷ ds) a k → ((e : ℕ) (x : Block) → InChain e x ds → e ≤ sh.layout.blocks) → IsLink sh c (length ds) d.1
-link_of sh c d [] a k links inside = record { sequence = links.3; place = links.4; size = links.5; before = λ above. absurd (omega arith) }
-link_of sh c d (e ∷ ds) a k links inside = record { sequence = links.3; place = links.4; size = links.5; before = λ above. (links.7.0, omega (arith, inside e.0 e.1 (inl (refl, refl)), links.7.1)) }
 
 module _ (sh : Shape) (image : Units) (c : Content) (count : ℕ) (counts : IsCount (sh.layout.block_size - 256) c.trailer_size count) where
   -- it is wanted, and shown

@@ -1,14 +1,14 @@
 -- What is read of the trailer, in the theory's words.
-use Rattle.std.proofs.Common.{◌≡◌, ◌≢◌, inl, inr, ℕ, zero, suc, ◌-◌, ◌<◌, ◌≤◌, ◌==◌, ◌||◌, Bool, true, false, List, [], ◌∷◌, map, Option, Some, None, refl, sym, ◌∙◌, ap, subst, arith, eq-eqb, eqb-true}
-use Rattle.std.specs.Prelude.{◌^◌, min, Result, Ok, Err, slice_get}
+use Rattle.std.proofs.Common.{◌≡◌, ◌≢◌, inl, inr, ℕ, zero, ◌-◌, ◌<◌, ◌≤◌, List, [], Option, Some, None, refl, sym, ◌∙◌, ap, subst, arith}
+use Rattle.std.specs.Prelude.{◌^◌, min, Result, Ok, Err}
 use Rattle.df_base.specs.Fields.{AreBytes}
 use Rattle.df_base.specs.Image.{Image, IsImage}
+use Rattle.df_base.proofs.Laws.{some_number}
 use Rattle.df_disk.specs.Told.{Told}
 use Rattle.df_layout.specs.declared.fields.Field.TheVariants.{Pending}
 use Rattle.df_layout.specs.declared.layout.Layout.{Layout}
 use Rattle.df_format.specs.declared.kind.Kind.TheVariants.{Trailer}
 use Rattle.df_format.specs.SuperRules.{IsSuper}
-use Rattle.df_format.specs.declared.superblock.SuperFields.{SuperFields}
 use Rattle.df_model.specs.Blocks.{Blocks, addresses, entries, sum_at}
 use Rattle.df_model.specs.declared.errors.OpenError.TheVariants.{BadField, BootSpent, Damaged, DiskFault, LayoutDiffers, NoQuorum, NotFormatted, Version}
 use Rattle.df_model.proofs.Laws.{entry_at, entry_in}
@@ -20,9 +20,9 @@ use Rattle.df_theory.proofs.Laws.{text_bytes}
 use Rattle.df_units.specs.Meaning.{layout_of}
 use Rattle.df_units.proofs.Laws.{of_places}
 use Rattle.df_sessions.specs.declared.session.Session.{Session}
-use Rattle.df_sessions.specs.Requests.{session_of, sessions_of}
+use Rattle.df_sessions.specs.Requests.{sessions_of}
 use Rattle.df_trailer.specs.Reading.{HasRead}
-use Rattle.df_trailer.specs.Rooms.{AreParts, without_reply}
+use Rattle.df_trailer.specs.Rooms.{AreParts}
 use Rattle.df_trailer.specs.Text.{parse_of, parts_of}
 use Rattle.df_trailer.specs.declared.parts.Parts as rooms
 use Rattle.df_trailer.specs.declared.reader.Reader.{Reader}
@@ -31,11 +31,11 @@ use Rattle.df_grid.specs.Grid.{GridState}
 use Rattle.df_grid.specs.Reads.{shown_of}
 use Rattle.df_grid.specs.Table.{no_blocks}
 use Rattle.df_checkpoint.specs.Chain.{OfTold}
-use Rattle.df_checkpoint.specs.Reads.{ChainAnswer, IsAdopted, IsComplete}
-use Rattle.df_checkpoint.specs.Waiting.{IsPending, has_op}
+use Rattle.df_checkpoint.specs.Reads.{ChainAnswer, IsAdopted}
+use Rattle.df_checkpoint.specs.Waiting.{IsPending}
 use Rattle.df_checkpoint.specs.declared.fault.TrailerFault.{TrailerFault}
 use Rattle.df_checkpoint.specs.declared.fault.TrailerFault.TheVariants as trailer
-use Rattle.df_checkpoint.proofs.Laws.{its_text, some_chain}
+use Rattle.df_checkpoint.proofs.Laws.{its_text, some_chain, sessions_back, has_is, has_not}
 use Rattle.df_opening.specs.Below.{shape}
 use Rattle.df_mirror.specs.declared.ending.Ending.{Ending}
 use Rattle.df_mirror.specs.declared.ending.Ending.TheVariants.{First, Neither, Second, Sink, Unopened}
@@ -49,43 +49,10 @@ use Rattle.df_mirror.proofs.Counts.{reference}
 
 -- ---- sessions
 
-sessions_back : (ss : List model.Session) → sessions_of (map without_reply ss) ≡ ss
-sessions_back [] = refl
-sessions_back (s ∷ ss) = ap (λ (l : List model.Session). s ∷ l) (sessions_back ss)
-
--- an op of a session of the table is one of the list's
-op_there : (op : ℕ) (ss : List Session) → has_op op ss ≡ true → Has (sessions_of ss) op
-op_there op [] is = absurd (cc)
-op_there op (s ∷ ss) is = by (s.op == op) refl is (λ later. op_there op ss later)
-  where
-    by : (t : Bool) → (s.op == op) ≡ t → (t || has_op op ss) ≡ true → (has_op op ss ≡ true → Has (sessions_of ss) op) → Has (sessions_of (s ∷ ss)) op
-    by true test all rest = (0, session_of s, refl, eqb-true s.op op test)
-    by false test all rest = let there = rest all in (suc there.0, there.1, there.2, there.3)
-
-op_missing : (op : ℕ) (ss : List Session) → has_op op ss ≡ false → Has (sessions_of ss) op → ⊥
-op_missing op [] none (k, s, at, same) = let no : None ≡ Some s = at in cc
-op_missing op (t ∷ ss) none (k, s, at, same) = by k at (t.op == op) refl none (λ j there later. op_missing op ss later (j, s, there, same))
-  where
-    by : (k : ℕ) → slice_get (sessions_of (t ∷ ss)) k ≡ Some s → (b : Bool) → (t.op == op) ≡ b → (b || has_op op ss) ≡ false → ((j : ℕ) → slice_get (sessions_of ss) j ≡ Some s → has_op op ss ≡ false → ⊥) → ⊥
-    by k there true test all rest = cc
-    by zero there false test all rest =
-        let one : session_of t ≡ s = (let both : Some (session_of t) ≡ Some s = there in cc) in
-        let yes : (t.op == op) ≡ true = eq-eqb t.op op (ap (λ (x : model.Session). x.op) one ∙ same) in
-        cc
-    by (suc j) there false test all rest = rest j there all
-
-not_zero : (n : ℕ) → n ≢ 0 → 0 < n
-not_zero zero other = absurd (other refl)
-not_zero (suc n) other = omega arith
-
 -- ---- what the reader gives
 
 abbrev pub GivesParts : Reader → rooms.Parts → Type 0
 GivesParts reader parts = (layout : Layout) (op : ℕ) (text : List ℕ) → HasRead layout op reader text → AreParts (layout_of layout) parts (parts_of (layout_of layout) text)
-
--- a reader that has read a whole text gives this of it
-pub of_complete : (P : Layout → ℕ → Type 0) (g : GridState) (op : ℕ) (reader : Reader) (layout : Layout) → IsComplete g op reader → g.layout ≡ layout → ((l : Layout) (o : ℕ) (text : List ℕ) → HasRead l o reader text → P l o) → P layout op
-of_complete P g op reader layout complete same gives = subst (λ (l : Layout). P l op) same (gives g.layout op complete.text complete.has)
 
 module _ (b : Superblock) (usable : IsSuper b.content) (t : Told) (whole : IsImage t.shown) (g : GridState) (reader : Reader) (parts : rooms.Parts) (named : b.content.trailer_address ≢ 0)
     (adopted : IsAdopted (shape b.file) (shown_of b.file.layout b.file.cluster t.shown) (content_of b) g reader) (same : g.layout ≡ b.file.layout) (gives : GivesParts reader parts) where
@@ -100,7 +67,7 @@ module _ (b : Superblock) (usable : IsSuper b.content) (t : Told) (whole : IsIma
   inside a c is =
       let l = layout_of b.file.layout in
       let text = text_of adopted.chain in
-      let parsed = its_text (shape b.file) b.content.op adopted.chain adopted.parts (some_chain (b.file.layout.block_size - 256) (content_of b) adopted.chain (not_zero b.content.trailer_address named) adopted.trailer.links) adopted.trailer.says in
+      let parsed = its_text (shape b.file) b.content.op adopted.chain adopted.parts (some_chain (b.file.layout.block_size - 256) (content_of b) adopted.chain (some_number b.content.trailer_address named) adopted.trailer.links) adopted.trailer.says in
       let read = text_read l (min b.content.op (2 ^ 62)) text adopted.parts (omega arith) bytes parsed in
       (read.lawful.references a c is).0
 
@@ -156,10 +123,6 @@ told_answer b h g reader result told same answer t is =
 
 -- ---- the ops that wait
 
--- of copies of the sessions and of the superblock
-pub pending_of : (lent ss : List Session) (fields f : SuperFields) (o : Option ℕ) → lent ≡ ss → fields ≡ f → IsPending lent fields.replies fields.op o → IsPending ss f.replies f.op o
-pending_of lent ss fields f o same one pending = subst (λ (l : List Session). IsPending l f.replies f.op o) same (subst (λ (x : SuperFields). IsPending lent x.replies x.op o) one pending)
-
 pub text_untracked : (b : Superblock) (image : Image) (g : GridState) (ss : List Session) (n : ℕ) → b.content.trailer_address ≢ 0 → HasText b (units_of b image) g ss → IsPending ss b.content.replies b.content.op (Some n) → RefusesTrailer b.file image (content_of b) (BadField Pending n)
 text_untracked b image g ss n named text lacking = inl (inr (inr (inr (
   refl,
@@ -167,12 +130,12 @@ text_untracked b image g ss n named text lacking = inl (inr (inr (inr (
     chain = text.says.chain;
     whole = record { links = text.says.trailer.links; count = text.says.trailer.count; inside = text.says.trailer.inside; size = text.says.trailer.size; shows = text.says.shown };
     parts = text.says.parts;
-    says = its_text (shape b.file) b.content.op text.says.chain text.says.parts (some_chain (b.file.layout.block_size - 256) (content_of b) text.says.chain (not_zero b.content.trailer_address named) text.says.trailer.links) text.says.trailer.says;
+    says = its_text (shape b.file) b.content.op text.says.chain text.says.parts (some_chain (b.file.layout.block_size - 256) (content_of b) text.says.chain (some_number b.content.trailer_address named) text.says.trailer.links) text.says.trailer.says;
     spare = text.says.trailer.spare;
     above = lacking.above;
     reached = lacking.reached;
-    lacks = λ has. op_missing n ss lacking.lacks (subst (λ (l : List model.Session). Has l n) text.sessions_are has);
-    least = λ m above less. subst (λ (l : List model.Session). Has l m) (sym text.sessions_are) (op_there m ss (lacking.least m above less));
+    lacks = λ has. has_not n ss lacking.lacks (subst (λ (l : List model.Session). Has l n) text.sessions_are has);
+    least = λ m above less. subst (λ (l : List model.Session). Has l m) (sym text.sessions_are) (has_is m ss (lacking.least m above less));
   },
 ))))
 

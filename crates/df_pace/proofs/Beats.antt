@@ -40,7 +40,7 @@ no_scrubs : (scrub : ℕ) → (if nat_lt 0 scrub then Option.Some piece.Scrub el
 no_scrubs zero none = refl
 no_scrubs (suc n) none = absurd (let some = subst (λ (b : Bool). (if b then Option.Some piece.Scrub else None) ≡ None) (below_suc n) none in cc)
 
-none_min : (n : ℕ) → min 0 n ≡ 0
+pub none_min : (n : ℕ) → min 0 n ≡ 0
 none_min n = omega arith
 
 min_none : (n : ℕ) → min n 0 ≡ 0

@@ -1,5 +1,5 @@
 -- Beside a script where nothing is due nothing is done.
-use Rattle.std.proofs.Common.{◌≡◌, ℕ, ◌&&◌, Bool, true, false, not, min, List, [], ◌∷◌, replicate, ◌++◌, refl, ap, ◌∙◌, arith}
+use Rattle.std.proofs.Common.{◌≡◌, ℕ, ◌&&◌, Bool, true, false, not, List, [], ◌∷◌, replicate, ◌++◌, refl, ap, ◌∙◌}
 use Rattle.df_theory.specs.Shape.{Shape}
 use Rattle.df_model.specs.Commands.{Advance, Command}
 use Rattle.df_model.specs.Refusals.{is_running, steps_left}
@@ -8,6 +8,7 @@ use Rattle.df_script_model.specs.Script.{answer_text, printed}
 use Rattle.df_pace.specs.declared.pace.Pace.{Pace}
 use Rattle.df_pace.specs.Loop.{Stand, all_by_loop, answer_at, begin_due, begin_if, behind, by_script, course_at, paced, passed, steps_due}
 use Rattle.df_pace.specs.Laws.{AnsweredLaw, IdleLaw}
+use Rattle.df_pace.proofs.Beats.{none_min}
 
 abbrev idle : Pace
 idle = record { scrub = 0; every = 0; steps = 0 }
@@ -16,13 +17,10 @@ never : (b : Bool) → (not b && false) ≡ false
 never true = refl
 never false = refl
 
-none_left : (n : ℕ) → min 0 n ≡ 0
-none_left n = omega arith
-
 nothing_due : (sh : Shape) (codec : Codec) (x : Stand) → behind sh codec idle x ≡ x
 nothing_due sh codec x =
     ap (λ (begins : List Command). all_by_loop sh codec x (begins ++ (steps_due sh codec idle (all_by_loop sh codec x begins) ++ []))) no_begin
-    ∙ ap (λ (n : ℕ). all_by_loop sh codec x (replicate n Advance ++ [])) (none_left (steps_left (course_at sh codec x)))
+    ∙ ap (λ (n : ℕ). all_by_loop sh codec x (replicate n Advance ++ [])) (none_min (steps_left (course_at sh codec x)))
   where
     no_begin : begin_due sh codec idle x ≡ []
     no_begin = ap (λ (b : Bool). begin_if b x.work.view.checkpoint.parts.root) (never (is_running (course_at sh codec x)))

@@ -26,14 +26,14 @@ use Rattle.df_model.specs.declared.errors.ReplyError.{ReplyError}
 use Rattle.df_model.specs.declared.errors.ReplyError.TheVariants as reply
 use Rattle.df_model.specs.declared.reading.LookupError.{LookupError}
 use Rattle.df_model.specs.declared.reading.LookupError.TheVariants as lookup
-use Rattle.df_model.proofs.Laws.{length_in}
+use Rattle.df_model.proofs.Laws.{length_in, place_known}
 use Rattle.df_script_model.specs.Script.{answer_text}
 use Rattle.df_script_model.specs.Texts.{append_refusal, flush_refusal, line_of, lookup_refusal, message_text, numbered, reply_refusal, text_or}
 use Rattle.df_pace.specs.declared.pace.Pace.{Pace}
 use Rattle.df_pace.specs.Loop.{Stand, answer_at, answered, by_script, ended, passed}
 use Rattle.df_pace.specs.Laws.{EachOf, IsNotFull, IsOfLog, PacingLaw, bare_texts, is_full, is_ring_full, unnumbered}
 use Rattle.df_pace.proofs.Told.{Goes, IsOnItsWay, Told, behind_stays, plainly, read_of, told, told_at}
-use Rattle.df_pace.proofs.Replies.{asked_all, get_mapped, kept_read, place_known, put_session, puts_aside, read_kept, read_new, sessions_all, sessions_group, sessions_more}
+use Rattle.df_pace.proofs.Replies.{asked_all, get_mapped, kept_read, put_session, puts_aside, read_kept, read_new, sessions_all, sessions_group, sessions_more}
 
 -- ---- refusals
 

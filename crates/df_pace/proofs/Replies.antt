@@ -10,8 +10,6 @@ use Rattle.df_theory.proofs.Laws.{sessions-append}
 use Rattle.df_model.specs.Work.{Request}
 use Rattle.df_model.specs.Memory.{Memory, stored_sum}
 use Rattle.df_model.specs.Making.{first_of, group_of, prepare_in, prepares_in}
-use Rattle.df_model.specs.Refusals.{is_new, session_of_client}
-use Rattle.df_model.specs.After.{place_of_client}
 use Rattle.df_model.specs.Supply.{class_or, given_if, group_puts, is_sum, reply_given}
 use Rattle.df_pace.proofs.Told.{plain, plainly}
 
@@ -90,11 +88,3 @@ pub get_mapped : (f : ℕ → Option ℕ) (s n k j : ℕ) → k < n → j ≡ s 
 get_mapped f s zero k j less is = absurd (omega arith)
 get_mapped f s (suc n) zero j less is = let same : s ≡ j = omega arith in ap (λ (i : ℕ). Some (f i)) same
 get_mapped f s (suc n) (suc k) j less is = get_mapped f (s + 1) n k j (omega arith) (omega arith)
-
-pub place_known : (client : ℕ) (ss : List Session) → is_new (session_of_client client ss) ≡ false → place_of_client client ss < length ss
-place_known client [] known = absurd (cc)
-place_known client (s ∷ ss) known = go (s.client == client) known (place_known client ss)
-  where
-    go : (b : Bool) → is_new (if b then Some s else session_of_client client ss) ≡ false → (is_new (session_of_client client ss) ≡ false → place_of_client client ss < length ss) → (if b then 0 else suc (place_of_client client ss)) < suc (length ss)
-    go true known more = omega arith
-    go false known more = omega (arith, more known)

@@ -2,19 +2,13 @@
 use Rattle.std.proofs.Common.{◌≡◌, ℕ, zero, suc, ◌+◌, ◌-◌, ◌^◌, ◌<◌, ◌≤◌, ◌==◌, true, List, [], ◌∷◌, ◌++◌, length, get_or, take, drop, replicate, refl, sym, ap, ◌∙◌, arith, length-append, length-drop}
 use Rattle.std.specs.List.{list_all}
 use Rattle.std.proofs.lemmas.Bool.{and_parts, eqb-true}
-use Rattle.std.proofs.lemmas.List.{append-nil, take_at, drop_at, take-append-drop, take_rest, length-replicate, length-take-le, drop-drop, get_or_at}
+use Rattle.std.proofs.lemmas.List.{append-nil, drop_at, take-append-drop, take_rest, length-replicate, length-take-le, drop-drop, get_or_at}
 use Rattle.df_base.specs.Fields.{AreBytes, field_at, spelled}
 use Rattle.df_base.specs.Text.{total}
-use Rattle.df_base.proofs.Laws.{length-spelled, field_spelled, spelled_back}
+use Rattle.df_base.proofs.Laws.{length-spelled, field_spelled, spelled_back, same_front}
 use Rattle.df_rows.specs.Rows.{Entry, IsEntry, row_of, row_pieces}
 
 -- ---- two texts of fronts that are as long
-
-pub same_front : (a b x y : List ℕ) → length a ≡ length b → a ++ x ≡ b ++ y → (a ≡ b) × (x ≡ y)
-same_front a b x y size same = (
-  sym (take_at a x (length b) size) ∙ ap (λ (l : List ℕ). take (length b) l) same ∙ take_at b y (length b) refl,
-  sym (drop_at a x (length b) size) ∙ ap (λ (l : List ℕ). drop (length b) l) same ∙ drop_at b y (length b) refl,
-)
 
 pub same_entry : (e f : Entry) → e.0 ≡ f.0 → e.1 ≡ f.1 → e ≡ f
 same_entry e f keys values = λ i. (keys i, values i)

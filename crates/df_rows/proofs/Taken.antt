@@ -82,7 +82,7 @@ chunks_taken (c ∷ chunks) t new are fresh is = (
 
 -- ---- rows whose keys rise
 
-rise_tail : (e : Entry) (es : List Entry) → KeysRise (e ∷ es) → KeysRise es
+pub rise_tail : (e : Entry) (es : List Entry) → KeysRise (e ∷ es) → KeysRise es
 rise_tail e es rise i j lt inside = rise (suc i) (suc j) (omega arith) (omega arith)
 
 -- the first key is none of the others

@@ -1,5 +1,6 @@
 -- Lines one after the other: a map answers those of two lists as those of one.
-use Rattle.std.proofs.Common.{◌≡◌, ◌+◌, ℕ, List, [], ◌∷◌, ◌++◌, length, refl, sym, ◌∙◌, ap, arith, append_assoc, add_assoc, length-append}
+use Rattle.std.proofs.Common.{◌≡◌, ◌+◌, ℕ, List, [], ◌∷◌, ◌++◌, length, refl, sym, ◌∙◌, ap, append_assoc, add_assoc, length-append}
+use Rattle.df_base.proofs.Laws.{plus_zero}
 use Rattle.df_rows.specs.declared.command.Command.{Command}
 use Rattle.df_rows.specs.Grammar.{Said}
 use Rattle.df_rows.specs.Lines.{accepted, all_accepted, all_behind, behind, map_text, text_of}
@@ -23,12 +24,9 @@ pub behind_is : (t : Table) (says : List Said) → all_behind t says ≡ with_co
 behind_is t [] = refl
 behind_is t (said ∷ says) = behind_is (behind t said) says ∙ sym (commands_more (accepted t said) (all_accepted (behind t said) says) t)
 
-plus_none : (n : ℕ) → n ≡ n + 0
-plus_none n = omega arith
-
 -- the text of lines, and of others after them
 pub text_more : (t : Table) (n : ℕ) (says more : List Said) → map_text t n (says ++ more) ≡ map_text t n says ++ map_text (all_behind t says) (n + length (all_accepted t says)) more
-text_more t n [] more = ap (λ (m : ℕ). map_text t m more) (plus_none n)
+text_more t n [] more = ap (λ (m : ℕ). map_text t m more) (plus_zero n)
 text_more t n (said ∷ says) more =
     let k = length (accepted t said) in
     let rest = length (all_accepted (behind t said) says) in

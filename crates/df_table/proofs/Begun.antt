@@ -1,5 +1,5 @@
 -- What an open of a file leaves, as far as the opening of its table looks at it, and what the opening leaves.
-use Rattle.std.proofs.Common.{◌≡◌, ℕ, zero, suc, ◌+◌, ◌-◌, ◌*◌, ◌<◌, ◌≤◌, ◌==◌, not, Bool, true, false, List, [], ◌∷◌, length, Option, None, refl, sym, ◌∙◌, ap, subst, arith, append-nil, eq-eqb, eqb-true, ne_eqb, le-ltb, Result, Ok, Err}
+use Rattle.std.proofs.Common.{◌≡◌, ℕ, ◌+◌, ◌-◌, ◌*◌, ◌<◌, ◌≤◌, ◌==◌, not, Bool, true, false, List, [], ◌∷◌, length, Option, None, refl, sym, ◌∙◌, ap, subst, arith, append-nil, eq-eqb, eqb-true, ne_eqb, le-ltb, Result, Ok, Err}
 use Rattle.std.proofs.lemmas.List.{length-map}
 use Rattle.std.proofs.lemmas.Option.{slice_get_within}
 use Rattle.std.proofs.lemmas.Bool.{eqb-false}
@@ -9,9 +9,8 @@ use Rattle.df_disk.specs.Told.{Told}
 use Rattle.df_format.specs.declared.header.Header.{Header}
 use Rattle.df_layout.specs.declared.layout.Layout.{Layout}
 use Rattle.df_sessions.specs.declared.session.Session as told
-use Rattle.df_sessions.specs.Requests.{session_of, sessions_of}
-use Rattle.df_sessions.specs.Table.{with_reply}
-use Rattle.df_theory.specs.Units.{Block, Content, Session}
+use Rattle.df_sessions.specs.Requests.{sessions_of}
+use Rattle.df_theory.specs.Units.{Block, Content}
 use Rattle.df_theory.specs.Trailer.{IsReference, Links, greatest_trailer}
 use Rattle.df_units.specs.Meaning.{layout_of}
 use Rattle.df_model.specs.Blocks.{Blocks, addresses, entries, pair_of}
@@ -20,6 +19,7 @@ use Rattle.df_model.specs.Refusals.{first_refusal, reply_refusals}
 use Rattle.df_model.specs.Supply.{Shown}
 use Rattle.df_model.specs.Work.{Work}
 use Rattle.df_model.proofs.Laws.{pass_all}
+use Rattle.df_sessions.proofs.Laws.{reply_unnoted}
 use Rattle.df_result.specs.Replying.{replied}
 use Rattle.df_rows.specs.Limits.{blocks_of_table}
 use Rattle.df_rows.specs.Tables.{Table}
@@ -59,12 +59,6 @@ may_catch t b replies less =
       (ap not (eq-eqb (b + 1) (t.replies + 1) (omega (arith, replies))), (le-ltb _ _ (omega arith), tt)),
     )
 
-same_sessions : (place : ℕ) (check : List ℕ) (ss : List told.Session) → sessions_of (with_reply place check ss) ≡ sessions_of ss
-same_sessions zero check [] = refl
-same_sessions (suc place) check [] = refl
-same_sessions zero check (x ∷ ss) = refl
-same_sessions (suc place) check (x ∷ ss) = ap (λ (l : List Session). session_of x ∷ l) (same_sessions place check ss)
-
 -- so many ops have their replies
 pub record HasReplied (b : ℕ) (s t : Replica) : Type 0 where
   pub head : t.head ≡ s.head
@@ -86,7 +80,7 @@ replied_more b s t u h is behind = subst (λ (r : Replica). HasReplied (b + 1) s
   file = is.file;
   blocks = is.blocks;
   running = is.running;
-  sessions = same_sessions h.slot h.checksum t.table.sessions ∙ is.sessions;
+  sessions = reply_unnoted h.slot h.checksum t.table.sessions ∙ is.sessions;
 })
 
 pub caught_up : (b : ℕ) (s t : Replica) → HasReplied b s t → (s.replies ≤ s.head → b ≡ s.head) → HasCaughtUp s t

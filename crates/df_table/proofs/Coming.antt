@@ -3,7 +3,7 @@ use Rattle.std.proofs.Common.{◌≡◌, inl, inr, ℕ, zero, suc, List, [], ◌
 use Rattle.df_base.specs.Image.{Image, IsImage}
 use Rattle.df_base.specs.Log.{Event, IsLeft, IsLog, Log, Sync, add, now}
 use Rattle.df_base.specs.Moments.{EachMoment, Extends, IsMoment}
-use Rattle.df_base.proofs.Laws.{extends_on, extends_self, from_before, now_is_image, started, weaker}
+use Rattle.df_base.proofs.Laws.{extends_on, extends_self, from_before, now_is_image, started, weaker, one_some}
 use Rattle.df_disk.specs.Adds.{after_all}
 use Rattle.df_disk.specs.Told.{IsHonest, Told, did}
 use Rattle.df_disk.proofs.Laws.{Goes, goes_by}
@@ -47,12 +47,9 @@ use Rattle.df_table.proofs.Sessioned.{called_have, called_told}
 use Rattle.df_table.proofs.Started.{table_written}
 use Rattle.df_table.proofs.Written.{table_shown}
 
-one_told : (o : Option Told) (a b : Told) → o ≡ Some a → o ≡ Some b → a ≡ b
-one_told o a b one two = let both : Some a ≡ Some b = sym one ∙ two in cc
-
 -- what is told after events
 pub goes : (es : List Event) (t n : Told) → Some n ≡ after_all es (Some t) → Goes t n
-goes es t n is = let all = goes_by es t (Some n) is in subst (λ (x : Told). Goes t x) (one_told (Some n) all.0 n all.1 refl) all.2
+goes es t n is = let all = goes_by es t (Some n) is in subst (λ (x : Told). Goes t x) (one_some (Some n) all.0 n all.1 refl) all.2
 
 pub now_left : (log : Log) → IsLog log → IsLeft log (now log)
 now_left log is = record { whole = now_is_image log.start log.events is.start is.events; kept = λ sector firm. refl }
@@ -182,7 +179,7 @@ module _ (file : DataFile) (chapters : List Chapter) (t : Told) (is : InOrder fi
       }
 
   same : (n : Told) → Some n ≡ Some t → Comes file chapters t n None_kept
-  same n told = quiet [] n told (subst (λ (x : Told). EachMoment t.log x.log (Order file chapters)) (one_told (Some n) t n told refl) (started t.log (Order file chapters) is.order))
+  same n told = quiet [] n told (subst (λ (x : Told). EachMoment t.log x.log (Order file chapters)) (one_some (Some n) t n told refl) (started t.log (Order file chapters) is.order))
 
   behind_barrier : (n : Told) → Extends n.log (did Sync t).log → EachMoment (did Sync t).log n.log (Order file chapters) → EachMoment t.log n.log (Order file chapters)
   behind_barrier n grew later = from_before Sync t.log n.log (Order file chapters) is.order grew later
@@ -190,7 +187,7 @@ module _ (file : DataFile) (chapters : List Chapter) (t : Told) (is : InOrder fi
   barrier : (n : Told) → Some n ≡ Some (did Sync t) → Comes file chapters t n None_kept
   barrier n told =
       quiet (Sync ∷ []) n told
-      (subst (λ (x : Told). EachMoment t.log x.log (Order file chapters)) (one_told (Some n) (did Sync t) n told refl)
+      (subst (λ (x : Told). EachMoment t.log x.log (Order file chapters)) (one_some (Some n) (did Sync t) n told refl)
       (behind_barrier (did Sync t) (extends_self (did Sync t).log) (started (did Sync t).log (Order file chapters) synced)))
 
   -- ---- the disk failed within the mending
@@ -218,7 +215,7 @@ module _ (file : DataFile) (chapters : List Chapter) (t : Told) (is : InOrder fi
   mends layout n part =
       let es = part.mending.events in
       let one : part.found.file ≡ file = one_opened layout part.found part.opened in
-      let ends : told_after es (did Sync t) ≡ n = one_told (Some n) (told_after es (did Sync t)) n (part.mending.told ∙ added_is_told es (did Sync t)) refl in
+      let ends : told_after es (did Sync t) ≡ n = one_some (Some n) (told_after es (did Sync t)) n (part.mending.told ∙ added_is_told es (did Sync t)) refl in
       let grew = goes es (did Sync t) n part.mending.told in
       let mine : MayOpen part.found.file view t = subst (λ (f : DataFile). MayOpen f view t) (sym one) may in
       let theirs : Stands (unit_at part.found.file.layout part.found.file.cluster t.shown) view = subst (λ (f : DataFile). Stands (unit_at f.layout f.cluster t.shown) view) (sym one) stands_shown in
@@ -251,7 +248,7 @@ module _ (file : DataFile) (chapters : List Chapter) (t : Told) (is : InOrder fi
 
     ends : end ≡ n
     ends =
-        one_told new.told end n
+        one_some new.told end n
         (sym (called_told layout found.replica found.mended old new status serves.opened serves.serves c serves.of).1 ∙ serves.calls.adds ∙ ap (after_all (events_made c)) (found.mending.told ∙ added_is_told es (did Sync t))
         ∙ added_is_told (events_made c) (told_after es (did Sync t))) to
 
@@ -262,7 +259,7 @@ module _ (file : DataFile) (chapters : List Chapter) (t : Told) (is : InOrder fi
         one serves.keeps.keeps view t table refl may is_shown
 
     keeps : KeepsFrom file table t es c serves.keeps.changes serves.keeps.pending n
-    keeps = subst (KeepsFrom file table t es c serves.keeps.changes serves.keeps.pending) (one_told (Some end) from_table.0 end from_table.1.is refl ∙ ends) from_table.1
+    keeps = subst (KeepsFrom file table t es c serves.keeps.changes serves.keeps.pending) (one_some (Some end) from_table.0 end from_table.1.is refl ∙ ends) from_table.1
 
     abbrev start : Work
     start = begun_work file t.shown view
@@ -274,7 +271,7 @@ module _ (file : DataFile) (chapters : List Chapter) (t : Told) (is : InOrder fi
         one (serves.calls.keeps Whole) view t refl may stands_shown
 
     last : file_kept.after ≡ n
-    last = one_told (Some end) file_kept.after end file_kept.is refl ∙ ends
+    last = one_some (Some end) file_kept.after end file_kept.is refl ∙ ends
 
     grew : Extends n.log (did Sync t).log
     grew = subst (λ (x : Told). Extends x.log (did Sync t).log) last file_kept.barrier

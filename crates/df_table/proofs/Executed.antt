@@ -6,6 +6,7 @@ use Rattle.std.proofs.lemmas.Bool.Decides.{nat_tests}
 use Rattle.std.proofs.lemmas.List.{length-take-le}
 use Rattle.std.proofs.lemmas.List.Elements.{All-nil}
 use Rattle.df_base.specs.Streams.{Appends, AppendsPart}
+use Rattle.df_base.proofs.Laws.{plus_zero}
 use Rattle.df_disk.specs.Told.{Told}
 use Rattle.df_inspect.specs.Prints.{Prints}
 use Rattle.df_script_model.specs.Texts.{body_text, line_of, spaced}
@@ -94,9 +95,6 @@ module _ (layout : Layout) (said : Said) (c : Command) (s t : Replica) (old new 
 
 -- ---- a line without one
 
-plus_none : (n : ℕ) → n ≡ n + 0
-plus_none n = omega arith
-
 none_asked : (table : Table) (o : Option Refusal) → unless_refused o [] ≡ []
 none_asked table None = refl
 none_asked table (Some refusal) = refl
@@ -112,7 +110,7 @@ module _ (layout : Layout) (said : Said) (s : Replica) (told : Option Told) (tab
     accepted = All-nil IsAccepted;
     fit = subst AreFit (sym none) tt;
     behind_is = ap (λ (l : List Command). with_commands l table) (sym none);
-    head = plus_none s.head ∙ ap (λ (l : List Command). s.head + length l) (sym none);
+    head = plus_zero s.head ∙ ap (λ (l : List Command). s.head + length l) (sym none);
   }
 
 pub refused_none : (table : Table) (said : Said) (refusal : Refusal) → refusal_of table (line_in said) ≡ Some refusal → accepted table said ≡ []

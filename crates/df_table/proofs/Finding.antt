@@ -1,7 +1,7 @@
 -- An opening finds the table of a file whose sessions are all the client's: the blocks that the view references are read, and so are the prepares of its tail.
-use Rattle.std.proofs.Common.{◌≡◌, inl, inr, ℕ, zero, suc, ◌+◌, ◌-◌, ◌%◌, ◌<◌, ◌≤◌, ◌==◌, not, Bool, true, List, [], ◌∷◌, append-nil, map, Option, Some, None, Ok, refl, sym, ◌∙◌, ap, subst, arith, eq-eqb}
-use Rattle.std.proofs.lemmas.Bool.Decides.{nat_tests}
+use Rattle.std.proofs.Common.{◌≡◌, inl, inr, ℕ, zero, suc, ◌+◌, ◌-◌, ◌%◌, ◌<◌, ◌≤◌, Bool, List, [], ◌∷◌, append-nil, map, Option, Some, None, Ok, refl, sym, ◌∙◌, ap, subst, arith}
 use Rattle.std.specs.List.{range_with_len, slice_get}
+use Rattle.df_base.proofs.Laws.{zero_plus, not_zero}
 use Rattle.df_disk.specs.Told.{Told}
 use Rattle.df_layout.specs.declared.damage.Class.{Class}
 use Rattle.df_layout.specs.declared.damage.Class.TheVariants.{Stale}
@@ -14,9 +14,9 @@ use Rattle.df_units.specs.Bytes.{unit_at}
 use Rattle.df_model.specs.Blocks.{entries, entry, sum_at}
 use Rattle.df_model.specs.Commands.{ReadBlock}
 use Rattle.df_model.specs.Memory.{Memory, memory_of, prepare_sum, sum_of_message}
-use Rattle.df_model.specs.Supply.{Shown, block_given, block_read, class_at, given_if, is_sum, no_trailer, prepare_given}
+use Rattle.df_model.specs.Supply.{Shown, block_given, block_read, class_at, given_if, no_trailer}
 use Rattle.df_model.specs.Work.{Work}
-use Rattle.df_model.proofs.Laws.{entry_at}
+use Rattle.df_model.proofs.Laws.{entry_at, same_sum, prepare_shown}
 use Rattle.df_rows.specs.Tables.{Table}
 use Rattle.df_session.specs.Begun.{begun_work}
 use Rattle.df_session.specs.Below.{DataFile, shape, spelling}
@@ -28,15 +28,6 @@ use Rattle.df_table.proofs.FoundTable.{as_many}
 use Rattle.df_table.proofs.Owned.{OwnView, after_own, own_at}
 
 -- ---- what is given, where the unit is shown
-
-same_sum : (known : Option ℕ) (sum : ℕ) → known ≡ Some sum → is_sum known sum ≡ true
-same_sum known sum knows = ap (λ (k : Option ℕ). is_sum k sum) knows ∙ eq-eqb sum sum refl
-
-prepare_shown : (known : Option ℕ) (unit : Option AnyUnit) (class : Class) (p : Message) → unit ≡ Some (PrepareUnit p) → known ≡ Some p.header.checksum → prepare_given known unit class ≡ Ok p
-prepare_shown known unit class p shows knows = ap (λ (u : Option AnyUnit). prepare_given known u class) shows ∙ ap (λ (b : Bool). given_if b p class) (same_sum known p.header.checksum knows)
-
-not_zero : (kind : ℕ) → 0 < kind → not (kind == 0) ≡ true
-not_zero kind some = grind (arith, nat_tests)
 
 block_shown : (known : Option ℕ) (unit : Option AnyUnit) (class : Class) (b : Block) → unit ≡ Some (BlockUnit b) → known ≡ Some b.checksum → 0 < b.kind → no_trailer (block_given known unit class) ≡ Ok b
 block_shown known unit class b shows knows own =
@@ -80,9 +71,6 @@ module _ (shown : Shown) (m : Memory) where
 
 -- ---- the table
 
-from_none : (k : ℕ) → 0 + k ≡ k
-from_none k = omega arith
-
 pub table_is_found : (file : DataFile) (t : Told) (v : View) (table : Table) → IsFound (shape file) (unit_at file.layout file.cluster t.shown) v → OwnView v → IsTable file (unit_at file.layout file.cluster t.shown) v table → FindsIn file t v table
 table_is_found file t v table found own is =
     let w : Work = begun_work file t.shown v in
@@ -104,7 +92,7 @@ table_is_found file t v table found own is =
       };
       prepares = v.tail;
       upto = refl;
-      read = prepares_read shown m 0 (m.content.op + 1) v.tail _ _ _ _ (omega arith) (λ k. ap (λ (i : ℕ). slice_get m.prepares i) (from_none k)) found.tail.chain (λ p at. (found.tail.takes p at).shown);
+      read = prepares_read shown m 0 (m.content.op + 1) v.tail _ _ _ _ (omega arith) (λ k. ap (λ (i : ℕ). slice_get m.prepares i) (zero_plus k)) found.tail.chain (λ p at. (found.tail.takes p at).shown);
       commands = is.commands;
       follow = is.tail;
       is = is.is;

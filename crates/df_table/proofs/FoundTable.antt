@@ -1,7 +1,8 @@
 -- What an opening finds is the table of the file: the blocks that it reads are those that the view references, and the prepares are those of its tail.
-use Rattle.std.proofs.Common.{◌≡◌, inl, inr, ℕ, zero, suc, ◌+◌, ◌%◌, ◌<◌, ◌≤◌, ◌==◌, not, Bool, true, false, List, [], ◌∷◌, append-nil, length, Option, Some, None, Result, Ok, refl, sym, ◌∙◌, ap, subst, arith, eqb-true}
+use Rattle.std.proofs.Common.{◌≡◌, inl, inr, ℕ, zero, suc, ◌+◌, ◌%◌, ◌<◌, ◌≤◌, ◌==◌, not, Bool, true, false, List, [], ◌∷◌, append-nil, length, Option, Some, None, Result, Ok, refl, sym, ◌∙◌, ap, subst, arith}
 use Rattle.std.specs.List.{range_with_len}
 use Rattle.std.proofs.lemmas.Bool.{eqb-false}
+use Rattle.df_base.proofs.Laws.{one_some}
 use Rattle.df_layout.specs.declared.damage.Class.{Class}
 use Rattle.df_layout.specs.declared.damage.Class.TheVariants.{Stale}
 use Rattle.df_layout.specs.declared.layout.Layout.{Layout}
@@ -13,7 +14,7 @@ use Rattle.df_model.specs.Commands.{ReadBlock}
 use Rattle.df_model.specs.Memory.{Memory, memory_of, prepare_sum}
 use Rattle.df_model.specs.Supply.{Shown, block_given, block_read, class_at, given_if, is_sum, no_trailer, prepare_given}
 use Rattle.df_model.specs.Work.{Work}
-use Rattle.df_model.proofs.Laws.{entry_at}
+use Rattle.df_model.proofs.Laws.{entry_at, known_is}
 use Rattle.df_rows.specs.Tables.{Table}
 use Rattle.df_session.specs.Begun.{begun_work}
 use Rattle.df_session.specs.Below.{shape, spelling}
@@ -25,7 +26,7 @@ use Rattle.df_table.specs.Table.{FollowAll, ShowsBodies, ShowsBody}
 
 -- ---- a table was found
 
-unok : (x y : Table) (r : Result Table Ending) → r ≡ Ok x → r ≡ Ok y → x ≡ y
+pub unok : (x y : Table) (r : Result Table Ending) → r ≡ Ok x → r ≡ Ok y → x ≡ y
 unok x y r one two = cc
 
 pub found_followed : (layout : Layout) (shown : Shown) (m : Memory) (t : Table) (r : Result Table Ending) → r ≡ Ok t → Finds layout shown m r → AreFollowed layout shown m m.head t
@@ -42,10 +43,6 @@ record BlockSeen (known : Option ℕ) (unit : Option AnyUnit) (b : Block) : Type
   there : unit ≡ Some (BlockUnit b)
   sum : known ≡ Some b.checksum
   own : 0 < b.kind
-
-known_is : (known : Option ℕ) (sum : ℕ) → is_sum known sum ≡ true → known ≡ Some sum
-known_is None sum is = absurd (let apart : false ≡ true = is in cc)
-known_is (Some k) sum is = ap Some (sym (eqb-true sum k is))
 
 some_kind : (b : Block) → (b.kind == 0) ≡ false → 0 < b.kind
 some_kind b apart = omega (arith, eqb-false b.kind 0 apart)
@@ -70,14 +67,11 @@ seen known (Some (PrepareUnit p)) class x read = absurd (cc (read))
 seen known (Some (ReplyUnit r)) class x read = absurd (cc (read))
 seen known None class x read = absurd (cc (read))
 
-one_known : (a b : ℕ) (o : Option ℕ) → o ≡ Some a → o ≡ Some b → a ≡ b
-one_known a b o one two = cc
-
 module _ (shown : Shown) (m : Memory) where
   body_seen : (a c : ℕ) (body : List ℕ) → sum_at a m.blocks.live ≡ Some c → (b : Block) × (block_read shown m (ReadBlock a) ≡ Ok b) × (b.body ≡ body) → ShowsBody shown.units (a, c) body
   body_seen a c body known read =
       let is = seen (sum_at a m.blocks.live) (shown.units (BlockPlace a)) (class_at shown (BlockPlace a)) read.0 read.1 in
-      record { block = read.0; there = is.there; sum = one_known read.0.checksum c (sum_at a m.blocks.live) is.sum known; own = is.own; body_is = read.2 }
+      record { block = read.0; there = is.there; sum = one_some (sum_at a m.blocks.live) read.0.checksum c is.sum known; own = is.own; body_is = read.2 }
 
   module _ (f : ℕ → Option ℕ) where
     entry_seen : (a : ℕ) (rest : List (ℕ × ℕ)) → ((c : ℕ) → f a ≡ Some c → sum_at a m.blocks.live ≡ Some c) → ((bodies : List (List ℕ)) → AreRead shown m rest bodies → ShowsBodies shown.units rest bodies) → (o : Option ℕ) → f a ≡ o → (bodies : List (List ℕ))

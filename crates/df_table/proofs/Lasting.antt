@@ -19,12 +19,12 @@ use Rattle.df_session.specs.Links.{AreCalls, Calls, events_of}
 use Rattle.df_session.specs.Serving.{IsKept, Whole, format, next}
 use Rattle.df_session.specs.Session.{Act}
 use Rattle.df_session.specs.Session as machine
-use Rattle.df_session.proofs.Laws.{added_is_told}
+use Rattle.df_session.proofs.Laws.{added_is_told, told_append}
 use Rattle.df_result.proofs.Laws.{joined, nothing_is_served}
 use Rattle.df_table.specs.Keeping.{AreChanges, Changes, IsMidway, IsPending}
 use Rattle.df_table.specs.Table.{HasTable}
 use Rattle.df_table.specs.Written.{IsTableIn, WroteBodies}
-use Rattle.df_table.proofs.Later.{good, good_moments, kept_behind, same_behind, told_append, told_log}
+use Rattle.df_table.proofs.Later.{good, good_moments, kept_behind, same_behind, told_log}
 use Rattle.df_table.proofs.Leads.{table_bare}
 use Rattle.df_table.proofs.Written.{bodies_on, table_on, table_shown}
 

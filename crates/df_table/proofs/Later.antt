@@ -1,5 +1,5 @@
 -- One call by a base: the file is kept for the machine's next state, each moment of it is good, and a block that it writes was written from then on.
-use Rattle.std.proofs.Common.{◌≡◌, ℕ, Bool, if◌then◌else◌, List, [], ◌∷◌, ◌++◌, Option, Some, None, refl, sym, ◌∙◌, ap, subst, eq-eqb}
+use Rattle.std.proofs.Common.{◌≡◌, ℕ, Bool, if◌then◌else◌, List, [], ◌∷◌, Option, Some, None, refl, sym, ◌∙◌, ap, subst, eq-eqb}
 use Rattle.df_base.specs.Image.{Image}
 use Rattle.df_base.specs.Log.{Event, Log}
 use Rattle.df_base.specs.Log as logs
@@ -27,10 +27,6 @@ use Rattle.df_session.proofs.Laws.{added_is_told}
 use Rattle.df_table.specs.Written.{IsWritten}
 
 -- ---- what is told
-
-pub told_append : (es fs : List Event) (n : Told) → told_after (es ++ fs) n ≡ told_after fs (told_after es n)
-told_append [] fs n = refl
-told_append (e ∷ es) fs n = told_append es fs (did e n)
 
 pub told_log : (es : List Event) (n : Told) → (told_after es n).log ≡ adds es n.log
 told_log [] n = refl

@@ -2,6 +2,7 @@
 use Rattle.std.proofs.Common.{◌≡◌, ℕ, zero, suc, ◌+◌, ◌-◌, ◌*◌, ◌<◌, ◌≤◌, Bool, List, [], ◌∷◌, length, map, Option, Some, None, refl, sym, ◌∙◌, ap, subst, arith}
 use Rattle.std.specs.List.{range_with_len}
 use Rattle.std.proofs.Math.Nat.{mul-le-mul_right, mul_comm}
+use Rattle.df_base.proofs.Laws.{zero_plus, suc_minus, suc_plus}
 use Rattle.df_layout.specs.declared.layout.Layout.{Layout}
 use Rattle.df_theory.specs.Units.{Parts}
 use Rattle.df_theory.specs.Units as model
@@ -43,11 +44,8 @@ ones_known : (live : List (ℕ × ℕ)) (f : ℕ → Option ℕ) (s n : ℕ) →
 ones_known live f s zero is = refl
 ones_known live f s (suc n) is =
     let rest = ones_known live (λ k. f (suc k)) (s + 1) n (λ k. is (suc k) ∙ ap (λ (a : ℕ). sum_at a live) (later k s)) in
-    first (sum_at s live) (f 0) (is 0 ∙ ap (λ (a : ℕ). sum_at a live) (none_before s)) (map is_referenced (listed (λ k. f (suc k)) n)) (count (λ a. is_known (sum_at a live)) (range_with_len (s + 1) n)) rest
+    first (sum_at s live) (f 0) (is 0 ∙ ap (λ (a : ℕ). sum_at a live) (zero_plus s)) (map is_referenced (listed (λ k. f (suc k)) n)) (count (λ a. is_known (sum_at a live)) (range_with_len (s + 1) n)) rest
   where
-    none_before : (s : ℕ) → 0 + s ≡ s
-    none_before s = omega arith
-
     later : (k s : ℕ) → suc k + s ≡ k + (s + 1)
     later k s = omega arith
 
@@ -56,11 +54,8 @@ ones_known live f s (suc n) is =
 
 few_ones : (l : model.Layout) (parts : Parts) (live : List (ℕ × ℕ)) → parts.references ≡ (λ a. sum_at a live) → ones (map is_referenced (blocks_of l parts)) ≤ length live
 few_ones l parts live is =
-    let all : ones (map is_referenced (listed (λ k. sum_at (suc k) live) l.blocks)) ≡ count (λ a. is_known (sum_at a live)) (range_with_len 1 l.blocks) = ones_known live (λ k. sum_at (suc k) live) 1 l.blocks (λ k. ap (λ (a : ℕ). sum_at a live) (next k)) in
+    let all : ones (map is_referenced (listed (λ k. sum_at (suc k) live) l.blocks)) ≡ count (λ a. is_known (sum_at a live)) (range_with_len 1 l.blocks) = ones_known live (λ k. sum_at (suc k) live) 1 l.blocks (λ k. ap (λ (a : ℕ). sum_at a live) (suc_plus k)) in
     subst (λ (f : ℕ → Option ℕ). ones (map is_referenced (listed (λ k. f (suc k)) l.blocks)) ≤ length live) (sym is) (omega (arith, all, known_few live 1 l.blocks))
-  where
-    next : (k : ℕ) → suc k ≡ k + 1
-    next k = omega arith
 
 -- ---- a checkpoint without a root
 
@@ -92,8 +87,5 @@ few_needed layout s is few live =
 pub few_linked : (room size n t : ℕ) → 3840 ≤ room → (0 < n → room * (n - 1) < size) → (0 < n → size ≤ 49 * t + 3400) → 2 * n ≤ t + 4
 few_linked room size zero t big needed short = omega arith
 few_linked room size (suc p) t big needed short =
-    let less : room * p < size = subst (λ (k : ℕ). room * k < size) (one_less p) (needed (omega arith)) in
+    let less : room * p < size = subst (λ (k : ℕ). room * k < size) (suc_minus p) (needed (omega arith)) in
     omega (arith, short (omega arith), less, mul-le-mul_right p big)
-  where
-    one_less : (k : ℕ) → suc k - 1 ≡ k
-    one_less k = omega arith

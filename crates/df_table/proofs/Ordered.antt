@@ -5,6 +5,7 @@ use Rattle.std.specs.Prelude.{All, replicate}
 use Rattle.std.proofs.lemmas.List.Elements.{All-head, All-tail}
 use Rattle.df_base.specs.Image.{IsImage}
 use Rattle.df_base.specs.Log.{Event}
+use Rattle.df_base.proofs.Laws.{no_some}
 use Rattle.df_disk.specs.Told.{Told, did}
 use Rattle.df_theory.specs.UnitLog.{put_one}
 use Rattle.df_theory.specs.Units.{AnyUnit, Block, BlockPlace, BlockUnit, Units, or_else}
@@ -32,7 +33,7 @@ use Rattle.df_table.specs.Policy.{writes}
 use Rattle.df_table.specs.Table.{ShowsBodies, ShowsBody, references_of}
 use Rattle.df_table.specs.Turns.{IsAccepted, MakeAll}
 use Rattle.df_table.proofs.Finished.{no_course}
-use Rattle.df_table.proofs.Placed.{LowHeld, NoLive, OnlyLive, entries_last, low_more, lower, no_value, none_from, none_live, one_less}
+use Rattle.df_table.proofs.Placed.{LowHeld, NoLive, OnlyLive, entries_last, low_more, lower, none_from, none_live, one_less}
 use Rattle.df_table.proofs.Stayed.{began, released, wrote}
 
 -- ---- one command after the other
@@ -283,7 +284,7 @@ rows_in_order layout s t o n rows steps w ready whole made idle stands =
     let one = releases_seen file t (Some n) (memory s).blocks.live (writes layout rows ++ (Begin [] ∷ replicate steps Advance)) s ready.work o is only made in
     let two =
     writes_seen file t (Some n) [] bodies (Begin [] ∷ replicate steps Advance) one.replica one.work one.told one.seen
-    (subst (λ (l : List (ℕ × ℕ)). ShowsBodies (image file one.told) l []) (sym (none_from one.work.live 1 (shape file).layout.blocks (λ y from. no_value (one.work.live y) (λ d is. one.so y d is)))) tt) (λ y d live. absurd (one.so y d live)) one.made in
+    (subst (λ (l : List (ℕ × ℕ)). ShowsBodies (image file one.told) l []) (sym (none_from one.work.live 1 (shape file).layout.blocks (λ y from. no_some (one.work.live y) (λ d is. one.so y d is)))) tt) (λ y d live. absurd (one.so y d live)) one.made in
     let three = begin_seen file t (Some n) bodies (replicate steps Advance) two.replica two.work two.told two.seen two.so two.made in
     let four = steps_seen file t (Some n) bodies steps three.replica three.work three.told three.seen three.so three.made in
     let last = none_of four.replica t (Some four.told) (Some n) four.made.acts four.made.answers four.made.calls four.made.are in

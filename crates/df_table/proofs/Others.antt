@@ -7,14 +7,10 @@ use Rattle.std.specs.Prelude.{◌↔◌, IsTrue}
 use Rattle.df_sessions.specs.declared.session.Session as told
 use Rattle.df_sessions.specs.Requests.{session_of, sessions_of}
 use Rattle.df_theory.specs.Units.{Session}
+use Rattle.df_sessions.proofs.Laws.{session_at}
 use Rattle.df_session.specs.Below.{State as Replica, memory}
 use Rattle.df_table.specs.Opening.{IsOther}
 use Rattle.df_table.specs.Policy.{the_client}
-
-told_some : (ss : List told.Session) (place : ℕ) (x : told.Session) → slice_get ss place ≡ Some x → slice_get (sessions_of ss) place ≡ Some (session_of x)
-told_some [] place x is = absurd (none-some x is)
-told_some (y ∷ ss) zero x is = let same : Some y ≡ Some x = is in let one : y ≡ x = cc in ap (λ (z : told.Session). Some (session_of z)) one
-told_some (y ∷ ss) (suc place) x is = told_some ss place x is
 
 told_none : (ss : List told.Session) (place : ℕ) → slice_get ss place ≡ None → slice_get (sessions_of ss) place ≡ None
 told_none [] place is = refl
@@ -23,11 +19,11 @@ told_none (y ∷ ss) (suc place) is = told_none ss place is
 
 module _ (s : Replica) (place : ℕ) where
   pub is_other : (x : told.Session) → slice_get s.table.sessions place ≡ Some x → (x.client ≡ the_client → ⊥) → IsOther (memory s) place
-  is_other x is other = record { session = session_of x; at = told_some s.table.sessions place x is; other = other }
+  is_other x is other = record { session = session_of x; at = session_at s.table.sessions place x is; other = other }
 
   pub is_own : (x : told.Session) → slice_get s.table.sessions place ≡ Some x → x.client ≡ the_client → IsOther (memory s) place → ⊥
   is_own x is own other =
-      let same : Some other.session ≡ Some (session_of x) = sym other.at ∙ told_some s.table.sessions place x is in
+      let same : Some other.session ≡ Some (session_of x) = sym other.at ∙ session_at s.table.sessions place x is in
       let one : other.session ≡ session_of x = cc in
       other.other (ap (λ (y : Session). y.client) one ∙ own)
 

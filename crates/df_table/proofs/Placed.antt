@@ -2,12 +2,14 @@
 use Rattle.std.proofs.Common.{◌≡◌, inl, inr, ℕ, zero, suc, ◌+◌, ◌<◌, ◌≤◌, ◌==◌, ◌||◌, Bool, true, false, if◌then◌else◌, List, [], ◌∷◌, ◌++◌, Option, Some, None, refl, sym, ◌∙◌, ap, subst, arith, eq-eqb, eqb-true, ne_eqb}
 use Rattle.std.specs.List.{range_with_len}
 use Rattle.std.proofs.lemmas.Bool.{cases_eq, cases_lt, eqb-false}
+use Rattle.df_base.proofs.Laws.{no_some}
 use Rattle.df_theory.specs.Shape.{Shape}
 use Rattle.df_theory.specs.UnitLog.{UnitLog}
 use Rattle.df_model.specs.After.{with_live}
 use Rattle.df_model.specs.Blocks.{entries, entry, sum_at}
 use Rattle.df_model.specs.Laws.{IsLeastFree}
 use Rattle.df_model.specs.Work.{Work, is_captured, is_held, is_known, is_of}
+use Rattle.df_model.proofs.Laws.{live_held}
 use Rattle.df_table.specs.Written.{WroteBodies, WroteBody}
 
 -- ---- lists of blocks
@@ -17,10 +19,6 @@ wrote_more log [] [] x body all one = (one, tt)
 wrote_more log [] (b ∷ bodies) x body all one = absurd all
 wrote_more log (y ∷ references) [] x body all one = absurd all
 wrote_more log (y ∷ references) (b ∷ bodies) x body all one = (all.0, wrote_more log references bodies x body all.1 one)
-
-pub no_value : (o : Option ℕ) → ((d : ℕ) → o ≡ Some d → ⊥) → o ≡ None
-no_value None none = refl
-no_value (Some d) none = absurd (none d refl)
 
 pub one_some : {A : Type 0} {x y : A} → Some x ≡ Some y → x ≡ y
 one_some is = cc
@@ -49,7 +47,7 @@ module _ (f : ℕ → Option ℕ) (a c : ℕ) where
   entries_last s zero from to low = absurd (omega (arith, from, to))
   entries_last s (suc n) from to low = elim (cases_eq s a) [
     | inl same ↦
-        let none : (y : ℕ) → a ≤ y → f y ≡ None = λ y above. no_value (f y) (λ d is. omega (arith, above, low y d is)) in
+        let none : (y : ℕ) → a ≤ y → f y ≡ None = λ y above. no_some (f y) (λ d is. omega (arith, above, low y d is)) in
         let rest : entries with_last (range_with_len (s + 1) n) ≡ [] = none_from with_last (s + 1) n (λ y above. last_apart y (λ is. omega (arith, is, same, above)) ∙ none y (omega (arith, same, above))) in
         let all : entries f (range_with_len s (suc n)) ≡ [] = none_from f s (suc n) (λ y above. none y (omega (arith, same, above))) in
         ap (λ (o : Option ℕ). entry s o (entries with_last (range_with_len (s + 1) n))) (last_there s same) ∙ ap (λ (l : List (ℕ × ℕ)). (s, c) ∷ l) rest ∙ ap (λ (y : ℕ). (y, c) ∷ []) same ∙ sym (ap (λ (l : List (ℕ × ℕ)). l ++ (a, c) ∷ []) all)
@@ -70,9 +68,6 @@ held_case false others o sum held = held
 
 held_more : (w : Work) (a sum y : ℕ) → is_held w y ≡ true → is_held (with_live w a (Some sum)) y ≡ true
 held_more w a sum y held = held_case (y == a) (is_captured y w.running || (is_known (w.view.checkpoint.parts.references y) || is_of y w.view.checkpoint.chain)) (w.live y) sum held
-
-live_held : (w : Work) (y d : ℕ) → w.live y ≡ Some d → is_held w y ≡ true
-live_held w y d live = ap (λ (o : Option ℕ). is_known o || (is_captured y w.running || (is_known (w.view.checkpoint.parts.references y) || is_of y w.view.checkpoint.chain))) live
 
 false_true : (b : Bool) → b ≡ false → b ≡ true → ⊥
 false_true b is_false is_true = let apart : false ≡ true = sym is_false ∙ is_true in cc

@@ -1,6 +1,7 @@
 -- All live blocks are released, address by address: after each address those above it are left.
 use Rattle.std.proofs.Common.{◌≡◌, ℕ, suc, ◌+◌, ◌-◌, ◌<◌, Bool, if◌then◌else◌, List, [], ◌∷◌, ◌++◌, map, Option, Some, None, Result, refl, sym, ◌∙◌, ap, subst, arith, eq-eqb}
 use Rattle.std.specs.List.{range_with_len}
+use Rattle.df_base.proofs.Laws.{minus_zero}
 use Rattle.df_disk.specs.Told.{Told}
 use Rattle.df_layout.specs.declared.layout.Layout.{Layout}
 use Rattle.df_model.specs.Memory.{Memory}
@@ -48,10 +49,7 @@ pub record IsReleasing (f : ℕ → Option ℕ) (n b : ℕ) (s t : Replica) (old
   pub state : t ≡ record s { blocks = record s.blocks { live = t.blocks.live } }
 
 pub starts : (f : ℕ → Option ℕ) (n : ℕ) (s : Replica) (told : Option Told) → s.blocks.live ≡ entries f (range_with_len 1 n) → IsReleasing f n 0 s s told told
-starts f n s told is = record { making = record { done = []; makes = make_none s told; split = refl }; left = is ∙ ap (λ (k : ℕ). entries f (range_with_len 1 k)) (zero_less n); state = refl }
-  where
-    zero_less : (k : ℕ) → k ≡ k - 0
-    zero_less k = omega arith
+starts f n s told is = record { making = record { done = []; makes = make_none s told; split = refl }; left = is ∙ ap (λ (k : ℕ). entries f (range_with_len 1 k)) (minus_zero n); state = refl }
 
 module _ (f : ℕ → Option ℕ) (n b : ℕ) (less : b < n) where
   abbrev rest : List (ℕ × ℕ)

@@ -11,7 +11,6 @@ use Rattle.df_theory.specs.Units.{PreparePlace}
 use Rattle.df_theory.specs.View.{View}
 use Rattle.df_units.specs.Bytes.{unit_at}
 use Rattle.df_model.specs.Commands.{Answer}
-use Rattle.df_model.specs.Supply.{Shown}
 use Rattle.df_rows.specs.Tables.{Table}
 use Rattle.df_session.specs.Begun.{begun_work}
 use Rattle.df_session.specs.Below.{AgreeShown, IsOpened, State as Replica, memory, shape}
@@ -105,9 +104,6 @@ module _ (layout : Layout) (s : Replica) (told : Option Told) (before old new : 
   moved opened serves = there opened (subst (λ (o : Outside). Serves layout s told o new status opened) same_outside serves)
 
 -- ---- the file
-
-pub agree_self : (layout : Layout) (shown : Shown) → AgreeShown layout shown shown
-agree_self layout shown = record { units = record { prepare = λ s. refl; reply = λ k. refl; block = λ a. refl }; classes = λ place read none. refl }
 
 module _ (layout : Layout) (t : Told) (s : Replica) (mended : Option Told) (whole : IsImage t.shown) (live : s.live ≡ true) (of : s.file.layout ≡ layout) (over : MendsAll t s mended) where
   pub opened_there : IsOpened layout t.shown over.found

@@ -1,5 +1,5 @@
 -- A session that was just opened, over a script that nothing was read of: what its lines come to is what the script is served by.
-use Rattle.std.proofs.Common.{◌≡◌, inl, inr, ℕ, ◌+◌, ◌≤◌, List, [], ◌∷◌, ◌++◌, length, Option, Some, None, Result, Ok, Err, refl, sym, ◌∙◌, ap, subst, arith}
+use Rattle.std.proofs.Common.{◌≡◌, inl, inr, ℕ, ◌+◌, ◌≤◌, List, [], ◌∷◌, ◌++◌, length, Option, Some, Result, Ok, Err, refl, sym, ◌∙◌, ap, subst, arith}
 use Rattle.std.specs.FinMap as map
 use Rattle.std.specs.FinMap.{len-empty}
 use Rattle.df_disk.specs.Told.{Told}
@@ -19,6 +19,7 @@ use Rattle.df_lines.specs.Lines.{Begins}
 use Rattle.df_rows.specs.Grammar.{Says}
 use Rattle.df_rows.specs.Tables.{AreNew, CanApply, Table, with_command, with_commands, with_row, with_rows}
 use Rattle.df_session.specs.Below.{State as Replica}
+use Rattle.df_lines.proofs.Laws.{unread_none}
 use Rattle.df_table.specs.declared.ending.Ending.{Ending}
 use Rattle.df_table.specs.declared.ending.Ending.TheVariants.{Disk}
 use Rattle.df_table.specs.declared.session.Session.{Session}
@@ -31,10 +32,7 @@ use Rattle.df_table.specs.Session.{EndsWith, ServesLines, closing, said_in, scri
 use Rattle.df_table.specs.Table.{FollowAll, empty_table}
 use Rattle.df_table.specs.Turns.{Turn, all_said}
 use Rattle.df_table.proofs.Behind.{HasFew, drop_few, put_few}
-
-unread_none : (left : Option (List ℕ)) → unread [] left ≡ left
-unread_none None = refl
-unread_none (Some xs) = refl
+use Rattle.df_table.proofs.FoundTable.{unok}
 
 -- one line a turn
 as_many : (turns : List Turn) → length turns ≡ length (all_said turns)
@@ -95,9 +93,6 @@ empty_few layout = record { max_is = refl; few = omega (arith, len-empty) }
 followed_few : (layout : Layout) (shown : Shown) (m : Memory) (op : ℕ) (t : Table) → AreFollowed layout shown m op t → HasFew (most_rows layout) t
 followed_few layout shown m op t are =
     subst (λ (x : Table). HasFew (most_rows layout) x) (sym are.is) (follow_few (most_rows layout) are.base are.prepares are.commands are.follow (takes_few (most_rows layout) (empty_table layout) are.base are.blocks.bodies are.blocks.taken (empty_few layout)))
-
-unok : (x y : Table) (r : Result Table Ending) → r ≡ Ok x → r ≡ Ok y → x ≡ y
-unok x y r one two = cc
 
 no_disk : (x : Table) (r : Result Table Ending) → r ≡ Ok x → r ≡ Err Disk → ⊥
 no_disk x r one two = cc

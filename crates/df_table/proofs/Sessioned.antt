@@ -21,7 +21,7 @@ use Rattle.df_session.specs.Opened.{MendsAll}
 use Rattle.df_session.specs.Reading.{shown_of}
 use Rattle.df_session.specs.Serving.{Firm, Keeps}
 use Rattle.df_session.specs.Session.{Act}
-use Rattle.df_session.proofs.Laws.{begun_here}
+use Rattle.df_session.proofs.Laws.{begun_here, told_append}
 use Rattle.df_result.proofs.Laws.{joined}
 use Rattle.df_table.specs.declared.ending.Ending.{Ending}
 use Rattle.df_table.specs.declared.ending.Ending.TheVariants.{Disk}
@@ -36,7 +36,6 @@ use Rattle.df_table.specs.Turns.{all_acts, all_answers}
 use Rattle.df_table.proofs.Asking.{ActsHave, FailHas, acts_have, asked_have, asks_ends, asks_made, changes_there, opening_has, pending_there}
 use Rattle.df_table.proofs.FoundTable.{found_is_table}
 use Rattle.df_table.proofs.Lasting.{At, at_end, each_moment, from_answer, grew}
-use Rattle.df_table.proofs.Later.{told_append}
 use Rattle.df_table.proofs.Started.{at_begin, found_there, mending_moments}
 use Rattle.df_table.proofs.Tabled.{acts_stand, lines_have, lines_kept, opening_then, opening_to_end}
 use Rattle.df_table.proofs.Tables.{table_is_one}

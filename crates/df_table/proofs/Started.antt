@@ -6,6 +6,7 @@ use Rattle.df_base.specs.Image.{Image, IsImage}
 use Rattle.df_base.specs.Log as logs
 use Rattle.df_base.specs.Log.{Sync}
 use Rattle.df_base.specs.Moments.{EachMoment}
+use Rattle.df_base.proofs.Laws.{one_some}
 use Rattle.df_disk.specs.Told.{Told, did}
 use Rattle.df_theory.specs.Chance.{NoChance}
 use Rattle.df_theory.specs.Device.{units_log}
@@ -46,15 +47,12 @@ module _ (image : Units) (f : ℕ → Option ℕ) where
   abbrev Shown : (a c : ℕ) → Type 0
   Shown a c = (b : Block) × (image (BlockPlace a) ≡ Some (BlockUnit b)) × (b.checksum ≡ c) × (0 < b.kind)
 
-  unsome : (c d : ℕ) (o : Option ℕ) → o ≡ Some c → o ≡ Some d → c ≡ d
-  unsome c d o one two = cc
-
   shown_case : (s a c : ℕ) (rest : List (ℕ × ℕ)) → f a ≡ Some c → (o : Option ℕ) → f s ≡ o → (bodies : List (List ℕ)) → ShowsBodies image (entry s o rest) bodies → ((s ≡ a → ⊥) → (more : List (List ℕ)) → ShowsBodies image rest more → Shown a c) → (s ≡ a) ⊎ (s ≡ a → ⊥) → Shown a c
   shown_case s a c rest is None none bodies shown later (inl here) = absurd (let apart : None ≡ Some c = sym none ∙ ap f here ∙ is in cc)
   shown_case s a c rest is None none bodies shown later (inr apart) = later apart bodies shown
   shown_case s a c rest is (Some d) some [] shown later place = absurd shown
   shown_case s a c rest is (Some d) some (body ∷ bodies) shown later (inl here) =
-      let sum : d ≡ c = unsome d c (f a) (sym (ap f here) ∙ some) is in
+      let sum : d ≡ c = one_some (f a) d c (sym (ap f here) ∙ some) is in
       (shown.0.block, subst (λ (x : ℕ). image (BlockPlace x) ≡ Some (BlockUnit shown.0.block)) here shown.0.there, shown.0.sum ∙ sum, shown.0.own)
   shown_case s a c rest is (Some d) some (body ∷ bodies) shown later (inr apart) = later apart bodies shown.1
 

@@ -1,6 +1,7 @@
 -- The referenced blocks are taken one after the other, in order of address: what the opening has found after each.
 use Rattle.std.proofs.Common.{◌≡◌, inl, inr, ℕ, suc, ◌+◌, ◌-◌, ◌<◌, ◌≤◌, List, [], ◌∷◌, ◌++◌, length, map, Option, Some, None, Result, Ok, Err, refl, sym, ◌∙◌, ap, subst, arith, append_assoc, length-append}
 use Rattle.std.specs.List.{range_with_len}
+use Rattle.df_base.proofs.Laws.{minus_zero}
 use Rattle.df_layout.specs.declared.layout.Layout.{Layout}
 use Rattle.df_theory.specs.Units.{Block}
 use Rattle.df_model.specs.Blocks.{entries, entry, sum_at}
@@ -57,7 +58,7 @@ module _ (layout : Layout) (shown : Shown) (m : Memory) (f : ℕ → Option ℕ)
     are = record {
       own = own;
       before = [];
-      of = live ∙ ap (λ (k : ℕ). entries f (range_with_len 1 k)) (zero_less n);
+      of = live ∙ ap (λ (k : ℕ). entries f (range_with_len 1 k)) (minus_zero n);
       few = omega arith;
       bodies = [];
       read = tt;
@@ -65,9 +66,6 @@ module _ (layout : Layout) (shown : Shown) (m : Memory) (f : ℕ → Option ℕ)
     };
     count = refl;
   }
-    where
-      zero_less : (k : ℕ) → k ≡ k - 0
-      zero_less k = omega arith
 
   module _ (b : ℕ) (less : b < n) (t : Table) (taken : ℕ) (is : IsTaking layout shown m f n b t taken) where
     abbrev rest : List (ℕ × ℕ)
@@ -163,10 +161,7 @@ module _ (f : ℕ → Option ℕ) (n : ℕ) (s : Replica) (live : s.blocks.live 
   to_come b = reads_of (entries f (range_with_len (b + 1) (n - b)))
 
   pub reading_none : (told : Option Told) → IsMaking (block_reads (memory s)) (to_come 0) s s told told
-  reading_none told = subst (λ (l : List (ℕ × ℕ)). IsMaking (block_reads (memory s)) (reads_of l) s s told told) (live ∙ ap (λ (k : ℕ). entries f (range_with_len 1 k)) (zero_less n)) (making_none (block_reads (memory s)) s told)
-    where
-      zero_less : (k : ℕ) → k ≡ k - 0
-      zero_less k = omega arith
+  reading_none told = subst (λ (l : List (ℕ × ℕ)). IsMaking (block_reads (memory s)) (reads_of l) s s told told) (live ∙ ap (λ (k : ℕ). entries f (range_with_len 1 k)) (minus_zero n)) (making_none (block_reads (memory s)) s told)
 
   module _ (b : ℕ) (less : b < n) (t u : Replica) (old now new : Option Told) (same : t ≡ s) (is : IsMaking (block_reads (memory s)) (to_come b) s t old now) where
     parts : (o : Option ℕ) → reads_of (entry (b + 1) o (entries f (range_with_len (b + 1 + 1) (n - (b + 1))))) ≡ reads_of (entry (b + 1) o []) ++ to_come (b + 1)

@@ -2,6 +2,7 @@
 use Rattle.std.proofs.Common.{◌≡◌, ◌⊎◌, inl, inr, ℕ, zero, suc, ◌+◌, ◌||◌, Bool, true, false, if◌then◌else◌, List, [], ◌∷◌, ◌++◌, append-nil, append_assoc, map, take, Option, Some, None, Ok, refl, sym, ◌∙◌, ap, subst, arith}
 use Rattle.std.specs.FinMap as maps
 use Rattle.std.specs.Prelude.{replicate}
+use Rattle.df_base.proofs.Laws.{no_some}
 use Rattle.df_disk.specs.Told.{Told}
 use Rattle.df_theory.specs.Device.{units_log}
 use Rattle.df_theory.specs.UnitLog.{UnitLog}
@@ -34,7 +35,7 @@ use Rattle.df_table.specs.Written.{IsTableIn, IsWritten, WroteBodies, WroteBody}
 use Rattle.df_table.proofs.Lasting.{AreKept, At, FailKept, at_behind, bodies_later, grew, none_taken}
 use Rattle.df_table.proofs.Later.{answer_is, block_written, memory_is}
 use Rattle.df_table.proofs.Leads.{table_appended, table_finished, table_stays}
-use Rattle.df_table.proofs.Placed.{LowHeld, NoLive, OnlyLive, entries_last, low_more, lower, no_value, none_from, none_live, one_less, one_some, wrote_more}
+use Rattle.df_table.proofs.Placed.{LowHeld, NoLive, OnlyLive, entries_last, low_more, lower, none_from, none_live, one_less, one_some, wrote_more}
 use Rattle.df_table.proofs.Rowed.{table_bounds}
 use Rattle.df_table.proofs.Stayed.{IsPlain, began, none_left, plain_stays, released, wrote}
 
@@ -359,7 +360,7 @@ module _ (file : DataFile) where
       writing : Behind (λ w n t. (t ≡ t0) × NoLive w) writes_then
       writing s old w n t acts answers at so asks ends =
           walk_writes t0 [] (bodies_in t0) (Begin [] ∷ steps_then) begins s old w n t acts answers at
-          (so.0, subst (λ (l : List (ℕ × ℕ)). WroteBodies (log_of n) l []) (sym (none_from w.live 1 (shape file).layout.blocks (λ y from. no_value (w.live y) (λ d is. so.1 y d is)))) tt, λ y d live. absurd (so.1 y d live)) asks ends
+          (so.0, subst (λ (l : List (ℕ × ℕ)). WroteBodies (log_of n) l []) (sym (none_from w.live 1 (shape file).layout.blocks (λ y from. no_some (w.live y) (λ d is. so.1 y d is)))) tt, λ y d live. absurd (so.1 y d live)) asks ends
 
       -- all that is live lies in the grid
       live_there : (s : Replica) (w : Work) (n : Told) (t : Table) → At file s w n t → m ≡ memory_of (shape file) (spelling file) w → OnlyLive m.blocks.live w

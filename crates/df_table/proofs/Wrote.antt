@@ -5,6 +5,7 @@ use Rattle.std.specs.FinMap as maps
 use Rattle.std.specs.FinMap.{len-entries}
 use Rattle.std.specs.Fork.{slice_chunk}
 use Rattle.std.specs.List.{range_with_len}
+use Rattle.df_base.proofs.Laws.{minus_zero}
 use Rattle.df_disk.specs.Told.{Told}
 use Rattle.df_format.specs.declared.header.Header.{Header}
 use Rattle.df_layout.specs.declared.layout.Layout.{Layout}
@@ -91,12 +92,9 @@ pub record IsWriting (layout : Layout) (rows : Map) (n b : ℕ) (s t : Replica) 
 
 pub writing_none : (layout : Layout) (rows : Map) (n : ℕ) (s : Replica) (told : Option Told) → IsWriting layout rows n 0 s s told told
 writing_none layout rows n s told = record {
-  making = subst (λ (k : ℕ). IsMaking (puts_from layout rows 0 n) (puts_from layout rows 0 k) s s told told) (all n) (making_none (puts_from layout rows 0 n) s told);
+  making = subst (λ (k : ℕ). IsMaking (puts_from layout rows 0 n) (puts_from layout rows 0 k) s s told told) (minus_zero n) (making_none (puts_from layout rows 0 n) s told);
   wrote = wrote_none s;
 }
-  where
-    all : (k : ℕ) → k ≡ k - 0
-    all k = omega arith
 
 module _ (layout : Layout) (rows : Map) (n b : ℕ) (less : b < n) (s t : Replica) (old now : Option Told) (is : IsWriting layout rows n b s t old now) where
   next_making : IsMaking (puts_from layout rows 0 n) ((put_at layout rows b ∷ []) ++ puts_from layout rows (b + 1) (n - (b + 1))) s t old now

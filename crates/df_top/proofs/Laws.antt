@@ -1,7 +1,6 @@
 -- What the proofs above cite of this crate's: what an open finds, images that agree in what calls read, and what the word `upgrade` leaves.
-pub use Rattle.df_top.proofs.Texted.{agree_self}
 pub use Rattle.df_session.proofs.Laws.{unit_spared}
-pub use Rattle.df_top.proofs.OneReport.{count_is, summary_same}
+pub use Rattle.df_top.proofs.OneReport.{summary_same}
 pub use Rattle.df_top.proofs.Upgrades.{second_is_left}
 -- ---- damage before any number of opens
 pub use Rattle.df_top.proofs.Reopens.{runs_over_history, serves_over_history}

@@ -1,8 +1,9 @@
 -- An image has one report, since it has one superblock, one view, and one list of what is to be mended.
-use Rattle.std.proofs.Common.{◌≡◌, ℕ, ◌<◌, Bool, true, false, not, IsTrue, List, [], ◌∷◌, ◌++◌, length, Option, None, Some, refl, sym, ◌∙◌, ap, subst, arith}
+use Rattle.std.proofs.Common.{◌≡◌, ℕ, ◌<◌, Bool, false, not, List, [], ◌∷◌, ◌++◌, length, Option, None, Some, refl, sym, ◌∙◌, ap, subst, arith}
 use Rattle.std.specs.Prelude.{◌+◌, zero, suc, codes, map, get_or}
 use Rattle.std.specs.List.{filter, range_with_len}
 use Rattle.df_base.specs.Image.{Image}
+use Rattle.df_base.proofs.Laws.{same_bit}
 use Rattle.df_format.specs.Copies.{Content, content_at}
 use Rattle.df_format.specs.Own.{place_in}
 use Rattle.df_format.specs.Shown.{class_at}
@@ -28,6 +29,7 @@ use Rattle.df_units.specs.Bytes.{unit_at}
 use Rattle.df_model.specs.Memory.{Memory, memory_of}
 use Rattle.df_model.specs.Work.{opened}
 use Rattle.df_model.specs.declared.answers.Summary.{Summary}
+use Rattle.df_sessions.proofs.Laws.{length_sessions}
 use Rattle.df_top.specs.Reporting.{OneReport, report_of, status_of}
 
 -- ---- the sessions' lines say what the theory knows of them
@@ -59,17 +61,7 @@ texts_same place (s ∷ ss) (u ∷ us) one two =
     text_is place s ∙ ap (λ (x : Units.Session). model_text place x (stored_sum s)) first ∙ ap (model_text place (session_of u)) stored ∙ sym (text_is place u) in
     ap (λ (l : List ℕ). l ++ each_text session_text (place + 1) ss) line ∙ ap (λ (l : List ℕ). session_text place u ++ l) rest
 
-pub count_is : (ss : List Session) → length (sessions_of ss) ≡ length ss
-count_is [] = refl
-count_is (s ∷ ss) = omega (arith, count_is ss)
-
 -- ---- the list of mends is that of the members
-
-same_bit : (a b : Bool) → (IsTrue a → IsTrue b) → (IsTrue b → IsTrue a) → a ≡ b
-same_bit true true one other = refl
-same_bit true false one other = sym (one refl)
-same_bit false true one other = other refl
-same_bit false false one other = refl
 
 filter_same : (p q : ℕ → Bool) (n : ℕ) → ((k : ℕ) → k < n → p k ≡ q k) → filter p (range_with_len 0 n) ≡ filter q (range_with_len 0 n)
 filter_same p q zero same = refl
@@ -106,7 +98,7 @@ summary_same s u file fields known = λ i. record {
 }
   where
     count : length s.table.sessions ≡ length u.table.sessions
-    count = sym (count_is s.table.sessions) ∙ ap (λ (m : Memory). length m.sessions) known ∙ count_is u.table.sessions
+    count = sym (length_sessions s.table.sessions) ∙ ap (λ (m : Memory). length m.sessions) known ∙ length_sessions u.table.sessions
 
 -- ---- the law
 

@@ -1,5 +1,6 @@
 -- What a word finds after damage before any number of opens was had since the last of them that raised its boot, and the history goes on.
 use Rattle.std.proofs.Common.{◌≡◌, ◌⊎◌, inl, inr, List, [], ◌∷◌, ◌++◌, Option, Some, refl, sym, ◌∙◌, ap, subst}
+use Rattle.std.proofs.lemmas.Option.{same_Some}
 use Rattle.df_base.specs.Image.{Image}
 use Rattle.df_base.specs.Log.{Event, Log, Sync, add}
 use Rattle.df_base.specs.Moments.{EachMoment}
@@ -20,7 +21,7 @@ use Rattle.df_session.specs.Found.{FoundFile, no_calls}
 use Rattle.df_session.specs.Laws.{CallsKeep}
 use Rattle.df_session.specs.Links.{CallsMade, events_made, list_of}
 use Rattle.df_session.specs.Opened.{StopsOpening}
-use Rattle.df_session.proofs.Laws.{begun_may_open, file_there, found_was_since, lived_layout}
+use Rattle.df_session.proofs.Laws.{begun_may_open, file_there, found_was_since, lived_layout, told_append}
 use Rattle.df_top.specs.Acknowledging.{run_calls, script_calls}
 use Rattle.df_top.specs.Opening.{StopsBefore}
 use Rattle.df_top.specs.Outside.{Outside}
@@ -30,15 +31,7 @@ use Rattle.df_top.specs.declared.mode.Mode.{Mode}
 use Rattle.df_top.specs.declared.mode.Mode.TheVariants.{Format, Run, Recover, Inspect, Scrub, Workload, Upgrade, Paced}
 use Rattle.df_top.specs.declared.status.Status.{Status}
 
--- events after others
-told_more : (es fs : List Event) (t : Told) → told_after (es ++ fs) t ≡ told_after fs (told_after es t)
-told_more [] fs t = refl
-told_more (e ∷ es) fs t = told_more es fs (did e t)
-
 -- ---- a session
-
-some_is : (t n : Told) → Some n ≡ Some t → n ≡ t
-some_is t n is = cc
 
 -- what is left has a view, whichever
 some_view : (file : DataFile) (w : Work) (acts : List Act) (image : Image) → HoldsSome file Firm w acts image → (view : View) × Held (shape file) ((format file).unit_at image) view
@@ -56,7 +49,7 @@ session_lives : (file : DataFile) (logs : List Log) (w : Work) (base : Told) (ac
 session_lives file logs w base acts answers failed mending added keeps lived = λ l moment.
     let exit : Told = told_after added (told_after mending (did Sync base)) in
     let each : EachMoment (did Sync base).log exit.log (IsMidway file Firm w (acts ++ list_of failed)) =
-    subst (λ (n : Told). EachMoment (did Sync base).log n.log (IsMidway file Firm w (acts ++ list_of failed))) (sym (some_is keeps.after exit keeps.is)) keeps.moments in
+    subst (λ (n : Told). EachMoment (did Sync base).log n.log (IsMidway file Firm w (acts ++ list_of failed))) (sym (same_Some exit keeps.after keeps.is)) keeps.moments in
     record {
       safe = (each l moment).safe;
       left = λ image gone chance. some_view file w (acts ++ list_of failed) image ((each l moment).left image gone chance);
@@ -87,7 +80,7 @@ module _ (file : DataFile) (log : Log) (logs : List Log) (t : Told) (may : MayRe
         events = found.mending.events ++ events_made c;
         told = adds ∙ ap (after_all (events_made c)) found.mending.told ∙ sym (after_append found.mending.events (events_made c) (Some (did Sync t)));
         moments =
-            subst (λ (n : Told). EachMoment (did Sync (begun t)).log n.log (IsLivedFile of (add Sync log ∷ logs))) (sym (told_more found.mending.events (events_made c) (did Sync (begun t))))
+            subst (λ (n : Told). EachMoment (did Sync (begun t)).log n.log (IsLivedFile of (add Sync log ∷ logs))) (sym (told_append found.mending.events (events_made c) (did Sync (begun t))))
             (session_lives of (add Sync log ∷ logs) (begun_work of t.shown has.found) (begun t) c.acts c.answers c.failed found.mending.events (events_made c) (keeps.keeps Firm has.found (begun t) refl opens tt) (keeps.lived log logs here));
       })
 

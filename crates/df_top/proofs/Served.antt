@@ -1,5 +1,5 @@
 -- A file that was opened is served, and one that wasn't is refused.
-use Rattle.std.proofs.Common.{◌≡◌, inl, inr, ℕ, Bool, true, List, [], Option, Some, None, refl, sym, ◌∙◌, ap, subst, Err}
+use Rattle.std.proofs.Common.{◌≡◌, inl, inr, ℕ, Bool, true, List, Option, Some, None, refl, sym, ◌∙◌, ap, subst, Err}
 use Rattle.std.proofs.lemmas.Option.{none-some}
 use Rattle.df_base.specs.Image.{IsImage}
 use Rattle.df_base.specs.Log.{Sync}
@@ -29,6 +29,7 @@ use Rattle.df_top.specs.Refusing.{PrintsError}
 use Rattle.df_top.specs.Mode.{Executes}
 use Rattle.df_top.specs.Run.{ComesTo, Does, ServesScript, start}
 use Rattle.df_session.specs.Session.{Act}
+use Rattle.df_lines.proofs.Laws.{unread_none}
 use Rattle.df_top.specs.Lines.{Failing, Turned, act_of, all_acts, all_answers}
 use Rattle.df_top.specs.Session.{Ended, EndsWith, State, state}
 use Rattle.df_top.specs.declared.mode.Mode.{Mode}
@@ -39,10 +40,6 @@ use Rattle.df_top.specs.declared.status.Status.TheVariants.{Done, Script, Words,
 use Rattle.df_top.proofs.Resulted.{opened_prints}
 
 -- ---- a session that was just opened
-
-unread_none : (left : Option (List ℕ)) → unread [] left ≡ left
-unread_none None = refl
-unread_none (Some xs) = refl
 
 begins_so : (told : Option Told) (old : Outside) (s : Session) (bound : ℕ) → IsFresh bound s.lines → s.count ≡ 0 → s.beat ≡ started s.replica.head → state (record { told = told; left = old.left; written = old.written }) s ≡ start told old s.replica
 begins_so told old s bound fresh none idle = λ i. record {

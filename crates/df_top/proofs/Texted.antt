@@ -26,7 +26,7 @@ use Rattle.df_pace.proofs.Laws.{idle_law}
 use Rattle.df_session.specs.Begun.{begun_work}
 use Rattle.df_session.specs.Below.{DataFile, IsOpened, State as Replica, shape}
 use Rattle.df_session.specs.Reading.{shown_of}
-use Rattle.df_session.proofs.Laws.{file_there, layout_there, one_super, same_file, super_shown, view_there}
+use Rattle.df_session.proofs.Laws.{file_there, layout_there, one_super, same_file, super_shown, view_there, agree_self}
 use Rattle.df_session.specs.Below.{AgreeShown, codec}
 use Rattle.df_session.specs.Found.{FoundFile}
 use Rattle.df_top.specs.Lines.{Failing, Turned, act_of, all_said, all_text, command_of, printed, said_of}
@@ -163,9 +163,6 @@ module _ (pace : Pace) (layout : Layout) (t : Told) (old new : Outside) (status 
           ∙ ap (λ (n : ℕ). text_over pace file shown w says ++ script_text (n + 1)) count ∙ ends.text_is (length says) (text_over pace file shown w says) in
           (cut ∙ ends.status_is, subst Prints line (written_new (all_text turns ++ script_text (length (all_said turns) + 1)) wrote))
     ]
-
-pub agree_self : (layout : Layout) (shown : Shown) → AgreeShown layout shown shown
-agree_self layout shown = record { units = record { prepare = λ k. refl; reply = λ k. refl; block = λ k. refl }; classes = λ place read none. refl }
 
 pub text_is_result : TextIsResult
 text_is_result pace layout t old new status opening serves view text says script found left is =

@@ -12,7 +12,6 @@ use Rattle.df_model.specs.Work.{Tour, first_tour}
 use Rattle.df_model.specs.declared.answers.Scrubbed.{Scrubbed}
 use Rattle.df_model.specs.declared.answers.Scrubbed.TheVariants.{Checked, TourEnd}
 use Rattle.df_model.specs.declared.answers.Verdict.{Verdict}
-use Rattle.df_model.specs.declared.answers.Verdict.TheVariants.{Sound, Failing}
 use Rattle.df_session.specs.Below.{ScrubState, State as Replica}
 use Rattle.df_script_model.specs.Texts.{scrubbed_text}
 use Rattle.df_session.specs.Scrubbing.{IsScrub, scrub_of, with_scrub}
@@ -24,7 +23,7 @@ use Rattle.df_top.specs.declared.turns.Turn.{Turn}
 use Rattle.df_top.specs.declared.turns.Turn.TheVariants.{Ends, GoesOn}
 use Rattle.df_top.specs.Turning.{BlamesIfEnds}
 use Rattle.df_telling.proofs.Laws.{no_blame}
-use Rattle.df_model.proofs.Laws.{above, all_above}
+use Rattle.df_model.proofs.Laws.{above, all_above, put_first}
 use Rattle.df_top.proofs.Checks.{IsChecked, IsEnded, IsStepOf, check_counts, check_fails, checked, ended, failing_of, left_of, referenced, referenced_rise}
 
 -- ---- what is printed
@@ -32,10 +31,6 @@ use Rattle.df_top.proofs.Checks.{IsChecked, IsEnded, IsStepOf, check_counts, che
 texts_join : (xs ys : List Finding) → failing_texts (xs ++ ys) ≡ failing_texts xs ++ failing_texts ys
 texts_join [] ys = refl
 texts_join (x ∷ xs) ys = ap (λ (l : List ℕ). failing_text x ++ l) (texts_join xs ys) ∙ sym (append_assoc (failing_text x) (failing_texts xs) (failing_texts ys))
-
-put_first : (a : ℕ) (v : Verdict) (rest : List Finding) → with_finding a v rest ≡ with_finding a v [] ++ rest
-put_first a Sound rest = refl
-put_first a (Failing class) rest = refl
 
 -- ---- the tour
 

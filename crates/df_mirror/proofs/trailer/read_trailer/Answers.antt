@@ -7,8 +7,9 @@ use Rattle.df_sessions.specs.Table.{Table}
 use Rattle.df_mirror.specs.declared.ending.Ending.{Ending}
 use Rattle.df_mirror.specs.Trailers.{empty_grid}
 use Rattle.df_sessions.specs.declared.session.Session.{Session}
+use Rattle.df_checkpoint.proofs.Laws.{pending_of}
 use Rattle.df_mirror.specs.Walks.{HasText, ReadsText, units_of}
-use Rattle.df_mirror.proofs.Trailers.{grid_is, no_text, pending_of, text_refused, text_untracked}
+use Rattle.df_mirror.proofs.Trailers.{grid_is, no_text, text_refused, text_untracked}
 use Rattle.df_mirror.proofs.trailer.read_trailer.Goals as goal
 
 pub returns-then-fields-eq0-clause-reads : goal.returns-then-fields-eq0-clause-reads

@@ -6,13 +6,13 @@ use Rattle.df_model.specs.declared.answers.Summary.{Summary}
 use Rattle.df_rows.specs.Limits as limits
 use Rattle.df_session.specs.Below.{State as Replica}
 use Rattle.df_session.specs.Reading.{shown_of}
-use Rattle.df_session.proofs.Laws.{opened_agrees}
+use Rattle.df_session.proofs.Laws.{opened_agrees, agree_self}
 use Rattle.df_table.specs.declared.status.Status.TheVariants as status
 use Rattle.df_table.specs.Outside.{Blames, Outside}
 use Rattle.df_table.specs.Run.{Does}
 use Rattle.df_table.specs.Table.{empty_table}
 use Rattle.df_table.proofs.Refused.{not_found, refused_causes, refused_never}
-use Rattle.df_table.proofs.Served.{agree_self, begun, does}
+use Rattle.df_table.proofs.Served.{begun, does}
 use Rattle.df_table.proofs.serving.serve_table.Goals as goal
 
 -- ---- it is opened
