@@ -124,9 +124,6 @@ begin_refusals m needed root =
     ∷ (m.content.sequence == 2 ^ 62, begin.SequenceSpent)
     ∷ []
 
-abbrev pub step_refusals : Memory → List (Bool × StepError)
-step_refusals m = (not (is_running m.running), step.NotRunning) ∷ []
-
 abbrev pub prepare_refusals : Memory → (op : ℕ) → List (Bool × PrepareError)
 prepare_refusals m op = (not (nat_lt m.content.op op && nat_le op m.head), prepare.NotKept (m.content.op + 1) m.head) ∷ []
 

@@ -97,15 +97,6 @@ sector_puts table sectors = map (sector_put table) sectors
 abbrev pub mending_steps : Layout → List Header → List Mend → SuperFields → List Bool → List Step
 mending_steps layout table mends f members = mend_steps (sector_puts table (sectors_of layout mends)) (repaired f 0 members)
 
--- the file is of version 2, the log rests on a view, and with this table and this list it may be mended
-pub record MayMendOn (file : DataFile) (table : List Header) (mends : List Mend) (f : SuperFields) (members : List Bool) (t : Told) : Type 0 where
-  pub version : file.version ≡ 2
-  pub grade : Grade
-  pub view : View
-  pub is_log : IsLog t.log
-  pub standing : StandingFor grade (units_log (format file) t.log) view
-  pub may : MayMend (shape file) (units_log (format file) t.log) view (headers_in table) (sector_puts table (sectors_of file.layout mends)) (repaired f 0 members)
-
 -- the file is tidy, with the view, and its header ring shows the table; by the grade the referenced blocks stand, too
 pub record IsMended (g : Grade) (file : DataFile) (view : View) (table : List Header) (t : Told) : Type 0 where
   pub tidy : IsTidy (shape file) (units_log (format file) t.log) view

@@ -58,9 +58,6 @@ pub record IsLayoutOf (layout : Layout) (f : SuperFields) : Type 0 where
 
 -- ---- where version 2 is asked for, as an open does
 
-abbrev pub HasFault : Image → SuperFault → Type 0
-HasFault image fault = HasFaultAs 2 image fault
-
 abbrev pub HasSuper : Image → SuperFields → Type 0
 HasSuper image f = HasSuperAs 2 image f
 

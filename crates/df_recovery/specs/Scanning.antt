@@ -182,8 +182,5 @@ pub record IsScanAs (version : ℕ) (layout : Layout) (told : Option Told) (s : 
 
 -- ---- where version 2 is asked for, as an open does
 
-abbrev pub TellsRead : {T : Type 0} → (T → Found) → Layout → Option Told → Result T OpenError → Type 0
-TellsRead found layout told result = TellsReadAs 2 found layout told result
-
 abbrev pub IsScan : Layout → Option Told → Scanned → Type 0
 IsScan layout told s = IsScanAs 2 layout told s

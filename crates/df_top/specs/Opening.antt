@@ -26,10 +26,6 @@ pub record IsRefusedForAs (version : ℕ) (layout : Layout) (image : Image) (err
 abbrev pub IsRefusedFor : Layout → Image → OpenError → Type 0
 IsRefusedFor layout image error = IsRefusedForAs 2 layout image error
 
--- the same with rooms of its own layout, which the superblock names where it can be used
-abbrev pub RefusesImage : Image → OpenError → Type 0
-RefusesImage image error = Refuses image error ⊎ ((layout : Layout) × IsLayoutShown image layout × IsRefusedFor layout image error)
-
 -- the refusal's line is printed, and nothing is read of the source
 pub record PrintsRefusal (error : OpenError) (old new : Outside) (status : Status) : Type 0 where
   pub prints : PrintsLine (open_refusal error) Refused old.written new.written status
