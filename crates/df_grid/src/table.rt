@@ -77,13 +77,6 @@ impl Table {
         (free, checks, marks)
     }
 
-    /// How many addresses there are.
-    pub(crate) fn size(&self) -> u64
-        ensures { result ≡ self.now.size }
-    {
-        self.entries.len()
-    }
-
     /// How many blocks the durable checkpoint references.
     pub(crate) fn references(&self) -> u64
         ensures { result ≡ length self.now.blocks.durable }
@@ -163,13 +156,6 @@ impl Table {
         ensures inside { IfSome result (λ a. (1 ≤ a) × (a ≤ self.now.size)) }
     {
         self.left.first().copied()
-    }
-
-    /// How many blocks of the running trailer are written.
-    pub(crate) fn written(&self) -> u64
-        ensures { result ≡ length self.now.blocks.written }
-    {
-        self.written.len() as u64
     }
 
     /// The block of the running trailer that was written last, None where there is none.

@@ -13,11 +13,3 @@ is_cut_off top h = nat_lt 0 h.boot && ((h.group == top + 1) && (nat_lt h.group h
 -- the op of a prepare that binds the head, where it may be this one: 0 of one that was cut off, and of one of another boot
 abbrev pub binding_op : ℕ → ℕ → Header → ℕ
 binding_op boot top h = if is_cut_off top h then 0 else in_boot boot (λ x. x.op) h
-
--- none of these headers of this boot has an op above the head
-abbrev pub NoneTold : ℕ → ℕ → List FileHeader → Type 0
-NoneTold boot top headers = (k : ℕ) (h : FileHeader) → slice_get headers k ≡ Some h → h.boot ≡ boot → h.op ≤ top
-
--- and of these prepares none, but for those that were cut off with their group
-abbrev pub NoneBound : ℕ → ℕ → List FileHeader → Type 0
-NoneBound boot top prepares = (k : ℕ) (h : FileHeader) → slice_get prepares k ≡ Some h → h.boot ≡ boot → BindsHead top (header_of h)

@@ -8,7 +8,7 @@ mod groups;
 mod reach;
 mod words;
 
-pub use cut::{any_binds, any_tells, binding_op};
+pub use cut::binding_op;
 pub use fits::goes_on;
 pub use groups::{Position, Tail, empty_tail, position_behind, position_of};
 pub use reach::{Reach, keep_whole, reach_of};
