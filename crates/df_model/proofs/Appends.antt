@@ -1,5 +1,5 @@
 -- An append.
-use Rattle.std.proofs.Common.{◌≡◌, inl, inr, ℕ, ◌+◌, ◌<◌, ◌≤◌, nat_lt, true, false, if◌then◌else◌, List, [], ◌∷◌, ◌++◌, length, take, Option, Some, None, refl, sym, ◌∙◌, ap, subst, arith, length-append, ltb-false, eqb-true}
+use Rattle.std.proofs.Common.{◌≡◌, inl, inr, ℕ, ◌+◌, ◌<◌, ◌≤◌, nat_lt, true, false, List, [], ◌∷◌, ◌++◌, length, take, Option, Some, None, refl, sym, ◌∙◌, ap, subst, arith, length-append, ltb-false, eqb-true}
 use Rattle.std.specs.Prelude.{◌-◌, ◌^◌}
 use Rattle.std.proofs.lemmas.List.{take-append-le}
 use Rattle.std.proofs.lemmas.Bool.{or_parts, not-false, eqb-false}
@@ -13,17 +13,17 @@ use Rattle.df_theory.proofs.Laws.{in_either, in_single, sessions-append, append_
 use Rattle.df_model.specs.Work.{Request, Running, Work}
 use Rattle.df_model.specs.Codec.{AreLawful}
 use Rattle.df_model.specs.Refusals.{append_refusals, first_refusal, is_new, is_staged, last_op, next_request, request_refusals, session_of_client}
-use Rattle.df_model.specs.After.{with_prepare}
-use Rattle.df_model.specs.Sense.{AreStaged, AreWaiting, IsCapture, IsWork}
+use Rattle.df_model.specs.After.{with_group}
+use Rattle.df_model.specs.Sense.{AreWaiting, IsCapture, IsWork}
 use Rattle.df_model.specs.Laws.{AppendMayLaw}
 use Rattle.df_model.specs.declared.errors.AppendError.TheVariants as append
 use Rattle.df_model.proofs.Captures.{capture_on}
 use Rattle.df_model.proofs.Tests.{get_front, get_last, all_pass, pass_both}
 use Rattle.df_model.proofs.Groups.{nothing_staged}
-use Rattle.df_model.proofs.Knows.{append_knows, one_fewer}
+use Rattle.df_model.proofs.Knows.{group_knows, one_fewer}
 use Rattle.df_model.proofs.Sessions.{known_asks, new_asks, noted_lawful}
 use Rattle.df_model.specs.Memory.{Memory, memory_of}
-use Rattle.df_model.specs.Making.{prepare_of, prepares_in}
+use Rattle.df_model.specs.Making.{prepare_of}
 
 -- what is known of a request that isn't refused
 pub record IsAllowed (m : Memory) (client request : ℕ) (session : Option Session) : Type 0 where
@@ -69,21 +69,22 @@ no_requests : (rs : List Request) → (nat_lt 0 (length rs)) ≡ false → rs �
 no_requests [] none = refl
 no_requests (r ∷ rs) none = absurd (omega (arith, ltb-false 0 (length (r ∷ rs)) none))
 
+-- an append isn't refused: neither is its request, and nothing is staged
+pub both_pass : (m : Memory) (client request : ℕ) (body : List ℕ) → first_refusal (append_refusals m client request body) ≡ None → (first_refusal (request_refusals m client request body) ≡ None) × (m.staged ≡ [])
+both_pass m client request body none =
+    let tests = (is_staged m, append.Staged (length m.staged)) ∷ [] in
+    let both = pass_both (request_refusals m client request body) tests none in
+    (both.0, no_requests m.staged (all_pass tests both.1).0)
+
 module _ (sh : Shape) (spell : Parts → List ℕ) (w : Work) (sum client request : ℕ) (body : List ℕ) (work : IsWork sh spell w) (none : first_refusal (append_refusals (memory_of sh spell w) client request body) ≡ None) where
   abbrev v : View
   v = w.view
-
-  both : (first_refusal (request_refusals (memory_of sh spell w) client request body) ≡ None) × ((if is_staged (memory_of sh spell w) then Some (append.Staged (length w.staged)) else None) ≡ None)
-  both = pass_both (request_refusals (memory_of sh spell w) client request body) ((is_staged (memory_of sh spell w), append.Staged (length w.staged)) ∷ []) none
-
-  unstaged : w.staged ≡ []
-  unstaged = no_requests w.staged (all_pass ((is_staged (memory_of sh spell w), append.Staged (length w.staged)) ∷ []) both.1).0
 
   abbrev p : Message
   p = prepare_of (memory_of sh spell w) sum client request body
 
   is : IsAllowed (memory_of sh spell w) client request (session_of_client client (sessions v))
-  is = allowed (memory_of sh spell w) client request body both.0
+  is = allowed (memory_of sh spell w) client request body (both_pass (memory_of sh spell w) client request body none).0
 
   asks : MayAsk sh.layout.clients p.header (sessions v)
   asks = allowed_asks (memory_of sh spell w) p.header body work.sessions.few (omega arith) is
@@ -130,24 +131,18 @@ module _ (sh : Shape) (spell : Parts → List ℕ) (w : Work) (sum client reques
       (λ q at low. elim (in_either q v.tail (p ∷ []) at) [ inl before ↦ old.ends q before low | inr new ↦ absurd (omega (arith, ap (λ (x : Message). x.header.op) (in_single q p new), old.op_to)) ])
       (omega (arith, old.op_to, head_is))
 
-  -- nothing is staged after it
-  staged : client < 2 ^ 128 → (rs : List Request) → rs ≡ [] → AreStaged sh (appended v (p ∷ [])) (prepares_in (memory_of sh spell (with_prepare w p)) (head (appended v (p ∷ [])) + 1) (head (appended v (p ∷ [])) + length rs) (head (appended v (p ∷ [])) + 1) (memory_of sh spell (with_prepare w p)).head_checksum rs [])
-  staged fits rs none =
-      let top = head (appended v (p ∷ [])) in
-      let m = memory_of sh spell (with_prepare w p) in
-      subst (λ (qs : List Request). AreStaged sh (appended v (p ∷ [])) (prepares_in m (top + 1) (top + length qs) (top + 1) m.head_checksum qs [])) (sym none) (nothing_staged sh (appended v (p ∷ [])) (append_sound sh v (p ∷ []) work.view may_append) (lawful fits))
-
-  pub append_keeps : client < 2 ^ 128 → IsWork sh spell (with_prepare w p)
+  -- a group of one
+  pub append_keeps : client < 2 ^ 128 → IsWork sh spell (with_group w (p ∷ []))
   append_keeps fits = record {
     codec = work.codec;
     version = record { version = work.version.version; places = work.version.places; names = work.version.names };
     view = append_sound sh v (p ∷ []) work.view may_append;
-    staged = staged fits w.staged unstaged;
+    staged = nothing_staged sh (appended v (p ∷ [])) (append_sound sh v (p ∷ []) work.view may_append) (lawful fits);
     sessions = lawful fits;
     grid = work.grid;
     waiting = waiting;
     running = λ r at. capture r (work.running r at);
-    one = one_fewer w (with_prepare w p) (append_knows w p) work.one;
+    one = one_fewer w (with_group w (p ∷ [])) (group_knows w (p ∷ [])) work.one;
     sums = work.sums;
     few = work.few;
     clear = work.clear;

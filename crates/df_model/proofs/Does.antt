@@ -1,5 +1,5 @@
 -- What each command does to the device leads on.
-use Rattle.std.proofs.Common.{◌≡◌, inl, inr, ℕ, ◌+◌, ◌==◌, Bool, true, false, if◌then◌else◌, List, [], ◌∷◌, length, Option, Some, None, refl, sym, ◌∙◌, ap, subst, arith}
+use Rattle.std.proofs.Common.{◌≡◌, inl, inr, ℕ, ◌+◌, ◌==◌, Bool, true, false, if◌then◌else◌, List, [], ◌∷◌, Option, Some, None, refl, sym, ◌∙◌, ap, subst, arith}
 use Rattle.df_theory.specs.Units.{Block, BlockPlace, BlockUnit, Content, CopyPlace, CopyUnit, Parts, Units, overlay}
 use Rattle.df_theory.specs.Trailer.{InChain}
 use Rattle.df_theory.specs.Shape.{Shape}
@@ -10,20 +10,22 @@ use Rattle.df_theory.specs.CopyPuts.{PutsCopies}
 use Rattle.df_theory.specs.WholeLaws.{IsStanding}
 use Rattle.df_theory.proofs.Laws.{put_else, tidy_block_law, tidy_finish_law}
 use Rattle.df_model.specs.Work.{Running, Work}
-use Rattle.df_model.specs.Memory.{memory_of}
+use Rattle.df_model.specs.Memory.{Memory, memory_of}
 use Rattle.df_model.specs.Blocks.{addresses}
-use Rattle.df_model.specs.Making.{block_of, group_of, needed_of, next_address, place_of_reply, prepare_of, reply_of}
-use Rattle.df_model.specs.Refusals.{append_refusals, begin_refusals, block_refusals, first_refusal, flush_refusals, release_refusals, reply_refusals, stage_refusals}
-use Rattle.df_model.specs.After.{after_check, after_running, after_step_of, begun, checkpoint_of, next_trailer, outcome, to_check, with_group, with_live, with_prepare, with_reply, with_running, with_staged, with_trailer_block}
-use Rattle.df_model.specs.Commands.{Advance, Append, Begin, Flush, ReadBlock, ReadPrepare, ReadReply, Recent, Release, Reply, Scrub, Stage, WriteBlock, supplied_sum, supplied_sums, supplied_verdict}
+use Rattle.df_model.specs.Making.{block_of, next_address}
+use Rattle.df_model.specs.Refusals.{append_refusals, block_refusals, first_refusal, flush_refusals, reply_refusals}
+use Rattle.df_model.specs.After.{begun, checkpoint_of, finished, next_trailer, with_live, with_running, with_trailer_block}
+use Rattle.df_model.specs.Change.{Appends, Begins, Change, Checks, Ends, LetsGo, Lives, One, Replies, Staged, Stages, Stays, TourEnds, Writes}
+use Rattle.df_model.specs.Commands.{Command, Given, IsInput, after, supplied_sum, supplied_sums, supplied_verdict}
 use Rattle.df_model.specs.Sense.{AtEachOf, IsBacked, IsClear, IsSpare, RiseFrom, ShowsOwnBlock, ShowsWritten}
-use Rattle.df_model.specs.Laws.{CommandLaw, DoesAdvance, DoesAdvanceTo, DoesAppend, DoesBlock, DoesFinish, DoesFlush, DoesReply, IsKeptBy, UnlessRefused}
+use Rattle.df_model.specs.Laws.{CommandLaw, Does, DoesAdvance, DoesAdvanceTo, DoesBlock, DoesFinish, IsKeptBy, UnlessRefused}
 use Rattle.df_model.proofs.Entries.{entry_in}
 use Rattle.df_model.proofs.Blocks.{first_small, kind_some, next_free, release_keeps}
 use Rattle.df_model.proofs.Finishes.{finish_keeps, may_finish}
 use Rattle.df_model.proofs.Staging.{stage_keeps}
 use Rattle.df_model.proofs.Writing.{Both, SameBlocks, append_on, block_else, block_on, flush_on, idle, own_same, put_at, reply_on, stay}
-use Rattle.df_model.proofs.Keeps.{begin_keeps, check_keeps, check_live, check_running, check_view, trailer_keeps}
+use Rattle.df_model.proofs.OneThing.{one_thing_law}
+use Rattle.df_model.proofs.Keeps.{IsTour, begin_keeps, check_tours, end_tours, trailer_keeps}
 
 -- ---- the steps of a checkpoint
 
@@ -99,10 +101,10 @@ four_copies image c puts a =
     other_copy puts.put3 image2 3 c puts.one3 a ∙ other_copy puts.put2 image1 2 c puts.one2 a ∙ other_copy puts.put1 image0 1 c puts.one1 a ∙ other_copy puts.put0 image 0 c puts.one0 a
 
 finish_on : (sh : Shape) (spell : Parts → List ℕ) (log : UnitLog) (w : Work) (sum : ℕ) (r : Running) (steps : List Step) → IsKeptBy sh spell log w → w.running ≡ Some r → r.left ≡ []
-    → DoesFinish w.view (checkpoint_of sh spell w r sum) steps → Both sh spell log w (after_running sh spell w sum r []).0 steps
+    → DoesFinish w.view (checkpoint_of sh spell w r sum) steps → Both sh spell log w (finished sh spell w r sum) steps
 finish_on sh spell log w sum r steps keeps at done does =
     let c : Checkpoint = checkpoint_of sh spell w r sum in
-    let u = (after_running sh spell w sum r []).0 in
+    let u = finished sh spell w r sum in
     let on = tidy_finish_law sh log w.view c does.puts keeps.tidy (may_finish sh spell w r sum keeps.sense (keeps.sense.running r at) done) (keeps.written r at) in
     let same = four_copies (now log) c.content does.puts in
     let later = overlay does.puts.put3 (overlay does.puts.put2 (overlay does.puts.put1 (overlay does.puts.put0 (now log)))) in
@@ -122,15 +124,10 @@ finish_on sh spell log w sum r steps keeps at done does =
 
 -- ---- all of them
 
-outcome_does : {E A : Type 0} (sh : Shape) (spell : Parts → List ℕ) (log : UnitLog) (o : Option E) (w u : Work) (a : A) (steps : List Step) (Done : Type 0) → IsKeptBy sh spell log w → (o ≡ None → Done → Both sh spell log w u steps) → UnlessRefused o steps Done
-    → Both sh spell log w (outcome o w u a).0 steps
-outcome_does sh spell log (Some e) w u a steps Done keeps more does = stay sh spell log w steps keeps does
-outcome_does sh spell log None w u a steps Done keeps more does = more refl does
-
--- what does nothing, whether it is refused or not
-outcome_idle : {E A : Type 0} (sh : Shape) (spell : Parts → List ℕ) (log : UnitLog) (o : Option E) (w u : Work) (a : A) (steps : List Step) → IsKeptBy sh spell log w → (o ≡ None → Both sh spell log w u steps) → steps ≡ [] → Both sh spell log w (outcome o w u a).0 steps
-outcome_idle sh spell log (Some e) w u a steps keeps more none = stay sh spell log w steps keeps none
-outcome_idle sh spell log None w u a steps keeps more none = more refl
+-- what isn't refused is done
+done : {E : Type 0} (o : Option E) (steps : List Step) (Done : Type 0) → o ≡ None → UnlessRefused o steps Done → Done
+done (Some e) steps Done none does = absurd (cc)
+done None steps Done none does = does
 
 released : (log : UnitLog) (w : Work) (a : ℕ) → IsBacked log w → IsBacked log (with_live w a None)
 released log w a backed = record { standing = backed.standing; live = λ k c is. go k c (k == a) is; captured = backed.captured }
@@ -161,56 +158,32 @@ checked log w u view live running backed = record {
   captured = λ r at a c is. backed.captured r (sym running ∙ at) a c is;
 }
 
-advance_on : (sh : Shape) (spell : Parts → List ℕ) (log : UnitLog) (w : Work) (sum : ℕ) (steps : List Step) → IsKeptBy sh spell log w → DoesAdvance sh spell w sum w.running steps → Both sh spell log w (after_step_of sh spell w sum w.running).0 steps
-advance_on sh spell log w sum steps keeps does = go w.running refl does
-  where
-    to : (r : Running) (l : List ℕ) → w.running ≡ Some r → r.left ≡ l → DoesAdvanceTo sh spell w sum r l steps → Both sh spell log w (after_running sh spell w sum r l).0 steps
-    to r [] at left done = finish_on sh spell log w sum r steps keeps at left done
-    to r (a ∷ more) at left done = trailer_on sh spell log w sum r a more steps keeps at left done
+module _ (sh : Shape) (spell : Parts → List ℕ) (log : UnitLog) (w : Work) (given : Given) (steps : List Step) (keeps : IsKeptBy sh spell log w) where
+  abbrev m : Memory
+  m = memory_of sh spell w
 
-    go : (o : Option Running) → w.running ≡ o → DoesAdvance sh spell w sum o steps → Both sh spell log w (after_step_of sh spell w sum o).0 steps
-    go None at done = stay sh spell log w steps keeps done
-    go (Some r) at done = to r r.left at refl done
+  advances : (r : Running) (l : List ℕ) → w.running ≡ Some r → r.left ≡ l → DoesAdvance sh spell w (supplied_sum given) w.running steps → DoesAdvanceTo sh spell w (supplied_sum given) r l steps
+  advances r l at left does = subst (λ (k : List ℕ). DoesAdvanceTo sh spell w (supplied_sum given) r k steps) left (subst (λ (o : Option Running). DoesAdvance sh spell w (supplied_sum given) o steps) at does)
+
+  tours : (u : Work) → IsTour sh spell w u → steps ≡ [] → Both sh spell log w u steps
+  tours u tour none = idle sh spell log w u steps tour.view keeps (tour.keeps keeps.sense) (λ r at. keeps.written r (sym tour.running ∙ at)) (checked log w u tour.view tour.live tour.running) none
+
+  -- what is done to the device leads to the state after the change
+  does_change : (c : Command) (u : Work) → IsInput given c → Change sh spell w given c u → Does sh spell (now log) w given c steps → Both sh spell log w u steps
+  does_change c u input (Stays _ idles) does = stay sh spell log w steps keeps (idles (now log) steps does)
+  does_change c u input (Appends _ ps (One client request body none staged)) does =
+      append_on sh spell log w (supplied_sum given) client request body steps input.fields keeps none (done (first_refusal (append_refusals m client request body)) steps _ none does)
+  does_change c u input (Appends _ ps (Staged none)) does = flush_on sh spell log w (supplied_sums given) steps keeps none (done (first_refusal (flush_refusals m)) steps _ none does)
+  does_change c u input (Stages client request body none) does = idle sh spell log w u steps refl keeps (stage_keeps sh spell w client request body keeps.sense none input.fields) keeps.written (checked log w u refl refl refl) does
+  does_change c u input (Replies op body none) does = reply_on sh spell log w (supplied_sum given) op body steps keeps none (done (first_refusal (reply_refusals m op body)) steps _ none does)
+  does_change c u input (Lives kind body none) does =
+      block_on sh spell log w (next_address m) (block_of m.content.boot (supplied_sum given) kind body) steps (first_small (supplied_sums given) input.checksums) (kind_some sh spell w kind body none) keeps (next_free sh spell w kind body none) (done (first_refusal (block_refusals m kind body)) steps _ none does)
+  does_change c u input (LetsGo address none) does = idle sh spell log w u steps refl keeps (release_keeps sh spell w address keeps.sense) keeps.written (released log w address) does
+  does_change c u input (Begins root none) does = idle sh spell log w u steps refl keeps (begin_keeps sh spell w root input.fields keeps.sense none) (begun_written sh spell (now log) w root) (begun_backed sh spell log w root) does
+  does_change c u input (Writes r a more at left) does = trailer_on sh spell log w (supplied_sum given) r a more steps keeps at left (advances r (a ∷ more) at left does)
+  does_change c u input (Ends r at left) does = finish_on sh spell log w (supplied_sum given) r steps keeps at left (advances r [] at left does)
+  does_change c u input (Checks x more is) does = tours u (check_tours sh spell w x.0 (supplied_verdict given)) does
+  does_change c u input (TourEnds is) does = tours u (end_tours sh spell w) does
 
 pub command_law : CommandLaw
-command_law sh spell log w given (Append client request body) steps input keeps does =
-    let p = prepare_of (memory_of sh spell w) (supplied_sum given) client request body in
-    outcome_does sh spell log (first_refusal (append_refusals (memory_of sh spell w) client request body)) w (with_prepare w p) (p.header.op, supplied_sum given) steps (DoesAppend sh (now log) w.view p steps) keeps
-    (λ none done. append_on sh spell log w (supplied_sum given) client request body steps input.fields keeps none done) does
-command_law sh spell log w given (Stage client request body) steps input keeps does =
-    let m = memory_of sh spell w in
-    let u = with_staged w (record { client = client; request = request; body = body }) in
-    outcome_idle sh spell log (first_refusal (stage_refusals m client request body)) w u (m.head + length m.staged + 1) steps keeps
-    (λ none. idle sh spell log w u steps refl keeps (stage_keeps sh spell w client request body keeps.sense none input.fields) keeps.written (checked log w u refl refl refl) does) does
-command_law sh spell log w given Flush steps input keeps does =
-    let m = memory_of sh spell w in
-    let ps = group_of m (supplied_sums given) in
-    outcome_does sh spell log (first_refusal (flush_refusals m)) w (with_group w ps) (length m.staged) steps (DoesFlush sh (now log) w.view ps steps) keeps
-    (λ none done. flush_on sh spell log w (supplied_sums given) steps keeps none done) does
-command_law sh spell log w given (Reply op body) steps input keeps does =
-    let place = place_of_reply (memory_of sh spell w) in
-    let r = reply_of (memory_of sh spell w) (supplied_sum given) body in
-    outcome_does sh spell log (first_refusal (reply_refusals (memory_of sh spell w) op body)) w (with_reply w place r) (supplied_sum given) steps (DoesReply w.view place r steps) keeps
-    (λ none done. reply_on sh spell log w (supplied_sum given) op body steps keeps none done) does
-command_law sh spell log w given (WriteBlock kind body) steps input keeps does =
-    let a = next_address (memory_of sh spell w) in
-    outcome_does sh spell log (first_refusal (block_refusals (memory_of sh spell w) kind body)) w (with_live w a (Some (supplied_sum given))) (a, supplied_sum given) steps (DoesBlock w.view a (block_of (memory_of sh spell w).content.boot (supplied_sum given) kind body) steps) keeps
-    (λ none done. block_on sh spell log w a (block_of (memory_of sh spell w).content.boot (supplied_sum given) kind body) steps (first_small (supplied_sums given) input.checksums) (kind_some sh spell w kind body none) keeps (next_free sh spell w kind body none) done) does
-command_law sh spell log w given (Release address) steps input keeps does =
-    outcome_idle {A = Unit {0}} sh spell log (first_refusal (release_refusals (memory_of sh spell w) address)) w (with_live w address None) tt steps keeps
-    (λ none. idle sh spell log w (with_live w address None) steps refl keeps (release_keeps sh spell w address keeps.sense) keeps.written (released log w address) does) does
-command_law sh spell log w given (Begin root) steps input keeps does =
-    let needed = needed_of spell (memory_of sh spell w) root in
-    let u = with_running w (Some (begun sh spell w root)) in
-    outcome_idle sh spell log (first_refusal (begin_refusals (memory_of sh spell w) needed root)) w u needed steps keeps
-    (λ none. idle sh spell log w u steps refl keeps (begin_keeps sh spell w root input.fields keeps.sense none) (begun_written sh spell (now log) w root) (begun_backed sh spell log w root) does) does
-command_law sh spell log w given Advance steps input keeps does = advance_on sh spell log w (supplied_sum given) steps keeps does
-command_law sh spell log w given (ReadPrepare op) steps input keeps does = stay sh spell log w steps keeps does
-command_law sh spell log w given (ReadReply client) steps input keeps does = stay sh spell log w steps keeps does
-command_law sh spell log w given (ReadBlock address) steps input keeps does = stay sh spell log w steps keeps does
-command_law sh spell log w given Scrub steps input keeps does =
-    let xs = to_check (memory_of sh spell w) in
-    let u = (after_check w (supplied_verdict given) xs).0 in
-    idle sh spell log w u steps (check_view w (supplied_verdict given) xs) keeps (check_keeps sh spell w (supplied_verdict given) xs keeps.sense) (λ r at. keeps.written r (sym (check_running w (supplied_verdict given) xs) ∙ at))
-    (checked log w u (check_view w (supplied_verdict given) xs) (check_live w (supplied_verdict given) xs) (check_running w (supplied_verdict given) xs)) does
-command_law sh spell log w given Recent steps input keeps does = stay sh spell log w steps keeps does
+command_law sh spell log w given c steps input keeps does = does_change sh spell log w given steps keeps c (after sh spell w given c).0 input (one_thing_law sh spell w given c) does

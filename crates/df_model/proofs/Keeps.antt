@@ -17,10 +17,11 @@ use Rattle.df_theory.specs.View.{View, head, sessions}
 use Rattle.df_theory.specs.Holds.{Sound}
 use Rattle.df_theory.specs.Next.{Append, Finish, Next, Reply, Same}
 use Rattle.df_theory.proofs.Laws.{chain_ops}
-use Rattle.df_model.specs.Work.{Running, Work, checksum_of, is_captured, is_in, is_known, is_of, opened, waiting_checksum}
+use Rattle.df_model.specs.Work.{Running, Tour, Work, first_tour, checksum_of, is_captured, is_in, is_known, is_of, opened, waiting_checksum}
 use Rattle.df_model.specs.Codec.{AreBytes, AreLawful, IsCodec, IsLawful}
-use Rattle.df_model.specs.Refusals.{append_refusals, begin_refusals, block_refusals, first_refusal, flush_refusals, release_refusals, reply_refusals, stage_refusals}
-use Rattle.df_model.specs.After.{newest, with_running, next_trailer, after_check, after_running, after_step_of, begun, checkpoint_of, outcome, to_check, with_group, with_live, with_prepare, with_reply, with_staged, with_trailer_block}
+use Rattle.df_model.specs.Refusals.{begin_refusals, first_refusal}
+use Rattle.df_model.specs.After.{newest, with_running, next_trailer, begun, checkpoint_of, with_trailer_block, with_verdict}
+use Rattle.df_model.specs.Change.{Appends, Begins, Change, Checks, Ends, LetsGo, Lives, One, Replies, Staged, Stages, Stays, TourEnds, Writes}
 use Rattle.df_model.specs.Sense.{AtEachOf, IsCapture, IsClear, IsWork}
 use Rattle.df_model.specs.declared.answers.Verdict.{Verdict}
 use Rattle.df_model.specs.declared.answers.Verdict.TheVariants.{Sound as IsFine, Failing}
@@ -37,8 +38,9 @@ use Rattle.df_model.proofs.Steps.{begin_capture, step_capture}
 use Rattle.df_model.proofs.Finishes.{finish_keeps, is_finish}
 use Rattle.df_model.proofs.Recording.{get_range}
 use Rattle.df_model.specs.Memory.{free_of, memory_of}
-use Rattle.df_model.specs.Making.{group_of, needed_of, next_address, place_of_reply, prepare_of, reply_of}
-use Rattle.df_model.specs.Commands.{Advance, Append as ToAppendOf, Begin, Flush, ReadBlock, ReadPrepare, ReadReply, Recent, Release, Reply as ToReplyOf, Scrub, Stage, WriteBlock, supplied_sum, supplied_sums, supplied_verdict}
+use Rattle.df_model.specs.Making.{needed_of, next_address, place_of_reply, reply_of}
+use Rattle.df_model.specs.Commands.{Command, Given, IsInput, after, supplied_sum, supplied_sums, supplied_verdict}
+use Rattle.df_model.proofs.OneThing.{one_thing_law}
 
 -- ---- a begin
 
@@ -108,100 +110,73 @@ trailer_keeps sh spell w sum r a more work at left =
 pub newest_few : (fs : List Finding) → length (newest fs) ≤ 64
 newest_few fs = omega (arith, length-drop (length fs - 64) fs)
 
-pub check_keeps : (sh : Shape) (spell : Parts → List ℕ) (w : Work) (verdict : Verdict) (xs : List (ℕ × ℕ)) → IsWork sh spell w → IsWork sh spell (after_check w verdict xs).0
-check_keeps sh spell w verdict [] work = record { codec = work.codec; version = work.version; view = work.view; sessions = work.sessions; grid = work.grid; waiting = work.waiting; staged = work.staged; running = work.running; one = scrub_one w (after_check w verdict []).0 refl refl refl work.one; sums = work.sums; few = work.few; clear = work.clear }
-check_keeps sh spell w IsFine (a ∷ more) work = record { codec = work.codec; version = work.version; view = work.view; sessions = work.sessions; grid = work.grid; waiting = work.waiting; staged = work.staged; running = work.running; one = scrub_one w (after_check w IsFine (a ∷ more)).0 refl refl refl work.one; sums = work.sums; few = work.few; clear = work.clear }
-check_keeps sh spell w (Failing kind) (a ∷ more) work = record { codec = work.codec; version = work.version; view = work.view; sessions = work.sessions; grid = work.grid; waiting = work.waiting; staged = work.staged; running = work.running; one = scrub_one w (after_check w (Failing kind) (a ∷ more)).0 refl refl refl work.one; sums = work.sums; few = newest_few (w.findings ++ record { address = a.0; «class» = kind } ∷ []); clear = work.clear }
+-- what holds of tours and findings alone is no matter of the state's sense
+tour_keeps : (sh : Shape) (spell : Parts → List ℕ) (w : Work) (tour : Tour) (findings : List Finding) → length findings ≤ 64 → IsWork sh spell w → IsWork sh spell (record w { tour = tour; findings = findings })
+tour_keeps sh spell w tour findings few work = record {
+  codec = work.codec;
+  version = work.version;
+  view = work.view;
+  sessions = work.sessions;
+  grid = work.grid;
+  waiting = work.waiting;
+  staged = work.staged;
+  running = work.running;
+  one = scrub_one w (record w { tour = tour; findings = findings }) refl refl refl work.one;
+  sums = work.sums;
+  few = few;
+  clear = work.clear;
+}
 
-pub check_view : (w : Work) (verdict : Verdict) (xs : List (ℕ × ℕ)) → (after_check w verdict xs).0.view ≡ w.view
-check_view w verdict [] = refl
-check_view w IsFine (a ∷ more) = refl
-check_view w (Failing kind) (a ∷ more) = refl
+-- a check changes the tour and the findings alone
+pub record IsTour (sh : Shape) (spell : Parts → List ℕ) (w u : Work) : Type 0 where
+  pub keeps : IsWork sh spell w → IsWork sh spell u
+  pub view : u.view ≡ w.view
+  pub live : u.live ≡ w.live
+  pub running : u.running ≡ w.running
 
-pub check_live : (w : Work) (verdict : Verdict) (xs : List (ℕ × ℕ)) → (after_check w verdict xs).0.live ≡ w.live
-check_live w verdict [] = refl
-check_live w IsFine (a ∷ more) = refl
-check_live w (Failing kind) (a ∷ more) = refl
+pub check_tours : (sh : Shape) (spell : Parts → List ℕ) (w : Work) (a : ℕ) (verdict : Verdict) → IsTour sh spell w (with_verdict w a verdict)
+check_tours sh spell w a IsFine = record { keeps = λ work. tour_keeps sh spell w (with_verdict w a IsFine).tour w.findings work.few work; view = refl; live = refl; running = refl }
+check_tours sh spell w a (Failing kind) = record { keeps = tour_keeps sh spell w (with_verdict w a (Failing kind)).tour (with_verdict w a (Failing kind)).findings (newest_few (w.findings ++ record { address = a; «class» = kind } ∷ [])); view = refl; live = refl; running = refl }
 
-pub check_running : (w : Work) (verdict : Verdict) (xs : List (ℕ × ℕ)) → (after_check w verdict xs).0.running ≡ w.running
-check_running w verdict [] = refl
-check_running w IsFine (a ∷ more) = refl
-check_running w (Failing kind) (a ∷ more) = refl
+pub end_tours : (sh : Shape) (spell : Parts → List ℕ) (w : Work) → IsTour sh spell w (record w { tour = first_tour })
+end_tours sh spell w = record { keeps = λ work. tour_keeps sh spell w first_tour w.findings work.few work; view = refl; live = refl; running = refl }
 
 -- ---- every command
 
--- what holds of the state before where the call is refused, and else of the state after it
-outcome_has : {E A : Type 0} (P : Work → Type 0) (o : Option E) (w u : Work) (a : A) → P w → (o ≡ None → P u) → P (outcome o w u a).0
-outcome_has P (Some e) w u a before later = before
-outcome_has P None w u a before later = later refl
+module _ (sh : Shape) (spell : Parts → List ℕ) (w : Work) (given : Given) (work : IsWork sh spell w) where
+  changed_sense : (c : Command) (u : Work) → IsInput given c → Change sh spell w given c u → IsWork sh spell u
+  changed_sense c u input (Stays _ idle) = work
+  changed_sense c u input (Appends _ ps (One client request body none staged)) = append_keeps sh spell w (supplied_sum given) client request body work none input.fields
+  changed_sense c u input (Appends _ ps (Staged none)) = flush_keeps sh spell w (supplied_sums given) work none
+  changed_sense c u input (Stages client request body none) = stage_keeps sh spell w client request body work none input.fields
+  changed_sense c u input (Replies op body none) = reply_keeps sh spell w (supplied_sum given) op body work none
+  changed_sense c u input (Lives kind body none) = live_keeps sh spell w (next_address (memory_of sh spell w)) (supplied_sum given) (first_small (supplied_sums given) input.checksums) work (next_free sh spell w kind body none)
+  changed_sense c u input (LetsGo address none) = release_keeps sh spell w address work
+  changed_sense c u input (Begins root none) = begin_keeps sh spell w root input.fields work none
+  changed_sense c u input (Writes r a more at left) = trailer_keeps sh spell w (supplied_sum given) r a more work at left
+  changed_sense c u input (Ends r at left) = finish_keeps sh spell w r (supplied_sum given) work at left
+  changed_sense c u input (Checks x more is) = (check_tours sh spell w x.0 (supplied_verdict given)).keeps work
+  changed_sense c u input (TourEnds is) = (end_tours sh spell w).keeps work
 
--- what holds of the state after a step
-step_has : (P : Work → Type 0) (sh : Shape) (spell : Parts → List ℕ) (w : Work) (sum : ℕ) → P w
-    → ((r : Running) → w.running ≡ Some r → r.left ≡ [] → P (after_running sh spell w sum r []).0)
-    → ((r : Running) (a : ℕ) (more : List ℕ) → w.running ≡ Some r → r.left ≡ a ∷ more → P (after_running sh spell w sum r (a ∷ more)).0)
-    → P (after_step_of sh spell w sum w.running).0
-step_has P sh spell w sum before last next = go w.running refl
-  where
-    advance : (r : Running) (l : List ℕ) → w.running ≡ Some r → r.left ≡ l → P (after_running sh spell w sum r l).0
-    advance r [] at left = last r at left
-    advance r (a ∷ more) at left = next r a more at left
-
-    go : (o : Option Running) → w.running ≡ o → P (after_step_of sh spell w sum o).0
-    go None at = before
-    go (Some r) at = advance r r.left at refl
+  changed_view : (c : Command) (u : Work) → Change sh spell w given c u → Next w.view u.view
+  changed_view c u (Stays _ idle) = Same
+  changed_view c u (Appends _ ps (One client request body none staged)) = Append ps (may_append sh spell w (supplied_sum given) client request body work none).is
+  changed_view c u (Appends _ ps (Staged none)) = Append ps (may_flush sh spell w (supplied_sums given) work none).is
+  changed_view c u (Stages client request body none) = Same
+  changed_view c u (Replies op body none) = Reply (place_of_reply (memory_of sh spell w)) (reply_of (memory_of sh spell w) (supplied_sum given) body) (may_reply sh spell w (supplied_sum given) op body work none).is
+  changed_view c u (Lives kind body none) = Same
+  changed_view c u (LetsGo address none) = Same
+  changed_view c u (Begins root none) = Same
+  changed_view c u (Writes r a more at left) = Same
+  changed_view c u (Ends r at left) = Finish (checkpoint_of sh spell w r (supplied_sum given)) (is_finish sh spell w r (supplied_sum given) work (work.running r at) left)
+  changed_view c u (Checks x more is) = subst (Next w.view) (sym (check_tours sh spell w x.0 (supplied_verdict given)).view) Same
+  changed_view c u (TourEnds is) = Same
 
 pub sense_law : SenseLaw
-sense_law sh spell w given (ToAppendOf client request body) input work =
-    let p = prepare_of (memory_of sh spell w) (supplied_sum given) client request body in
-    outcome_has (IsWork sh spell) (first_refusal (append_refusals (memory_of sh spell w) client request body)) w (with_prepare w p) (p.header.op, supplied_sum given) work (λ none. append_keeps sh spell w (supplied_sum given) client request body work none input.fields)
-sense_law sh spell w given (Stage client request body) input work =
-    let m = memory_of sh spell w in
-    outcome_has (IsWork sh spell) (first_refusal (stage_refusals m client request body)) w (with_staged w (record { client = client; request = request; body = body })) (m.head + length m.staged + 1) work (λ none. stage_keeps sh spell w client request body work none input.fields)
-sense_law sh spell w given Flush input work =
-    let m = memory_of sh spell w in
-    outcome_has (IsWork sh spell) (first_refusal (flush_refusals m)) w (with_group w (group_of m (supplied_sums given))) (length m.staged) work (flush_keeps sh spell w (supplied_sums given) work)
-sense_law sh spell w given (ToReplyOf op body) input work =
-    outcome_has (IsWork sh spell) (first_refusal (reply_refusals (memory_of sh spell w) op body)) w (with_reply w (place_of_reply (memory_of sh spell w)) (reply_of (memory_of sh spell w) (supplied_sum given) body)) (supplied_sum given) work (reply_keeps sh spell w (supplied_sum given) op body work)
-sense_law sh spell w given (WriteBlock kind body) input work =
-    outcome_has (IsWork sh spell) (first_refusal (block_refusals (memory_of sh spell w) kind body)) w (with_live w (next_address (memory_of sh spell w)) (Some (supplied_sum given))) (next_address (memory_of sh spell w), supplied_sum given) work (λ none. live_keeps sh spell w (next_address (memory_of sh spell w)) (supplied_sum given) (first_small (supplied_sums given) input.checksums) work (next_free sh spell w kind body none))
-sense_law sh spell w given (Release address) input work =
-    outcome_has {A = Unit {0}} (IsWork sh spell) (first_refusal (release_refusals (memory_of sh spell w) address)) w (with_live w address None) tt work (λ none. release_keeps sh spell w address work)
-sense_law sh spell w given (Begin root) input work =
-    outcome_has (IsWork sh spell) (first_refusal (begin_refusals (memory_of sh spell w) (needed_of spell (memory_of sh spell w) root) root)) w (with_running w (Some (begun sh spell w root))) (needed_of spell (memory_of sh spell w) root) work (begin_keeps sh spell w root input.fields work)
-sense_law sh spell w given Advance input work =
-    step_has (IsWork sh spell) sh spell w (supplied_sum given) work (λ r at left. finish_keeps sh spell w r (supplied_sum given) work at left) (λ r a more at left. trailer_keeps sh spell w (supplied_sum given) r a more work at left)
-sense_law sh spell w given (ReadPrepare op) input work = work
-sense_law sh spell w given (ReadReply client) input work = work
-sense_law sh spell w given (ReadBlock address) input work = work
-sense_law sh spell w given Scrub input work = check_keeps sh spell w (supplied_verdict given) (to_check (memory_of sh spell w)) work
-sense_law sh spell w given Recent input work = work
+sense_law sh spell w given c input work = changed_sense sh spell w given work c (after sh spell w given c).0 input (one_thing_law sh spell w given c)
 
 pub next_law : NextLaw
-next_law sh spell w given (ToAppendOf client request body) work =
-    let p = prepare_of (memory_of sh spell w) (supplied_sum given) client request body in
-    outcome_has (λ u. Next w.view u.view) (first_refusal (append_refusals (memory_of sh spell w) client request body)) w (with_prepare w p) (p.header.op, supplied_sum given) Same (λ none. Append (p ∷ []) (may_append sh spell w (supplied_sum given) client request body work none).is)
-next_law sh spell w given (Stage client request body) work =
-    let m = memory_of sh spell w in
-    outcome_has (λ u. Next w.view u.view) (first_refusal (stage_refusals m client request body)) w (with_staged w (record { client = client; request = request; body = body })) (m.head + length m.staged + 1) Same (λ none. Same)
-next_law sh spell w given Flush work =
-    let m = memory_of sh spell w in
-    let ps = group_of m (supplied_sums given) in
-    outcome_has (λ u. Next w.view u.view) (first_refusal (flush_refusals m)) w (with_group w ps) (length m.staged) Same (λ none. Append ps (may_flush sh spell w (supplied_sums given) work none).is)
-next_law sh spell w given (ToReplyOf op body) work =
-    outcome_has (λ u. Next w.view u.view) (first_refusal (reply_refusals (memory_of sh spell w) op body)) w (with_reply w (place_of_reply (memory_of sh spell w)) (reply_of (memory_of sh spell w) (supplied_sum given) body)) (supplied_sum given) Same (λ none. Reply (place_of_reply (memory_of sh spell w)) (reply_of (memory_of sh spell w) (supplied_sum given) body) (may_reply sh spell w (supplied_sum given) op body work none).is)
-next_law sh spell w given (WriteBlock kind body) work =
-    outcome_has (λ u. Next w.view u.view) (first_refusal (block_refusals (memory_of sh spell w) kind body)) w (with_live w (next_address (memory_of sh spell w)) (Some (supplied_sum given))) (next_address (memory_of sh spell w), supplied_sum given) Same (λ none. Same)
-next_law sh spell w given (Release address) work =
-    outcome_has {A = Unit {0}} (λ u. Next w.view u.view) (first_refusal (release_refusals (memory_of sh spell w) address)) w (with_live w address None) tt Same (λ none. Same)
-next_law sh spell w given (Begin root) work =
-    outcome_has (λ u. Next w.view u.view) (first_refusal (begin_refusals (memory_of sh spell w) (needed_of spell (memory_of sh spell w) root) root)) w (with_running w (Some (begun sh spell w root))) (needed_of spell (memory_of sh spell w) root) Same (λ none. Same)
-next_law sh spell w given Advance work =
-    step_has (λ u. Next w.view u.view) sh spell w (supplied_sum given) Same (λ r at left. Finish (checkpoint_of sh spell w r (supplied_sum given)) (is_finish sh spell w r (supplied_sum given) work (work.running r at) left)) (λ r a more at left. Same)
-next_law sh spell w given (ReadPrepare op) work = Same
-next_law sh spell w given (ReadReply client) work = Same
-next_law sh spell w given (ReadBlock address) work = Same
-next_law sh spell w given Scrub work = subst (Next w.view) (sym (check_view w (supplied_verdict given) (to_check (memory_of sh spell w)))) Same
-next_law sh spell w given Recent work = Same
+next_law sh spell w given c work = changed_view sh spell w given work c (after sh spell w given c).0 (one_thing_law sh spell w given c)
 
 -- ---- the start
 

@@ -6,7 +6,7 @@ use Rattle.df_theory.specs.Shape.{Shape}
 use Rattle.df_theory.specs.View.{View}
 use Rattle.df_theory.specs.Holds.{Sound}
 use Rattle.df_model.specs.Work.{Request, Running, Work}
-use Rattle.df_model.specs.After.{with_running, begun, finished, with_group, with_live, with_prepare, with_reply, with_staged, with_trailer_block}
+use Rattle.df_model.specs.After.{with_running, begun, finished, with_group, with_live, with_reply, with_staged, with_trailer_block}
 use Rattle.df_model.specs.Sense.{AreOne, AtEachOf, Captured, Chained, Durable, IsCapture, IsClear, IsKnown, IsSpare, Live, RiseFrom, Written}
 use Rattle.df_model.proofs.Grid.{IsNowhere}
 use Rattle.df_model.specs.Blocks.{addresses, entries, sum_at}
@@ -41,13 +41,6 @@ nowhere_new w a none c (Durable is) = cc (is, none.durable)
 nowhere_new w a none c (Chained b is sum) = none.chain b is
 
 -- ---- the calls
-
-pub append_knows : (w : Work) (p : Message) → KnowsNoMore w (with_prepare w p)
-append_knows w p a c (Live is) = Live is
-append_knows w p a c (Captured r at is) = Captured r at is
-append_knows w p a c (Written r b at is sum) = Written r b at is sum
-append_knows w p a c (Durable is) = Durable is
-append_knows w p a c (Chained b is sum) = Chained b is sum
 
 pub stage_knows : (w : Work) (r : Request) → KnowsNoMore w (with_staged w r)
 stage_knows w q a c (Live is) = Live is

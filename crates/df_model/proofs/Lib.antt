@@ -5,6 +5,7 @@ pub mod Entries
 pub mod Sessions
 pub mod Groups
 pub mod Appends
+pub mod OneThing
 pub mod Staging
 pub mod Flushing
 pub mod Replies

@@ -1,5 +1,5 @@
 -- Calls over a device answer the fold of the machine.
-use Rattle.std.proofs.Common.{◌≡◌, ℕ, ◌+◌, ◌%◌, List, [], ◌∷◌, ◌++◌, Option, Some, None, refl, sym, ◌∙◌, ap, subst}
+use Rattle.std.proofs.Common.{◌≡◌, ℕ, ◌+◌, ◌%◌, List, [], ◌∷◌, ◌++◌, map, Option, Some, None, refl, sym, ◌∙◌, ap, subst}
 use Rattle.df_layout.specs.declared.damage.Class.{Class}
 use Rattle.df_theory.specs.Units.{AnyUnit, Block, BlockPlace, BlockUnit, Content, CopyPlace, CopyUnit, Header, HeaderPlace, Message, Parts, Place, PreparePlace, PrepareUnit, ReplyPlace, ReplyUnit, Units, or_else, overlay}
 use Rattle.df_theory.specs.Shape.{Shape}
@@ -19,8 +19,8 @@ use Rattle.df_model.specs.After.{checkpoint_of, next_trailer, place_of_client, t
 use Rattle.df_model.specs.Commands.{Advance, Answer, Append, Begin, Command, Flush, ForReadBlock, ForReadPrepare, ForReadReply, ForScrub, Given, ReadBlock, ReadPrepare, ReadReply, Recent, Release, Reply, Scrub, Stage, WriteBlock, after, supplied_sum, supplied_sums}
 use Rattle.df_model.specs.Supply.{Codec, Shown, block_at, block_given, block_read, checksums_given, class_or, copies_of, first_check, group_puts, message_given, next, no_trailer, nothing, prepare_at, prepare_given, puts_of, reply_at, reply_given, result, step_puts, supplied, trailer_puts, unless, verdict_of}
 use Rattle.df_model.specs.Laws.{Does, DoesAdvance, DoesAdvanceTo, DoesAppend, DoesBlock, DoesFinish, DoesFlush, DoesReply, UnlessRefused}
-use Rattle.df_model.specs.Runs.{Act, answers_of}
-use Rattle.df_model.specs.Result.{AgreeReads, AreServed, ResultLaw, WritesLaw, commands_of}
+use Rattle.df_model.specs.Runs.{Stepped, act_of, answers_of, command_in}
+use Rattle.df_model.specs.Result.{AgreeReads, AreServed, ResultLaw, WritesLaw}
 
 -- ---- what is supplied
 
@@ -251,17 +251,17 @@ writes_law sh spell log w given c steps does = shows_next sh spell log w given s
 
 -- ---- a session
 
-folds : (sh : Shape) (codec : Codec) (damage : Place → Class) (log : UnitLog) (under : Units) (w : Work) (acts : List Act) → AgreeReads (now log) under → AreServed sh codec damage log w acts
-    → answers_of sh codec.spell w acts ≡ result sh codec (record { units = under; damage = damage }) w (commands_of acts)
+folds : (sh : Shape) (codec : Codec) (damage : Place → Class) (log : UnitLog) (under : Units) (w : Work) (xs : List Stepped) → AgreeReads (now log) under → AreServed sh codec damage log w xs
+    → answers_of sh codec.spell w (map act_of xs) ≡ result sh codec (record { units = under; damage = damage }) w (map command_in (map act_of xs))
 folds sh codec damage log under w [] agree served = refl
-folds sh codec damage log under w (act ∷ acts) agree served =
+folds sh codec damage log under w (x ∷ xs) agree served =
     let m = memory_of sh codec.spell w in
     let s : Shown = record { units = under; damage = damage } in
-    let given : act.given ≡ supplied codec s m act.command = served.0 ∙ supplied_same codec m (now log) under damage agree act.command in
-    let later : AgreeReads (now (after_steps act.steps log)) (overlay (puts_of m (supplied_sums act.given) act.command) under) = shows_next sh codec.spell log w act.given act.steps under agree act.command served.1 in
-    ap (λ (rest : List Answer). (after sh codec.spell w act.given act.command).1 ∷ rest) (folds sh codec damage (after_steps act.steps log) (overlay (puts_of m (supplied_sums act.given) act.command) under) (after sh codec.spell w act.given act.command).0 acts later served.2)
-    ∙ ap (λ (g : Given). (after sh codec.spell w g act.command).1 ∷ result sh codec (record { units = overlay (puts_of m (supplied_sums g) act.command) under; damage = damage }) (after sh codec.spell w g act.command).0 (commands_of acts)) given
-    ∙ ap (λ (sums : List ℕ). (next sh codec s w act.command).1 ∷ result sh codec (record { units = overlay (puts_of m sums act.command) under; damage = damage }) (next sh codec s w act.command).0 (commands_of acts)) (supplied_by codec s m act.command)
+    let given : x.act.given ≡ supplied codec s m x.act.command = served.0 ∙ supplied_same codec m (now log) under damage agree x.act.command in
+    let later : AgreeReads (now (after_steps x.steps log)) (overlay (puts_of m (supplied_sums x.act.given) x.act.command) under) = shows_next sh codec.spell log w x.act.given x.steps under agree x.act.command served.1 in
+    ap (λ (rest : List Answer). (after sh codec.spell w x.act.given x.act.command).1 ∷ rest) (folds sh codec damage (after_steps x.steps log) (overlay (puts_of m (supplied_sums x.act.given) x.act.command) under) (after sh codec.spell w x.act.given x.act.command).0 xs later served.2)
+    ∙ ap (λ (g : Given). (after sh codec.spell w g x.act.command).1 ∷ result sh codec (record { units = overlay (puts_of m (supplied_sums g) x.act.command) under; damage = damage }) (after sh codec.spell w g x.act.command).0 (map command_in (map act_of xs))) given
+    ∙ ap (λ (sums : List ℕ). (next sh codec s w x.act.command).1 ∷ result sh codec (record { units = overlay (puts_of m sums x.act.command) under; damage = damage }) (next sh codec s w x.act.command).0 (map command_in (map act_of xs))) (supplied_by codec s m x.act.command)
 
 pub result_law : ResultLaw
-result_law sh codec damage log w acts served = folds sh codec damage log (now log) w acts (agree_self (now log)) served
+result_law sh codec damage log w xs served = folds sh codec damage log (now log) w xs (agree_self (now log)) served

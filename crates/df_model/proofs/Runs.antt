@@ -1,5 +1,5 @@
 -- Runs of commands, and what they begin with.
-use Rattle.std.proofs.Common.{◌≡◌, ℕ, ◌%◌, ◌≤◌, List, [], ◌∷◌, length, Some, None, refl, sym, ap, subst, arith}
+use Rattle.std.proofs.Common.{◌≡◌, ℕ, ◌%◌, ◌≤◌, List, [], ◌∷◌, length, map, Some, None, refl, sym, ap, subst, arith}
 use Rattle.df_theory.specs.Units.{Block, BlockPlace, BlockUnit, Message, Parts, PreparePlace, PrepareUnit, Units}
 use Rattle.df_theory.specs.Sessions.{session_of}
 use Rattle.df_theory.specs.Tails.{In}
@@ -16,39 +16,39 @@ use Rattle.df_model.specs.Codec.{AreBytes, IsCodec, IsLawfulSession}
 use Rattle.df_model.specs.Commands.{after}
 use Rattle.df_model.specs.Sense.{IsBacked}
 use Rattle.df_model.specs.Laws.{FoundLaw, HasFields, IsKeptBy}
-use Rattle.df_model.specs.Runs.{Act, DoAll, FirstKeptLaw, OpenedKeptLaw, RunLaw, led_by, work_after}
+use Rattle.df_model.specs.Runs.{DoAll, FirstKeptLaw, OpenedKeptLaw, RunLaw, Stepped, act_of, led_by, work_after}
 use Rattle.df_model.proofs.Keeps.{opened_law, sessions_lawful}
 use Rattle.df_model.proofs.Does.{command_law}
 use Rattle.df_model.proofs.Writing.{Both}
 
 -- ---- runs
 
-leads_all : (sh : Shape) (spell : Parts → List ℕ) (log : UnitLog) (w : Work) (acts : List Act) → IsKeptBy sh spell log w → DoAll sh spell log w acts
-    → LeadTidily sh log (kept w) (led_by sh spell w acts) × IsKeptBy sh spell (after_steps (steps_of (led_by sh spell w acts)) log) (work_after sh spell w acts)
+leads_all : (sh : Shape) (spell : Parts → List ℕ) (log : UnitLog) (w : Work) (xs : List Stepped) → IsKeptBy sh spell log w → DoAll sh spell log w xs
+    → LeadTidily sh log (kept w) (led_by sh spell w xs) × IsKeptBy sh spell (after_steps (steps_of (led_by sh spell w xs)) log) (work_after sh spell w (map act_of xs))
 leads_all sh spell log w [] keeps does = (tt, keeps)
-leads_all sh spell log w (act ∷ acts) keeps does =
-    let u : Work = (after sh spell w act.given act.command).0 in
-    let one : Both sh spell log w u act.steps = command_law sh spell log w act.given act.command act.steps does.1 keeps does.0 in
-    let rest = leads_all sh spell (after_steps act.steps log) u acts one.0.keeps does.2 in
-    ((one.0.leads, rest.0), subst (λ (l : UnitLog). IsKeptBy sh spell l (work_after sh spell u acts)) (sym (after_append act.steps (steps_of (led_by sh spell u acts)) log)) rest.1)
+leads_all sh spell log w (x ∷ xs) keeps does =
+    let u : Work = (after sh spell w x.act.given x.act.command).0 in
+    let one : Both sh spell log w u x.steps = command_law sh spell log w x.act.given x.act.command x.steps does.1 keeps does.0 in
+    let rest = leads_all sh spell (after_steps x.steps log) u xs one.0.keeps does.2 in
+    ((one.0.leads, rest.0), subst (λ (l : UnitLog). IsKeptBy sh spell l (work_after sh spell u (map act_of xs))) (sym (after_append x.steps (steps_of (led_by sh spell u xs)) log)) rest.1)
 
-stands_all : (sh : Shape) (spell : Parts → List ℕ) (log : UnitLog) (w : Work) (acts : List Act) → IsKeptBy sh spell log w → DoAll sh spell log w acts → IsBacked log w
-    → KeepStanding sh log (kept w) (led_by sh spell w acts) × IsBacked (after_steps (steps_of (led_by sh spell w acts)) log) (work_after sh spell w acts)
+stands_all : (sh : Shape) (spell : Parts → List ℕ) (log : UnitLog) (w : Work) (xs : List Stepped) → IsKeptBy sh spell log w → DoAll sh spell log w xs → IsBacked log w
+    → KeepStanding sh log (kept w) (led_by sh spell w xs) × IsBacked (after_steps (steps_of (led_by sh spell w xs)) log) (work_after sh spell w (map act_of xs))
 stands_all sh spell log w [] keeps does backed = (tt, backed)
-stands_all sh spell log w (act ∷ acts) keeps does backed =
-    let u : Work = (after sh spell w act.given act.command).0 in
-    let one : Both sh spell log w u act.steps = command_law sh spell log w act.given act.command act.steps does.1 keeps does.0 in
+stands_all sh spell log w (x ∷ xs) keeps does backed =
+    let u : Work = (after sh spell w x.act.given x.act.command).0 in
+    let one : Both sh spell log w u x.steps = command_law sh spell log w x.act.given x.act.command x.steps does.1 keeps does.0 in
     let on = one.1 backed in
-    let rest = stands_all sh spell (after_steps act.steps log) u acts one.0.keeps does.2 on.backed in
-    ((on.stands, rest.0), subst (λ (l : UnitLog). IsBacked l (work_after sh spell u acts)) (sym (after_append act.steps (steps_of (led_by sh spell u acts)) log)) rest.1)
+    let rest = stands_all sh spell (after_steps x.steps log) u xs one.0.keeps does.2 on.backed in
+    ((on.stands, rest.0), subst (λ (l : UnitLog). IsBacked l (work_after sh spell u (map act_of xs))) (sym (after_append x.steps (steps_of (led_by sh spell u xs)) log)) rest.1)
 
 pub run_law : RunLaw
-run_law sh spell log w acts keeps does =
-    let all = leads_all sh spell log w acts keeps does in
-    let cs = led_by sh spell w acts in (
+run_law sh spell log w xs keeps does =
+    let all = leads_all sh spell log w xs keeps does in
+    let cs = led_by sh spell w xs in (
       record { leads = all.0; survives = (tidy_run_law sh log (kept w) cs keeps.tidy all.0).0; keeps = all.1 },
       λ backed.
-          let stands = stands_all sh spell log w acts keeps does backed in
+          let stands = stands_all sh spell log w xs keeps does backed in
           record { survives = (standing_run_law sh log (kept w) cs keeps.tidy all.0 backed.standing stands.0).0; backed = stands.1 },
     )
 

@@ -1,5 +1,5 @@
 -- Writes that lead on, whatever stands at the referenced blocks; and where they are shown, they stay so.
-use Rattle.std.proofs.Common.{◌≡◌, ℕ, ◌^◌, ◌<◌, ◌==◌, ◌%◌, Bool, true, false, if◌then◌else◌, List, [], Option, Some, None, refl, sym, ◌∙◌, ap, subst, eqb-true}
+use Rattle.std.proofs.Common.{◌≡◌, ℕ, ◌^◌, ◌<◌, ◌==◌, ◌%◌, Bool, true, false, if◌then◌else◌, List, [], ◌∷◌, Option, Some, None, refl, sym, ◌∙◌, ap, subst, eqb-true}
 use Rattle.std.proofs.lemmas.Bool.{eqb-false}
 use Rattle.df_theory.specs.Units.{AnyUnit, Block, BlockPlace, BlockUnit, Message, Parts, Place, PreparePlace, PrepareUnit, ReplyPlace, ReplyUnit, Units, or_else, overlay}
 use Rattle.df_theory.specs.Trailer.{InChain}
@@ -15,7 +15,7 @@ use Rattle.df_model.specs.Codec.{IsChecksum}
 use Rattle.df_model.specs.Memory.{memory_of}
 use Rattle.df_model.specs.Making.{group_of, place_of_reply, prepare_of, reply_of}
 use Rattle.df_model.specs.Refusals.{append_refusals, first_refusal, flush_refusals, reply_refusals}
-use Rattle.df_model.specs.After.{with_group, with_live, with_prepare, with_reply}
+use Rattle.df_model.specs.After.{with_group, with_live, with_reply}
 use Rattle.df_model.specs.Sense.{IsBacked, IsWork, ShowsOwnBlock, ShowsWritten}
 use Rattle.df_model.specs.Laws.{BacksOn, DoesAppend, DoesBlock, DoesFlush, DoesReply, IsKeptBy, LeadsOn}
 use Rattle.df_model.proofs.Grid.{IsFree, nowhere}
@@ -79,10 +79,10 @@ put_at image put place x one = ap (λ (o : Option AnyUnit). or_else o (image pla
 -- ---- the commands that write
 
 pub append_on : (sh : Shape) (spell : Parts → List ℕ) (log : UnitLog) (w : Work) (sum client request : ℕ) (body : List ℕ) (steps : List Step) → client < 2 ^ 128 → IsKeptBy sh spell log w → first_refusal (append_refusals (memory_of sh spell w) client request body) ≡ None
-    → DoesAppend sh (now log) w.view (prepare_of (memory_of sh spell w) sum client request body) steps → Both sh spell log w (with_prepare w (prepare_of (memory_of sh spell w) sum client request body)) steps
+    → DoesAppend sh (now log) w.view (prepare_of (memory_of sh spell w) sum client request body) steps → Both sh spell log w (with_group w (prepare_of (memory_of sh spell w) sum client request body ∷ [])) steps
 append_on sh spell log w sum client request body steps fits keeps none does =
     let p = prepare_of (memory_of sh spell w) sum client request body in
-    let u = with_prepare w p in
+    let u = with_group w (p ∷ []) in
     let on = tidy_append_law sh log w.view p does.prepare does.headers keeps.tidy (may_append sh spell w sum client request body keeps.sense none) does.one does.sector does.there in
     let later = overlay does.headers (overlay does.prepare (now log)) in
     let same : SameBlocks (now log) later = λ a. same_headers (overlay does.prepare (now log)) does.headers p sh (now log) does.sector a ∙ put_else does.prepare (now log) (PreparePlace (p.header.op % sh.layout.slots)) (BlockPlace a) (PrepareUnit p) does.one (λ same. cc (same)) in

@@ -12,6 +12,7 @@ pub mod Called
 pub mod Supply
 pub mod Sense
 pub mod Laws
+pub mod Change
 pub mod Runs
 pub mod Reading
 pub mod Result

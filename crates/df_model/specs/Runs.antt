@@ -1,5 +1,5 @@
 -- Runs of commands.
-use Rattle.std.specs.Prelude.{ℕ, List, [], ◌∷◌}
+use Rattle.std.specs.Prelude.{ℕ, List, [], ◌∷◌, map}
 use Rattle.df_theory.specs.Units.{Parts}
 use Rattle.df_theory.specs.Shape.{Shape}
 use Rattle.df_theory.specs.View.{View}
@@ -16,46 +16,77 @@ use Rattle.df_model.specs.Sense.{IsBacked, IsVersionTwo}
 use Rattle.df_model.specs.Laws.{Does, IsKeptBy}
 use Rattle.df_model.specs.Commands.{Answer, Command, Given, IsInput, after}
 
--- a command, what the device and the codecs supply to it, and its steps
+-- a command with what it was supplied with
 pub record Act : Type 0 where
-  pub given : Given
   pub command : Command
-  pub steps : List Step
+  pub given : Given
+
+abbrev pub command_in : Act → Command
+command_in act = act.command
+
+-- a call that was answered
+pub record Exchange : Type 0 where
+  pub act : Act
+  pub answer : Answer
+
+abbrev pub act_in : Exchange → Act
+act_in x = x.act
+
+abbrev pub answer_in : Exchange → Answer
+answer_in x = x.answer
+
+abbrev pub acts_in : List Exchange → List Act
+acts_in exchanges = map act_in exchanges
+
+abbrev pub answers_in : List Exchange → List Answer
+answers_in exchanges = map answer_in exchanges
+
+-- the state after these acts
 
 abbrev pub work_after : Shape → (Parts → List ℕ) → Work → List Act → Work
 work_after sh spell w [] = w
 work_after sh spell w (act ∷ acts) = work_after sh spell (after sh spell w act.given act.command).0 acts
 
--- the answers of all of them
+-- what the machine answers to them
 abbrev pub answers_of : Shape → (Parts → List ℕ) → Work → List Act → List Answer
 answers_of sh spell w [] = []
 answers_of sh spell w (act ∷ acts) = (after sh spell w act.given act.command).1 ∷ answers_of sh spell (after sh spell w act.given act.command).0 acts
 
+-- ---- over a device
+
+-- an act with its steps
+pub record Stepped : Type 0 where
+  pub act : Act
+  pub steps : List Step
+
+abbrev pub act_of : Stepped → Act
+act_of x = x.act
+
 -- each of them does its steps, over the image that is shown at its start
-abbrev pub DoAll : Shape → (Parts → List ℕ) → UnitLog → Work → List Act → Type 0
+abbrev pub DoAll : Shape → (Parts → List ℕ) → UnitLog → Work → List Stepped → Type 0
 DoAll sh spell log w [] = Unit {0}
-DoAll sh spell log w (act ∷ acts) = Does sh spell (now log) w act.given act.command act.steps × IsInput act.given act.command × DoAll sh spell (after_steps act.steps log) (after sh spell w act.given act.command).0 acts
+DoAll sh spell log w (x ∷ xs) = Does sh spell (now log) w x.act.given x.act.command x.steps × IsInput x.act.given x.act.command × DoAll sh spell (after_steps x.steps log) (after sh spell w x.act.given x.act.command).0 xs
 
 -- each command with the view that it leads to
-abbrev pub led_by : Shape → (Parts → List ℕ) → Work → List Act → List Led
+abbrev pub led_by : Shape → (Parts → List ℕ) → Work → List Stepped → List Led
 led_by sh spell w [] = []
-led_by sh spell w (act ∷ acts) = record { steps = act.steps; view = kept (after sh spell w act.given act.command).0 } ∷ led_by sh spell (after sh spell w act.given act.command).0 acts
+led_by sh spell w (x ∷ xs) = record { steps = x.steps; view = kept (after sh spell w x.act.given x.act.command).0 } ∷ led_by sh spell (after sh spell w x.act.given x.act.command).0 xs
 
 -- a run of commands: a stop at any moment is survived with the view before or after the command that it falls into, and at the end the file is kept by the state after all of them
-pub record RunsOn (sh : Shape) (spell : Parts → List ℕ) (log : UnitLog) (w : Work) (acts : List Act) : Type 0 where
-  pub leads : LeadTidily sh log (kept w) (led_by sh spell w acts)
-  pub survives : SurvivesEach sh log (kept w) (led_by sh spell w acts)
-  pub keeps : IsKeptBy sh spell (after_steps (steps_of (led_by sh spell w acts)) log) (work_after sh spell w acts)
+pub record RunsOn (sh : Shape) (spell : Parts → List ℕ) (log : UnitLog) (w : Work) (xs : List Stepped) : Type 0 where
+  pub leads : LeadTidily sh log (kept w) (led_by sh spell w xs)
+  pub survives : SurvivesEach sh log (kept w) (led_by sh spell w xs)
+  pub keeps : IsKeptBy sh spell (after_steps (steps_of (led_by sh spell w xs)) log) (work_after sh spell w (map act_of xs))
 
 -- and each referenced block survives too, where it was shown
-pub record RunsBacked (sh : Shape) (spell : Parts → List ℕ) (log : UnitLog) (w : Work) (acts : List Act) : Type 0 where
-  pub survives : SurvivesWholeEach sh log (kept w) (led_by sh spell w acts)
-  pub backed : IsBacked (after_steps (steps_of (led_by sh spell w acts)) log) (work_after sh spell w acts)
+pub record RunsBacked (sh : Shape) (spell : Parts → List ℕ) (log : UnitLog) (w : Work) (xs : List Stepped) : Type 0 where
+  pub survives : SurvivesWholeEach sh log (kept w) (led_by sh spell w xs)
+  pub backed : IsBacked (after_steps (steps_of (led_by sh spell w xs)) log) (work_after sh spell w (map act_of xs))
 
 abbrev pub RunLaw : Type 0
 RunLaw =
-    (sh : Shape) (spell : Parts → List ℕ) (log : UnitLog) (w : Work) (acts : List Act) → IsKeptBy sh spell log w → DoAll sh spell log w acts
-    → RunsOn sh spell log w acts × (IsBacked log w → RunsBacked sh spell log w acts)
+    (sh : Shape) (spell : Parts → List ℕ) (log : UnitLog) (w : Work) (xs : List Stepped) → IsKeptBy sh spell log w → DoAll sh spell log w xs
+    → RunsOn sh spell log w xs × (IsBacked log w → RunsBacked sh spell log w xs)
 
 -- a tidy file is kept by the state that an open makes of it
 abbrev pub OpenedKeptLaw : Type 0

@@ -20,8 +20,8 @@ pub use errors::{
 pub use machine::{
     a_tour_lists_what_fails, answers_are_the_result, append_may_be_made, block_may_be_written,
     checkpoint_may_be_finished, commands_are_moments, commands_go_on, commands_keep_sense,
-    commands_lead_on, group_may_be_flushed, memory_answers, memory_changes_so, opened_is_kept,
-    opened_makes_sense, reply_may_be_stored, runs_lead_on, what_is_kept_is_read,
+    commands_lead_on, group_may_be_flushed, memory_answers, memory_changes_so, one_thing_happens,
+    opened_is_kept, opened_makes_sense, reply_may_be_stored, runs_lead_on, what_is_kept_is_read,
 };
 pub use raising::{boot_may_be_raised, open_leads_on, raised_file_is_kept};
 pub use reading::{LookupError, PrepareError, ReadError};

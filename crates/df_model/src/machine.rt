@@ -2,6 +2,7 @@
 
 ghost use Rattle.df_model.specs.Laws.{AppendExactLaw, AppendMayLaw, BlockAsideLaw, BlockMayLaw, CommandLaw, FinishExactLaw, FinishMayLaw, FlushMayLaw, FoundLaw, NextLaw, OpenedLaw, ReplyExactLaw, ReplyMayLaw, SenseLaw, StageExactLaw};
 ghost use Rattle.df_model.specs.Answering.{BeginExactLaw, MemoryLaw, OrderLaw, ReplyParentLaw};
+ghost use Rattle.df_model.specs.Change.{OneThingLaw};
 ghost use Rattle.df_model.specs.Changing.{BlocksLaw, ChangeLaw, ListsLaw};
 ghost use Rattle.df_model.specs.Runs.{FirstKeptLaw, OpenedKeptLaw, RunLaw};
 ghost use Rattle.df_model.specs.Reading.{BlockReadLaw, FailingLaw, PrepareReadLaw, ReplyReadLaw, ScrubLaw, TourLaw};
@@ -12,6 +13,11 @@ ghost use Rattle.df_model.specs.Result.{ResultLaw, WritesLaw};
 pub fn opened_makes_sense()
     ensures opened { OpenedLaw }
     ensures found { FoundLaw }
+{}
+
+/// A command leaves the state, or does one of ten things.
+pub fn one_thing_happens()
+    ensures { OneThingLaw }
 {}
 
 /// The state after a command makes sense.
