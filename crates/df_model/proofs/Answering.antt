@@ -90,11 +90,8 @@ module _ (sh : Shape) (spell : Parts → List ℕ) (w : Work) (given : Given) wh
   answer_is (Release address) = ap ToRelease (outcome_answer {A = Unit {0}} (first_refusal (release_refusals m address)) w (with_live w address None) tt)
   answer_is (Begin root) = ap ToBegin (outcome_answer (first_refusal (begin_refusals m (needed_of spell m root) root)) w (with_running w (Some (begun sh spell w root))) (needed_of spell m root))
   answer_is Advance = ap ToAdvance (step_is w.running)
-  answer_is (ReadPrepare op) = refl
-  answer_is (ReadReply client) = refl
-  answer_is (ReadBlock address) = refl
   answer_is Scrub = ap ToScrub (check_is (to_check m))
-  answer_is Recent = refl
+  answer_is command = refl
 
 pub memory_law : MemoryLaw
 memory_law sh spell w u given c same = answer_is sh spell w given c ∙ ap (λ (m : Memory). answer_from spell m given c) same ∙ sym (answer_is sh spell u given c)

@@ -10,7 +10,7 @@ use Rattle.df_model.specs.Memory.{course_of, memory_of}
 use Rattle.df_model.specs.Refusals.{append_refusals, begin_refusals, block_refusals, first_refusal, flush_refusals, release_refusals, reply_refusals, stage_refusals}
 use Rattle.df_model.specs.Making.{group_of, needed_of, next_address, place_of_reply, prepare_of, reply_of}
 use Rattle.df_model.specs.After.{after_check, after_running, after_step_of, begun, outcome, to_check, with_group, with_live, with_prepare, with_reply, with_running, with_staged}
-use Rattle.df_model.specs.Commands.{Advance, Append, Begin, Command, Flush, Given, ReadBlock, ReadPrepare, ReadReply, Recent, Release, Reply, Scrub, Stage, WriteBlock, after, supplied_sum, supplied_sums, supplied_verdict}
+use Rattle.df_model.specs.Commands.{Advance, Append, Begin, Command, Flush, Given, Release, Reply, Scrub, Stage, WriteBlock, after, supplied_sum, supplied_sums, supplied_verdict}
 use Rattle.df_model.specs.Changing.{BlocksLaw, after_step_in, blocks_after, trailer_step, unless_refused}
 use Rattle.df_model.specs.declared.answers.Verdict.{Verdict}
 use Rattle.df_model.specs.declared.answers.Verdict.TheVariants.{Sound, Failing}
@@ -191,11 +191,8 @@ module _ (sh : Shape) (spell : Parts → List ℕ) (w : Work) (given : Given) wh
   blocks_is (Begin root) =
       outcome_blocks sh (first_refusal (begin_refusals (memory_of sh spell w) (needed_of spell (memory_of sh spell w) root) root)) w (with_running w (Some (begun sh spell w root))) (needed_of spell (memory_of sh spell w) root) _ (λ none. begun_blocks root)
   blocks_is Advance = step_blocks w.running refl
-  blocks_is (ReadPrepare op) = refl
-  blocks_is (ReadReply client) = refl
-  blocks_is (ReadBlock address) = refl
   blocks_is Scrub = check_blocks (supplied_verdict given) (to_check (memory_of sh spell w))
-  blocks_is Recent = refl
+  blocks_is command = refl
 
 pub blocks_law : BlocksLaw
 blocks_law sh spell w given c = blocks_is sh spell w given c

@@ -18,7 +18,7 @@ use Rattle.df_model.specs.Memory.{Memory, course, course_of, memory_of, stored_s
 use Rattle.df_model.specs.Refusals.{append_refusals, begin_refusals, block_refusals, first_refusal, flush_refusals, release_refusals, reply_refusals, stage_refusals}
 use Rattle.df_model.specs.Making.{group_of, needed_of, next_address, place_of_reply, prepare_of, reply_of}
 use Rattle.df_model.specs.After.{after_check, after_running, after_step_of, begun, checkpoint_of, finished, next_trailer, outcome, to_check, with_group, with_live, with_prepare, with_reply, with_running, with_staged, with_trailer_block}
-use Rattle.df_model.specs.Commands.{Advance, Append, Begin, Command, Flush, Given, ReadBlock, ReadPrepare, ReadReply, Recent, Release, Reply, Scrub, Stage, WriteBlock, after, supplied_sum, supplied_sums, supplied_verdict}
+use Rattle.df_model.specs.Commands.{Advance, Append, Begin, Command, Flush, Given, Release, Reply, Scrub, Stage, WriteBlock, after, supplied_sum, supplied_sums, supplied_verdict}
 use Rattle.df_model.proofs.Recording.{last_split}
 use Rattle.df_model.specs.Changing.{ChangeLaw, ListsLaw, appended_in, blocks_after, checked_in, course_on, flushed_in, memory_after, replied_in, staged_in, step_in, unless_refused, unstored, unstored_all}
 use Rattle.df_model.specs.Sense.{IsWork}
@@ -297,11 +297,8 @@ module _ (sh : Shape) (spell : Parts → List ℕ) (w : Work) (given : Given) (w
       let needed = needed_of spell m root in
       outcome_memory sh spell (first_refusal (begin_refusals m needed root)) w (with_running w (Some (begun sh spell w root))) needed _ b (blocks_law sh spell w given (Begin root)) (λ none. refl)
   change_is Advance = rightly (after_step_of sh spell w (supplied_sum given) w.running).0 (step_in m (supplied_sum given) m.running) (blocks_after spell m given Advance) (blocks_law sh spell w given Advance) (step_memory w.running (blocks_after spell m given Advance) refl)
-  change_is (ReadPrepare op) = refl
-  change_is (ReadReply client) = refl
-  change_is (ReadBlock address) = refl
   change_is Scrub = rightly (after_check w (supplied_verdict given) (to_check m)).0 (checked_in m (supplied_verdict given) (to_check m)) (blocks_after spell m given Scrub) (blocks_law sh spell w given Scrub) (check_memory (supplied_verdict given) (to_check m) (blocks_after spell m given Scrub))
-  change_is Recent = refl
+  change_is command = refl
 
 pub change_law : ChangeLaw
 change_law sh spell w given c work = change_is sh spell w given work c

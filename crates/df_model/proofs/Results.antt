@@ -16,7 +16,7 @@ use Rattle.df_model.specs.Blocks.{sum_at}
 use Rattle.df_model.specs.Refusals.{append_refusals, block_refusals, first_refusal, flush_refusals, reply_refusals}
 use Rattle.df_model.specs.Making.{block_of, group_of, next_address, place_of_reply, prepare_of, reply_of}
 use Rattle.df_model.specs.After.{checkpoint_of, next_trailer, place_of_client, to_check}
-use Rattle.df_model.specs.Commands.{Advance, Answer, Append, Begin, Command, Flush, ForReadBlock, ForReadPrepare, ForReadReply, ForScrub, Given, ReadBlock, ReadPrepare, ReadReply, Recent, Release, Reply, Scrub, Stage, WriteBlock, after, supplied_sum, supplied_sums}
+use Rattle.df_model.specs.Commands.{Advance, Answer, Append, Command, Flush, ForReadBlock, ForReadPrepare, ForReadReply, ForScrub, Given, ReadBlock, ReadPrepare, ReadReply, Reply, Scrub, WriteBlock, after, supplied_sum, supplied_sums}
 use Rattle.df_model.specs.Supply.{Codec, Shown, block_at, block_given, block_read, checksums_given, class_or, copies_of, first_check, group_puts, message_given, next, no_trailer, nothing, prepare_at, prepare_given, puts_of, reply_at, reply_given, result, step_puts, supplied, trailer_puts, unless, verdict_of}
 use Rattle.df_model.specs.Laws.{Does, DoesAdvance, DoesAdvanceTo, DoesAppend, DoesBlock, DoesFinish, DoesFlush, DoesReply, UnlessRefused}
 use Rattle.df_model.specs.Runs.{Stepped, act_of, answers_of, command_in}
@@ -55,35 +55,16 @@ module _ (codec : Codec) (m : Memory) (image other : Units) (damage : Place → 
 
   -- what makes a unit is supplied with a checksum that isn't of what is shown
   pub supplied_same : (c : Command) → supplied codec s m c ≡ supplied codec t m c
-  supplied_same (Append client request body) = refl
-  supplied_same (Stage client request body) = refl
-  supplied_same Flush = refl
-  supplied_same (Reply op body) = refl
-  supplied_same (WriteBlock kind body) = refl
-  supplied_same (Release address) = refl
-  supplied_same (Begin root) = refl
-  supplied_same Advance = refl
   supplied_same (ReadPrepare op) = ap ForReadPrepare (message_same (ReadPrepare op))
   supplied_same (ReadReply client) = ap ForReadReply (message_same (ReadReply client))
   supplied_same (ReadBlock address) = ap ForReadBlock (read_same (ReadBlock address))
   supplied_same Scrub = ap ForScrub (check_same (to_check m))
-  supplied_same Recent = refl
+  supplied_same command = refl
 
 -- the checksums that are supplied are the codec's
 supplied_by : (codec : Codec) (shown : Shown) (m : Memory) (c : Command) → supplied_sums (supplied codec shown m c) ≡ checksums_given codec m c
-supplied_by codec shown m (Append client request body) = refl
-supplied_by codec shown m (Stage client request body) = refl
 supplied_by codec shown m Flush = refl
-supplied_by codec shown m (Reply op body) = refl
-supplied_by codec shown m (WriteBlock kind body) = refl
-supplied_by codec shown m (Release address) = refl
-supplied_by codec shown m (Begin root) = refl
-supplied_by codec shown m Advance = refl
-supplied_by codec shown m (ReadPrepare op) = refl
-supplied_by codec shown m (ReadReply client) = refl
-supplied_by codec shown m (ReadBlock address) = refl
-supplied_by codec shown m Scrub = refl
-supplied_by codec shown m Recent = refl
+supplied_by codec shown m command = refl
 
 -- ---- what is written
 
@@ -226,7 +207,6 @@ module _ (sh : Shape) (spell : Parts → List ℕ) (log : UnitLog) (w : Work) (g
 
   pub shows_next : (c : Command) → Does sh spell (now log) w given c steps → Shows log steps (puts_of m (supplied_sums given) c) under
   shows_next (Append client request body) does = unless_refused log (first_refusal (append_refusals m client request body)) steps _ _ under agree (append_writes client request body) does
-  shows_next (Stage client request body) does = idle log steps under does agree
   shows_next Flush does = unless_refused log (first_refusal (flush_refusals m)) steps _ _ under agree (flush_writes (group_of m (supplied_sums given))) does
   shows_next (Reply op body) does =
       let place = place_of_reply m in
@@ -234,14 +214,8 @@ module _ (sh : Shape) (spell : Parts → List ℕ) (log : UnitLog) (w : Work) (g
       unless_refused log (first_refusal (reply_refusals m op body)) steps (DoesReply w.view place r steps) (put_one (ReplyPlace place) (ReplyUnit r)) under agree (λ done.
       subst (λ (ss : List Step). Shows log ss (put_one (ReplyPlace place) (ReplyUnit r)) under) (sym done.are) (agree_one done.put (now log) under (ReplyPlace place) (ReplyUnit r) done.one agree)) does
   shows_next (WriteBlock kind body) does = unless_refused log (first_refusal (block_refusals m kind body)) steps _ _ under agree (λ done. block_writes log steps w.view (next_address m) (block_of m.content.boot (supplied_sum given) kind body) under agree done) does
-  shows_next (Release address) does = idle log steps under does agree
-  shows_next (Begin root) does = idle log steps under does agree
   shows_next Advance does = advances w.running refl does
-  shows_next (ReadPrepare op) does = idle log steps under does agree
-  shows_next (ReadReply client) does = idle log steps under does agree
-  shows_next (ReadBlock address) does = idle log steps under does agree
-  shows_next Scrub does = idle log steps under does agree
-  shows_next Recent does = idle log steps under does agree
+  shows_next command does = idle log steps under does agree
 
 agree_self : (image : Units) → AgreeReads image image
 agree_self image = record { prepare = λ s. refl; reply = λ k. refl; block = λ a. refl }
