@@ -13,24 +13,25 @@ use Rattle.df_theory.specs.Device.{units_log}
 use Rattle.df_theory.specs.UnitLog.{now}
 use Rattle.df_theory.proofs.Laws.{shown_law}
 use Rattle.df_units.proofs.Laws.{is_format}
-use Rattle.df_model.specs.After.{after_check, after_running, after_step_of, begun, finished, outcome, to_check, with_group, with_live, with_prepare, with_reply, with_running, with_staged, with_trailer_block}
+use Rattle.df_model.specs.After.{begun, finished, with_group, with_live, with_reply, with_running, with_staged, with_trailer_block, with_verdict}
+use Rattle.df_model.specs.Change.{Appends, Begins, Change, Checks, Ends, LetsGo, Lives, Replies, Stages, Stays, TourEnds, Writes}
 use Rattle.df_model.specs.Codec.{InGrid}
-use Rattle.df_model.specs.Commands.{Advance, Append, Begin, Command, Flush, Given, ReadBlock, ReadPrepare, ReadReply, Recent, Release, Reply, Scrub, Stage, WriteBlock, supplied_sum, supplied_sums, supplied_verdict}
-use Rattle.df_model.specs.Making.{group_of, needed_of, next_address, place_of_reply, prepare_of, reply_of}
+use Rattle.df_model.specs.Commands.{Command, Given, supplied_sum, supplied_verdict}
+use Rattle.df_model.specs.Making.{next_address}
 use Rattle.df_model.specs.Memory.{memory_of}
-use Rattle.df_model.specs.Refusals.{append_refusals, begin_refusals, block_refusals, first_refusal, flush_refusals, release_refusals, reply_refusals, stage_refusals}
+use Rattle.df_model.specs.Refusals.{block_refusals, first_refusal}
 use Rattle.df_model.specs.Sense.{IsBacked, IsKnown, IsWork, ShowsOwnBlock}
 use Rattle.df_model.specs.Sense.IsKnown.{Captured, Durable, Live}
 use Rattle.df_model.specs.Supply.{block_given, class_at, given_if, no_trailer}
-use Rattle.df_model.specs.Work.{Running, Work, is_captured, is_held, is_known}
+use Rattle.df_model.specs.Work.{Request, Running, Work, first_tour, is_captured, is_held, is_known}
 use Rattle.df_model.specs.declared.answers.Verdict.{Verdict}
 use Rattle.df_model.specs.declared.answers.Verdict.TheVariants.{Sound, Failing}
-use Rattle.df_model.proofs.Laws.{block_may_law, entry_at, sense_law}
+use Rattle.df_model.proofs.Laws.{block_may_law, entry_at, one_thing_law, sense_law}
 use Rattle.df_opening.specs.Below.{DataFile, State, shape, spelling}
 use Rattle.df_replica.specs.HeldBlocks.{AreInputs, HeldBlocksAreShown, HoldsBlock, IsCaptured, IsDurable, IsLive, ShowsHeld, StaysHeld}
 use Rattle.df_replica.specs.Reading.{shown_of}
 use Rattle.df_replica.specs.Serving.{IsKept, Keeps, Whole, format, next}
-use Rattle.df_replica.specs.Session.{Act, work_after}
+use Rattle.df_replica.specs.Session.{Act, acts_in, work_after}
 use Rattle.df_replica.proofs.Sessions.{keeps_alone}
 
 -- ---- no command puts another block at a held address
@@ -39,15 +40,6 @@ module _ (file : DataFile) (w : Work) (a : ℕ) where
   -- what is held after a command was held before it, or the address was free
   abbrev Before : ℕ → Type 0
   Before d = HoldsBlock w a d ⊎ (is_held w a ≡ false)
-
-  passed : {E A : Type 0} (o : Option E) (u : Work) (x : A) (d : ℕ) → (o ≡ None → HoldsBlock u a d → Before d) → HoldsBlock (outcome o w u x).0 a d → Before d
-  passed (Some e) u x d go holds = inl holds
-  passed None u x d go holds = go refl holds
-
-  after_prepare : (p : Message) (d : ℕ) → HoldsBlock (with_prepare w p) a d → Before d
-  after_prepare p d (IsLive is) = inl (IsLive is)
-  after_prepare p d (IsCaptured r runs is) = inl (IsCaptured r runs is)
-  after_prepare p d (IsDurable is) = inl (IsDurable is)
 
   after_group : (ps : List Message) (d : ℕ) → HoldsBlock (with_group w ps) a d → Before d
   after_group ps d (IsLive is) = inl (IsLive is)
@@ -93,60 +85,39 @@ module _ (file : DataFile) (w : Work) (a : ℕ) where
   after_trailer r at d b more runs (IsCaptured other on is) = inl (IsCaptured r runs (ap (λ (x : Running). x.parts.references a) (same_Some _ _ on) ∙ is))
   after_trailer r at d b more runs (IsDurable is) = inl (IsDurable is)
 
-  after_left : (r : Running) (sum d : ℕ) (left : List ℕ) → w.running ≡ Some r → HoldsBlock (after_running (shape file) (spelling file) w sum r left).0 a d → Before d
-  after_left r sum d [] runs holds = after_finish r sum d runs holds
-  after_left r sum d (at ∷ more) runs holds = after_trailer r at d _ more runs holds
+  after_check : (at : ℕ) (verdict : Verdict) (d : ℕ) → HoldsBlock (with_verdict w at verdict) a d → Before d
+  after_check at Sound d (IsLive is) = inl (IsLive is)
+  after_check at Sound d (IsCaptured r runs is) = inl (IsCaptured r runs is)
+  after_check at Sound d (IsDurable is) = inl (IsDurable is)
+  after_check at (Failing class) d (IsLive is) = inl (IsLive is)
+  after_check at (Failing class) d (IsCaptured r runs is) = inl (IsCaptured r runs is)
+  after_check at (Failing class) d (IsDurable is) = inl (IsDurable is)
 
-  after_step : (sum d : ℕ) (o : Option Running) → w.running ≡ o → HoldsBlock (after_step_of (shape file) (spelling file) w sum o).0 a d → Before d
-  after_step sum d None runs holds = inl holds
-  after_step sum d (Some r) runs holds = after_left r sum d r.left runs holds
+  after_stage : (r : Request) (d : ℕ) → HoldsBlock (with_staged w r) a d → Before d
+  after_stage r d (IsLive is) = inl (IsLive is)
+  after_stage r d (IsCaptured run runs is) = inl (IsCaptured run runs is)
+  after_stage r d (IsDurable is) = inl (IsDurable is)
 
-  -- a tour is no matter of blocks
-  same_blocks : (u : Work) (d : ℕ) → u.live ≡ w.live → u.running ≡ w.running → u.view ≡ w.view → HoldsBlock u a d → Before d
-  same_blocks u d live running view (IsLive is) = inl (IsLive (ap (λ (f : ℕ → Option ℕ). f a) (sym live) ∙ is))
-  same_blocks u d live running view (IsCaptured r runs is) = inl (IsCaptured r (sym running ∙ runs) is)
-  same_blocks u d live running view (IsDurable is) = inl (IsDurable (ap (λ v. v.checkpoint.parts.references a) (sym view) ∙ is))
+  after_tour : (d : ℕ) → HoldsBlock (record w { tour = first_tour }) a d → Before d
+  after_tour d (IsLive is) = inl (IsLive is)
+  after_tour d (IsCaptured r runs is) = inl (IsCaptured r runs is)
+  after_tour d (IsDurable is) = inl (IsDurable is)
 
-  after_look : (verdict : Verdict) (xs : List (ℕ × ℕ)) (d : ℕ) → HoldsBlock (after_check w verdict xs).0 a d → Before d
-  after_look verdict [] d holds = same_blocks _ d refl refl refl holds
-  after_look Sound (x ∷ xs) d holds = same_blocks _ d refl refl refl holds
-  after_look (Failing class) (x ∷ xs) d holds = same_blocks _ d refl refl refl holds
+  after_change : (given : Given) (command : Command) (u : Work) (d : ℕ) → InGrid (shape file).layout a → Change (shape file) (spelling file) w given command u → HoldsBlock u a d → Before d
+  after_change given command u d inside (Stays _ idle) holds = inl holds
+  after_change given command u d inside (Appends _ ps group) holds = after_group ps d holds
+  after_change given command u d inside (Stages client request body none) holds = after_stage _ d holds
+  after_change given command u d inside (Replies op body none) holds = after_stored _ _ d holds
+  after_change given command u d inside (Lives kind body none) holds = after_write kind body (supplied_sum given) d none holds
+  after_change given command u d inside (LetsGo address none) holds = after_let_go address d holds
+  after_change given command u d inside (Begins root none) holds = after_begun root d inside holds
+  after_change given command u d inside (Writes r at more runs left) holds = after_trailer r at d _ more runs holds
+  after_change given command u d inside (Ends r runs left) holds = after_finish r (supplied_sum given) d runs holds
+  after_change given command u d inside (Checks x more is) holds = after_check x.0 (supplied_verdict given) d holds
+  after_change given command u d inside (TourEnds is) holds = after_tour d holds
 
   held_before : (given : Given) (command : Command) (d : ℕ) → InGrid (shape file).layout a → HoldsBlock (next file w given command).0 a d → Before d
-  held_before given (Append client request body) d inside holds =
-      let m = memory_of (shape file) (spelling file) w in
-      let p = prepare_of m (supplied_sum given) client request body in
-      let answer : ℕ × ℕ = (p.header.op, supplied_sum given) in
-      passed (first_refusal (append_refusals m client request body)) (with_prepare w p) answer d (λ none more. after_prepare p d more) holds
-  held_before given (Stage client request body) d inside holds =
-      let m = memory_of (shape file) (spelling file) w in
-      let u = with_staged w (record { client = client; request = request; body = body }) in
-      passed (first_refusal (stage_refusals m client request body)) u (m.head + length m.staged + 1) d (λ none more. same_blocks u d refl refl refl more) holds
-  held_before given Flush d inside holds =
-      let m = memory_of (shape file) (spelling file) w in
-      let ps = group_of m (supplied_sums given) in
-      passed (first_refusal (flush_refusals m)) (with_group w ps) (length m.staged) d (λ none more. after_group ps d more) holds
-  held_before given (Reply op body) d inside holds =
-      let m = memory_of (shape file) (spelling file) w in
-      let r = reply_of m (supplied_sum given) body in
-      passed (first_refusal (reply_refusals m op body)) (with_reply w (place_of_reply m) r) (supplied_sum given) d (λ none more. after_stored (place_of_reply m) r d more) holds
-  held_before given (WriteBlock kind body) d inside holds =
-      let m = memory_of (shape file) (spelling file) w in
-      let answer : ℕ × ℕ = (next_address m, supplied_sum given) in
-      passed (first_refusal (block_refusals m kind body)) (with_live w (next_address m) (Some (supplied_sum given))) answer d (λ none more. after_write kind body (supplied_sum given) d none more) holds
-  held_before given (Release address) d inside holds =
-      let m = memory_of (shape file) (spelling file) w in
-      passed (first_refusal (release_refusals m address)) (with_live w address None) tt d (λ none more. after_let_go address d more) holds
-  held_before given (Begin root) d inside holds =
-      let m = memory_of (shape file) (spelling file) w in
-      let needed = needed_of (spelling file) m root in
-      passed (first_refusal (begin_refusals m needed root)) (with_running w (Some (begun (shape file) (spelling file) w root))) needed d (λ none more. after_begun root d inside more) holds
-  held_before given Advance d inside holds = after_step (supplied_sum given) d w.running refl holds
-  held_before given (ReadPrepare op) d inside holds = inl holds
-  held_before given (ReadReply client) d inside holds = inl holds
-  held_before given (ReadBlock address) d inside holds = inl holds
-  held_before given Scrub d inside holds = after_look (supplied_verdict given) (to_check (memory_of (shape file) (spelling file) w)) d holds
-  held_before given Recent d inside holds = inl holds
+  held_before given command d inside holds = after_change given command (next file w given command).0 d inside (one_thing_law (shape file) (spelling file) w given command) holds
 
 -- ---- one checksum an address
 
@@ -205,7 +176,8 @@ kept_shows s w None a c k holds = tt
 kept_shows s w (Some t) a c k holds = let is : IsKept Whole s w t.log = k in shows_held s.file t a c (backed_shows s.file t w a c is.kept_by.1 holds)
 
 pub held_blocks_are_shown : HeldBlocksAreShown
-held_blocks_are_shown s0 s told0 told acts answers events served inputs w base k a c holds stays =
+held_blocks_are_shown s0 s told0 told xs events served inputs w base k a c holds stays =
+    let acts = acts_in xs in
     let work = (keeps_alone Whole s0 w base k).0 in
     let last = stays_held s0.file acts w a c work inputs holds stays in
     (last, subst (λ (file : DataFile). ShowsHeld file a c (after_all events base)) served.file (kept_shows s (work_after s0.file w acts) (after_all events base) a c (served.kept_on Whole w base k).1 last))

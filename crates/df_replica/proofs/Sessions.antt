@@ -1,5 +1,6 @@
 -- Calls one after the other: nothing is served at first, one more call goes on, and a fault stops them.
 use Rattle.std.proofs.Common.{◌≡◌, ◌⊎◌, inl, inr, List, [], ◌∷◌, ◌++◌, Option, Some, None, refl, sym, ◌∙◌, ap, subst}
+use Rattle.std.proofs.lemmas.List.{map-append}
 use Rattle.df_base.specs.Image.{Image}
 use Rattle.df_base.specs.Log.{Event, IsLeft, Log}
 use Rattle.df_base.specs.Moments.{EachMoment, Extends, adds}
@@ -17,7 +18,7 @@ use Rattle.df_model.specs.Work.{Work, kept}
 use Rattle.df_opening.specs.Below.{DataFile, State, shape}
 use Rattle.df_replica.specs.Leaving.{AreSettled}
 use Rattle.df_replica.specs.Serving.{EachIsGood, Firm, Grade, IsGoodFor, IsKept, Keeps, Whole, format, next}
-use Rattle.df_replica.specs.Session.{Act, AnsweredIsThere, EachIsMidway, FaultStopsThem, HasView, HoldsFor, HoldsSome, IsMidway, LeavesEither, LeavesView, NothingIsServed, OneMoreIsServed, answers_of, work_after}
+use Rattle.df_replica.specs.Session.{Act, AnsweredIsThere, Exchange, EachIsMidway, FaultStopsThem, HasView, HoldsFor, HoldsSome, IsMidway, LeavesEither, LeavesView, NothingIsServed, OneMoreIsServed, act_in, acts_in, answer_in, answers_of, work_after}
 use Rattle.df_replica.specs.WrittenFor.{IsWrittenIn}
 use Rattle.df_replica.proofs.Calls.{moments}
 use Rattle.df_opening.proofs.Laws.{firmly, good_safe, keeps_back, keeps_on, keeps_self}
@@ -128,7 +129,7 @@ pub keeps_alone : (g : Grade) (s : State) (w : Work) (told : Option Told) → Ke
 keeps_alone g s w None k = k
 keeps_alone g s w (Some t) k = let k_is : IsKept g s w t.log = k in ((firmly g s w t.log k_is).sense, k_is.stands)
 
-module _ (s0 s t : State) (told0 told new : Option Told) (acts : List Act) (answers : List Answer) (act : Act) (same : s.file ≡ s0.file) where
+module _ (s0 s t : State) (told0 told new : Option Told) (acts : List Act) (act : Act) (same : s.file ≡ s0.file) where
   -- the moments of one call more
   one_more_moments : (g : Grade) (w : Work) → EachIsMidway s0.file g w acts told0 told
       → EachIsGood g s (kept (work_after s0.file w acts)) (kept (next s.file (work_after s0.file w acts) act.given act.command).0) told new → EachIsMidway s0.file g w (acts ++ act ∷ []) told0 new
@@ -140,42 +141,51 @@ module _ (s0 s t : State) (told0 told new : Option Told) (acts : List Act) (answ
   work_then : (w : Work) → (next s.file (work_after s0.file w acts) act.given act.command).0 ≡ work_after s0.file w (acts ++ act ∷ [])
   work_then w = ap (λ (file : DataFile). (next file (work_after s0.file w acts) act.given act.command).0) same ∙ sym (work_more s0.file w acts act)
 
-  answer_then : (w : Work) (answer : Answer) → answers ≡ answers_of s0.file w acts → answer ≡ (next s.file (work_after s0.file w acts) act.given act.command).1
-      → answers ++ answer ∷ [] ≡ answers_of s0.file w (acts ++ act ∷ [])
-  answer_then w answer before is =
-      (λ i. before i ++ (is ∙ ap (λ (file : DataFile). (next file (work_after s0.file w acts) act.given act.command).1) same) i ∷ []) ∙ sym (answers_more s0.file w acts act)
+  answer_then : (w : Work) → (next s.file (work_after s0.file w acts) act.given act.command).1 ≡ (next s0.file (work_after s0.file w acts) act.given act.command).1
+  answer_then w = ap (λ (file : DataFile). (next file (work_after s0.file w acts) act.given act.command).1) same
+
+-- the acts of one call more
+acts_more : (xs : List Exchange) (x : Exchange) → acts_in (xs ++ x ∷ []) ≡ acts_in xs ++ x.act ∷ []
+acts_more xs x = map-append act_in xs (x ∷ [])
 
 pub one_more_is_served : OneMoreIsServed
-one_more_is_served s0 s t told0 told new acts answers es act answer served call =
+one_more_is_served s0 s t told0 told new xs es x served call =
     let fs = call.events in
+    let acts = acts_in xs in
+    let act = x.act in
+    let same = served.file in
+    let more : acts ++ act ∷ [] ≡ acts_in (xs ++ x ∷ []) = sym (acts_more xs x) in
+    let then : (w : Work) → (next s.file (work_after s0.file w acts) act.given act.command).0 ≡ work_after s0.file w (acts_in (xs ++ x ∷ [])) = λ w. work_then s0 s t told0 told new acts act same w ∙ ap (work_after s0.file w) more in
     record {
-      file = call.file ∙ served.file;
+      file = call.file ∙ same;
       live = call.live;
       told_is = call.told ∙ ap (after_all fs) served.told_is ∙ sym (after_append es fs told0);
       answered = λ g w k.
           let before = served.answered g w k in
-          let on = call.answers g (work_after s0.file w acts) before.1 in
-          (answer_then s0 s t told0 told new acts answers act served.file w answer before.0 on.0, subst (λ (x : Work). Keeps g t x None) (work_then s0 s t told0 told new acts answers act served.file w) on.1);
+          let on = call.answers g (work_after s0.file w acts) before.1 in (
+            map-append answer_in xs (x ∷ []) ∙ (λ i. before.0 i ++ (on.0 ∙ answer_then s0 s t told0 told new acts act same w) i ∷ []) ∙ sym (answers_more s0.file w acts act) ∙ ap (answers_of s0.file w) more,
+            subst (λ (u : Work). Keeps g t u None) (then w) on.1,
+          );
       kept_on = λ g w base k.
           let before = served.kept_on g w base k in
           let on = call.keeps g (work_after s0.file w acts) (after_all es base) before.1 in
-          subst (λ (o : Option Told). EachIsMidway s0.file g w (acts ++ act ∷ []) base o × Keeps g t (work_after s0.file w (acts ++ act ∷ [])) o) (sym (after_append es fs base)) (
-            one_more_moments s0 s t base (after_all es base) (after_all fs (after_all es base)) acts answers act served.file g w before.0 on.0,
-            subst (λ (x : Work). Keeps g t x (after_all fs (after_all es base))) (work_then s0 s t told0 told new acts answers act served.file w) on.1.1,
+          subst (λ (o : Option Told). EachIsMidway s0.file g w (acts_in (xs ++ x ∷ [])) base o × Keeps g t (work_after s0.file w (acts_in (xs ++ x ∷ []))) o) (sym (after_append es fs base)) (
+            subst (λ (l : List Act). EachIsMidway s0.file g w l base (after_all fs (after_all es base))) more (one_more_moments s0 s t base (after_all es base) (after_all fs (after_all es base)) acts act same g w before.0 on.0),
+            subst (λ (u : Work). Keeps g t u (after_all fs (after_all es base))) (then w) on.1.1,
           );
       settles = λ w log k was.
           let before = served.settles w log k was in
           let u = work_after s0.file w acts in
           let on = call.settles u (adds es log) (served.answered Firm w k).1 in
           let later : Work = (next s.file u act.given act.command).0 in
-          subst (λ (l : Log). AreSettled s0.file l (work_after s0.file w (acts ++ act ∷ []))) (sym (adds_on es fs log))
-          (subst (λ (x : Work). AreSettled s0.file (adds fs (adds es log)) x) (work_then s0 s t told0 told new acts answers act served.file w)
-          (subst (λ (file : DataFile). AreSettled file (adds es log) u → AreSettled file (adds fs (adds es log)) later) served.file on before));
+          subst (λ (l : Log). AreSettled s0.file l (work_after s0.file w (acts_in (xs ++ x ∷ [])))) (sym (adds_on es fs log))
+          (subst (λ (v : Work). AreSettled s0.file (adds fs (adds es log)) v) (then w)
+          (subst (λ (file : DataFile). AreSettled file (adds es log) u → AreSettled file (adds fs (adds es log)) later) same on before));
       written = λ w k was.
           let on = call.written (work_after s0.file w acts) (served.answered Firm w k).1 in
           let later : Work = (next s.file (work_after s0.file w acts) act.given act.command).0 in
-          subst (λ (x : Work). IsWrittenIn s0.file new x) (work_then s0 s t told0 told new acts answers act served.file w)
-          (subst (λ (file : DataFile). IsWrittenIn file told (work_after s0.file w acts) → IsWrittenIn file new later) served.file on (served.written w k was));
+          subst (λ (v : Work). IsWrittenIn s0.file new v) (then w)
+          (subst (λ (file : DataFile). IsWrittenIn file told (work_after s0.file w acts) → IsWrittenIn file new later) same on (served.written w k was));
     }
 
 -- ---- a fault
@@ -191,19 +201,20 @@ leaves_either file g s w u None (Some n) same good = absurd good
 leaves_either file g s w u (Some t) (Some n) same good = λ image left chance. good_left file g (kept w) (kept u) n.log (last_moment file g s (kept w) (kept u) t n same good) image left chance
 
 pub fault_stops_them : FaultStopsThem
-fault_stops_them s0 s t told0 told new acts answers es act served call =
+fault_stops_them s0 s t told0 told new xs es act served call =
     let fs = call.events in
+    let acts = acts_in xs in
     record {
       told_is = call.told ∙ ap (after_all fs) served.told_is ∙ sym (after_append es fs told0);
       moments = λ g w base k.
           let before = served.kept_on g w base k in
           subst (λ (o : Option Told). EachIsMidway s0.file g w (acts ++ act ∷ []) base o) (sym (after_append es fs base))
-          (one_more_moments s0 s t base (after_all es base) (after_all fs (after_all es base)) acts answers act served.file g w before.0 (call.keeps g (work_after s0.file w acts) (after_all es base) before.1).0);
+          (one_more_moments s0 s t base (after_all es base) (after_all fs (after_all es base)) acts act served.file g w before.0 (call.keeps g (work_after s0.file w acts) (after_all es base) before.1).0);
       left = λ g w base k.
           let before = served.kept_on g w base k in
           let then : Work = (next s.file (work_after s0.file w acts) act.given act.command).0 in
           subst (λ (o : Option Told). LeavesEither s0.file g (work_after s0.file w acts) (work_after s0.file w (acts ++ act ∷ [])) o) (sym (after_append es fs base))
-          (subst (λ (x : Work). LeavesEither s0.file g (work_after s0.file w acts) x (after_all fs (after_all es base))) (work_then s0 s t told0 told new acts answers act served.file w)
+          (subst (λ (x : Work). LeavesEither s0.file g (work_after s0.file w acts) x (after_all fs (after_all es base))) (work_then s0 s t told0 told new acts act served.file w)
           (leaves_either s0.file g s (work_after s0.file w acts) then (after_all es base) (after_all fs (after_all es base)) served.file (call.keeps g (work_after s0.file w acts) (after_all es base) before.1).0));
     }
 
@@ -214,4 +225,4 @@ leaves_kept file g s w None same k = tt
 leaves_kept file g s w (Some t) same k = subst (λ (f : DataFile). LeavesView f g w (Some t)) same (view_now g s w t k)
 
 pub answered_is_there : AnsweredIsThere
-answered_is_there s0 s told0 told acts answers es served g w base k = leaves_kept s0.file g s (work_after s0.file w acts) (after_all es base) served.file (served.kept_on g w base k).1
+answered_is_there s0 s told0 told xs es served g w base k = leaves_kept s0.file g s (work_after s0.file w (acts_in xs)) (after_all es base) served.file (served.kept_on g w base k).1

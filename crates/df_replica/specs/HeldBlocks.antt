@@ -4,13 +4,13 @@ use Rattle.df_base.specs.Log.{Event}
 use Rattle.df_disk.specs.Told.{IsHonest, Told}
 use Rattle.df_disk.specs.Adds.{after_all}
 use Rattle.df_theory.specs.Units.{Block, BlockPlace, BlockUnit}
-use Rattle.df_model.specs.Commands.{Answer, IsInput}
+use Rattle.df_model.specs.Commands.{IsInput}
 use Rattle.df_model.specs.Supply.{block_at, no_trailer}
 use Rattle.df_model.specs.Work.{Running, Work}
 use Rattle.df_opening.specs.Below.{DataFile, State}
 use Rattle.df_replica.specs.Reading.{shown_of}
 use Rattle.df_replica.specs.Serving.{Keeps, Whole, format, next}
-use Rattle.df_replica.specs.Session.{Act, IsServed, work_after}
+use Rattle.df_replica.specs.Session.{Act, Exchange, IsServed, acts_in, work_after}
 
 -- a block with this checksum is held at the address: it is live, or the running or the durable checkpoint references it
 pub data HoldsBlock (w : Work) (a c : ℕ) : Type 0 where
@@ -35,10 +35,10 @@ ShowsHeld file a c (Some t) =
     IsHonest t
     → (b : Block) × (b.checksum ≡ c) × (0 < b.kind) × ((format file).unit_at t.shown (BlockPlace a) ≡ Some (BlockUnit b)) × (no_trailer (block_at (shown_of file t.shown) (Some c) a) ≡ Ok b)
 
--- From a file that shows each block that it references, over any acts that were served: a block that is held at first is still held as long as its address stays held,
+-- From a file that shows each block that it references, over any calls that were served: a block that is held at first is still held as long as its address stays held,
 -- and shown, by each log by which the file was kept.
 abbrev pub HeldBlocksAreShown : Type 0
 HeldBlocksAreShown =
-    (s0 s : State) (told0 told : Option Told) (acts : List Act) (answers : List Answer) (events : List Event) → IsServed s0 s told0 told acts answers events → AreInputs acts
-    → (w : Work) (base : Option Told) → Keeps Whole s0 w base → (a c : ℕ) → HoldsBlock w a c → StaysHeld s0.file a w acts
-    → HoldsBlock (work_after s0.file w acts) a c × ShowsHeld s0.file a c (after_all events base)
+    (s0 s : State) (told0 told : Option Told) (exchanges : List Exchange) (events : List Event) → IsServed s0 s told0 told exchanges events → AreInputs (acts_in exchanges)
+    → (w : Work) (base : Option Told) → Keeps Whole s0 w base → (a c : ℕ) → HoldsBlock w a c → StaysHeld s0.file a w (acts_in exchanges)
+    → HoldsBlock (work_after s0.file w (acts_in exchanges)) a c × ShowsHeld s0.file a c (after_all events base)

@@ -27,5 +27,5 @@ pub record KeepsAnew (g : Grade) (t : Told) (s : Replica) (view : View) (mending
   pub bare : IsSameBare view (booted view (content_of (content_with s.fields)))
   pub kept : IsKept g s (begun_work s.file t.shown view) (begun_after mending t).log
   pub begins : HistoryBegins s.file (begun_after mending t).shown
-  pub keeps : KeepsFile s.file g (begun_work s.file t.shown view) (begun_after mending t) c.acts c.answers c.failed (over [] (events_made c) (begun_after mending t))
+  pub keeps : KeepsFile s.file g (begun_work s.file t.shown view) (begun_after mending t) c.exchanges c.failed (over [] (events_made c) (begun_after mending t))
   pub acknowledged : KeepsAnswered s.file g (begun_work s.file t.shown view) (over [] [] (begun_after mending t)) c

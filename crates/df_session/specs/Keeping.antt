@@ -5,12 +5,11 @@ use Rattle.df_base.specs.Moments.{EachMoment, Extends}
 use Rattle.df_disk.specs.Told.{IsHonest, Told, did}
 use Rattle.df_theory.specs.Device.{units_log}
 use Rattle.df_theory.specs.TidyLaws.{IsTidy}
-use Rattle.df_model.specs.Commands.{Answer}
 use Rattle.df_model.specs.Work.{Work, kept}
 use Rattle.df_result.specs.Below.{DataFile, shape, told_after}
 use Rattle.df_result.specs.Leaving.{AreSettled}
 use Rattle.df_result.specs.Serving.{Grade, format}
-use Rattle.df_result.specs.Session.{Act, IsMidway, LeavesEither, LeavesView, answers_of, work_after}
+use Rattle.df_result.specs.Session.{Act, Exchange, IsMidway, LeavesEither, LeavesView, acts_in, answers_in, answers_of, work_after}
 use Rattle.df_session.specs.Links.{list_of}
 
 -- what a base tells after the barrier of an open and its mending, and after what was done then
@@ -30,13 +29,13 @@ EndsTidy file w acts (Some a) n = Unit {0}
 -- From the barrier on, where the machine began with this state: at each moment the log is safe, and whatever a stop leaves has the view after some of the
 -- acts, from the first on. At the end it has all that were answered, and no sector is loose of a block that the checkpoint after them references, or of its trailer:
 -- no stop changes one of these, sound or hurt.
-pub record KeepsFile (file : DataFile) (g : Grade) (w : Work) (t : Told) (acts : List Act) (answers : List Answer) (failed : Option Act) (told : Option Told) : Type 0 where
+pub record KeepsFile (file : DataFile) (g : Grade) (w : Work) (t : Told) (exchanges : List Exchange) (failed : Option Act) (told : Option Told) : Type 0 where
   pub after : Told
   pub is : told ≡ Some after
   pub honest : IsHonest after
   pub barrier : Extends after.log (did Sync t).log
-  pub moments : EachMoment (did Sync t).log after.log (IsMidway file g w (acts ++ list_of failed))
-  pub left : LeavesAll file g w acts failed after
-  pub tidy : EndsTidy file w acts failed after
-  pub settled : AreSettled file after.log (work_after file w acts)
-  pub answered : answers ≡ answers_of file w acts
+  pub moments : EachMoment (did Sync t).log after.log (IsMidway file g w (acts_in exchanges ++ list_of failed))
+  pub left : LeavesAll file g w (acts_in exchanges) failed after
+  pub tidy : EndsTidy file w (acts_in exchanges) failed after
+  pub settled : AreSettled file after.log (work_after file w (acts_in exchanges))
+  pub answered : answers_in exchanges ≡ answers_of file w (acts_in exchanges)

@@ -8,7 +8,6 @@ use Rattle.df_disk.specs.Told.{Told, did}
 use Rattle.df_theory.specs.Found.{IsFound}
 use Rattle.df_theory.specs.View.{View}
 use Rattle.df_units.specs.Bytes.{unit_at}
-use Rattle.df_model.specs.Commands.{Answer}
 use Rattle.df_model.specs.Supply.{Shown}
 use Rattle.df_result.specs.Below.{AreDistinct, IsLivedDisk, MayReopen, State as Replica, begun, shape, told_after}
 use Rattle.df_result.specs.Following.{MayOpen}
@@ -16,7 +15,7 @@ use Rattle.df_result.specs.Begun.{begun_work}
 use Rattle.df_result.specs.Opened.{AreRaising, Mends, MendsAll, raised_state}
 use Rattle.df_result.specs.Reading.{shown_of}
 use Rattle.df_result.specs.Serving.{Firm, Grade, IsKept, Keeps, StandsFor}
-use Rattle.df_result.specs.Session.{Act, answers_of}
+use Rattle.df_result.specs.Session.{Act, Exchange, acts_in, answers_in, answers_of}
 use Rattle.df_result.specs.Agreeing.{AgreeShown}
 use Rattle.df_session.specs.Acknowledging.{KeepsAnswered}
 use Rattle.df_session.specs.Anew.{KeepsAnew}
@@ -31,15 +30,15 @@ use Rattle.df_session.specs.Sparing.{SparesBlocks}
 -- answer on. And whatever the copies of the superblock showed, so it is by the log that is begun anew at the end of the open. Whatever history of damage and opens the file has, it is lived with the log that is begun anew at the open, at each moment.
 pub record CallsKeep (t : Told) (s : Replica) (mended : Option Told) (mending : Mends s.file (Some (did Sync t)) mended) (c : CallsMade) : Type 0 where
   pub stands : (view : View) → IsFound (shape s.file) (unit_at s.file.layout s.file.cluster t.shown) view → Keeps Firm s (begun_work s.file t.shown view) None
-  pub answered : (view : View) → IsFound (shape s.file) (unit_at s.file.layout s.file.cluster t.shown) view → c.answers ≡ answers_of s.file (begun_work s.file t.shown view) c.acts
+  pub answered : (view : View) → IsFound (shape s.file) (unit_at s.file.layout s.file.cluster t.shown) view → answers_in c.exchanges ≡ answers_of s.file (begun_work s.file t.shown view) (acts_in c.exchanges)
   pub result : (view : View) (shown : Shown) → IsFound (shape s.file) (unit_at s.file.layout s.file.cluster t.shown) view → AgreeShown s.file.layout (shown_of s.file t.shown) shown
-      → AnswersResult s.file shown (begun_work s.file t.shown view) c.acts c.answers
+      → AnswersResult s.file shown (begun_work s.file t.shown view) c.exchanges
   pub mends : (found : Replica) × (s ≡ raised_state found) × AreRaising t found mending.events
   pub adds : c.new ≡ after_all (events_made c) mended
   pub kept : (g : Grade) (view : View) (base : Told) → base.shown ≡ t.shown → MayOpen s.file view base → StandsFor g (unit_at s.file.layout s.file.cluster t.shown) view
       → IsKept g s (begun_work s.file t.shown view) (told_after mending.events (did Sync base)).log
   pub keeps : (g : Grade) (view : View) (base : Told) → base.shown ≡ t.shown → MayOpen s.file view base → StandsFor g (unit_at s.file.layout s.file.cluster t.shown) view
-      → KeepsFile s.file g (begun_work s.file t.shown view) base c.acts c.answers c.failed (over mending.events (events_made c) base)
+      → KeepsFile s.file g (begun_work s.file t.shown view) base c.exchanges c.failed (over mending.events (events_made c) base)
   pub acknowledged : (g : Grade) (view : View) (base : Told) → base.shown ≡ t.shown → MayOpen s.file view base → StandsFor g (unit_at s.file.layout s.file.cluster t.shown) view
       → KeepsAnswered s.file g (begun_work s.file t.shown view) (over mending.events [] base) c
   pub anew : (g : Grade) (view : View) → IsFound (shape s.file) (unit_at s.file.layout s.file.cluster t.shown) view → AreDistinct (unit_at s.file.layout s.file.cluster t.shown)
@@ -49,10 +48,10 @@ pub record CallsKeep (t : Told) (s : Replica) (mended : Option Told) (mending : 
   pub spares : (view : View) → IsFound (shape s.file) (unit_at s.file.layout s.file.cluster t.shown) view → SparesBlocks s.file (begun_work s.file t.shown view) c
 
 -- these calls, made on what an open found and mended
-abbrev pub made_on : (s : Replica) (mended : Option Told) (to : Replica) (new : Option Told) (acts : List Act) (answers : List Answer) (failed : Option Act) → EndsCalls s to mended new acts answers failed → CallsMade
-made_on s mended to new acts answers failed calls = record { from = s; to = to; old = mended; new = new; acts = acts; answers = answers; failed = failed; calls = calls }
+abbrev pub made_on : (s : Replica) (mended : Option Told) (to : Replica) (new : Option Told) (exchanges : List Exchange) (failed : Option Act) → EndsCalls s to mended new exchanges failed → CallsMade
+made_on s mended to new exchanges failed calls = record { from = s; to = to; old = mended; new = new; exchanges = exchanges; failed = failed; calls = calls }
 
 abbrev pub CallsOnOpenFileKeepIt : Type 0
 CallsOnOpenFileKeepIt =
-    (t : Told) (s : Replica) (mended : Option Told) (found : MendsAll t s mended) (to : Replica) (new : Option Told) (acts : List Act) (answers : List Answer) (failed : Option Act) (calls : EndsCalls s to mended new acts answers failed)
-    → IsImage t.shown → s.live ≡ true → CallsKeep t s mended found.mending (made_on s mended to new acts answers failed calls)
+    (t : Told) (s : Replica) (mended : Option Told) (found : MendsAll t s mended) (to : Replica) (new : Option Told) (exchanges : List Exchange) (failed : Option Act) (calls : EndsCalls s to mended new exchanges failed)
+    → IsImage t.shown → s.live ≡ true → CallsKeep t s mended found.mending (made_on s mended to new exchanges failed calls)
