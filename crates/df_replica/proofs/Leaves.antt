@@ -13,17 +13,18 @@ use Rattle.df_theory.specs.Device.{AreSteps}
 use Rattle.df_theory.specs.Runs.{Step}
 use Rattle.df_theory.specs.UnitLog.{put_one}
 use Rattle.df_units.specs.Bytes.{has, unit_at}
-use Rattle.df_model.specs.After.{after_check, after_running, after_step_of, begun, outcome, to_check, with_group, with_live, with_prepare, with_reply, with_running, with_staged}
+use Rattle.df_model.specs.After.{with_verdict}
+use Rattle.df_model.specs.Change.{Appends, Begins, Change, Checks, Ends, LetsGo, Lives, Replies, Stages, Stays, TourEnds, Writes}
 use Rattle.df_model.specs.Commands.{Advance, Append, Begin, Command, Flush, Given, ReadBlock, ReadPrepare, ReadReply, Recent, Release, Reply, Scrub, Stage, WriteBlock, supplied_sum, supplied_sums, supplied_verdict}
-use Rattle.df_model.specs.Making.{block_of, first_of, group_of, needed_of, next_address, place_of_reply, prepare_of, reply_of, trailer_block}
+use Rattle.df_model.specs.Making.{block_of, first_of, group_of, next_address, place_of_reply, prepare_of, reply_of, trailer_block}
 use Rattle.df_model.specs.Memory.{Course, Memory, course, course_of, memory_of}
-use Rattle.df_model.specs.Refusals.{append_refusals, begin_refusals, block_refusals, first_refusal, flush_refusals, release_refusals, reply_refusals, stage_refusals}
+use Rattle.df_model.specs.Refusals.{append_refusals, block_refusals, first_refusal, flush_refusals, reply_refusals}
 use Rattle.df_model.specs.Sense.{AtEachOf, IsClear, IsWork}
 use Rattle.df_model.specs.Supply.{copies_of, group_puts, puts_of, step_puts, trailer_puts, unless}
 use Rattle.df_model.specs.Work.{Running, Work, is_captured, is_held, is_known, is_of}
 use Rattle.df_model.specs.declared.answers.Verdict.{Verdict}
 use Rattle.df_model.specs.declared.answers.Verdict.TheVariants.{Sound, Failing}
-use Rattle.df_model.proofs.Laws.{block_may_law, some_of}
+use Rattle.df_model.proofs.Laws.{block_may_law, one_thing_law, some_of}
 use Rattle.df_opening.specs.Below.{DataFile, Represents, State, memory, shape, spelling}
 use Rattle.df_replica.specs.Leaving.{AreSettled, IsReadPlace, LeavesCopies, LeavesShown, SparesHeld, WritesNext, image_after, is_durable, SparesOthers}
 use Rattle.df_replica.specs.Serving.{Firm, Keeps, format, next}
@@ -66,7 +67,6 @@ module _ (file : DataFile) (w : Work) (work : IsWork (shape file) (spelling file
   held_unput : (command : Command) → (WritesNext command w a → ⊥) → puts_of m sums command (BlockPlace a) ≡ None
   held_unput (Append client request body) other =
       unless_none (first_refusal (append_refusals m client request body)) (put_one (PreparePlace ((m.head + 1) % m.layout.slots)) (PrepareUnit (prepare_of m made client request body))) (BlockPlace a) (λ none. refl)
-  held_unput (Stage client request body) other = refl
   held_unput Flush other = unless_none (first_refusal (flush_refusals m)) (group_puts m.layout.slots (group_of m sums)) (BlockPlace a) (λ none. group_aside m.layout.slots (group_of m sums) a)
   held_unput (Reply op body) other =
       unless_none (first_refusal (reply_refusals m op body)) (put_one (ReplyPlace (place_of_reply m)) (ReplyUnit (reply_of m made body))) (BlockPlace a) (λ none. refl)
@@ -76,14 +76,8 @@ module _ (file : DataFile) (w : Work) (work : IsWork (shape file) (spelling file
       let free : is_held w (next_address m) ≡ false = (block_may_law (shape file) (spelling file) w kind body none).free in
       let no : true ≡ false = sym held ∙ ap (is_held w) (sym same) ∙ free in
       cc))
-  held_unput (Release address) other = refl
-  held_unput (Begin root) other = refl
   held_unput Advance other = step_unput other w.running refl
-  held_unput (ReadPrepare op) other = refl
-  held_unput (ReadReply client) other = refl
-  held_unput (ReadBlock address) other = refl
-  held_unput Scrub other = refl
-  held_unput Recent other = refl
+  held_unput command other = refl
 
 -- ---- what is durable after a command
 
@@ -101,55 +95,25 @@ module _ (file : DataFile) (w : Work) (a : ℕ) where
   abbrev WasDurable : Command → Type 0
   WasDurable command = (is_durable w a ≡ true) ⊎ EndsWith command w a
 
-  unless_was : {E A : Type 0} (o : Option E) (u : Work) (x : A) → (is_durable u a ≡ true → is_durable w a ≡ true) → is_durable (outcome o w u x).0 a ≡ true → is_durable w a ≡ true
-  unless_was (Some e) u x go is = is
-  unless_was None u x go is = go is
+  checked_was : (at : ℕ) (verdict : Verdict) → is_durable (with_verdict w at verdict) a ≡ true → is_durable w a ≡ true
+  checked_was at Sound is = is
+  checked_was at (Failing class) is = is
 
-  checked_was : (verdict : Verdict) (list : List (ℕ × ℕ)) → is_durable (after_check w verdict list).0 a ≡ true → is_durable w a ≡ true
-  checked_was verdict [] is = is
-  checked_was Sound (x ∷ more) is = is
-  checked_was (Failing class) (x ∷ more) is = is
-
-  left_was : (sum : ℕ) (r : Running) → w.running ≡ Some r → (left : List ℕ) → r.left ≡ left → is_durable (after_running (shape file) (spelling file) w sum r left).0 a ≡ true → WasDurable Advance
-  left_was sum r running [] left is = inr (r, running, left, is)
-  left_was sum r running (x ∷ more) left is = inl is
-
-  step_was : (sum : ℕ) (o : Option Running) → w.running ≡ o → is_durable (after_step_of (shape file) (spelling file) w sum o).0 a ≡ true → WasDurable Advance
-  step_was sum None running is = inl is
-  step_was sum (Some r) running is = left_was sum r running r.left refl is
+  changed_was : (given : Given) (command : Command) (u : Work) → Change (shape file) (spelling file) w given command u → is_durable u a ≡ true → WasDurable command
+  changed_was given command u (Stays _ idle) is = inl is
+  changed_was given command u (Appends _ ps group) is = inl is
+  changed_was given command u (Stages client request body none) is = inl is
+  changed_was given command u (Replies op body none) is = inl is
+  changed_was given command u (Lives kind body none) is = inl is
+  changed_was given command u (LetsGo address none) is = inl is
+  changed_was given command u (Begins root none) is = inl is
+  changed_was given command u (Writes r x more running left) is = inl is
+  changed_was given command u (Ends r running left) is = inr (r, running, left, is)
+  changed_was given command u (Checks x more list) is = inl (checked_was x.0 (supplied_verdict given) is)
+  changed_was given command u (TourEnds none) is = inl is
 
   was_durable : (given : Given) (command : Command) → is_durable (next file w given command).0 a ≡ true → WasDurable command
-  was_durable given (Append client request body) is =
-      let m = memory_of (shape file) (spelling file) w in
-      let p = prepare_of m (supplied_sum given) client request body in
-      let answer : ℕ × ℕ = (p.header.op, supplied_sum given) in
-      inl (unless_was (first_refusal (append_refusals m client request body)) (with_prepare w p) answer (λ there. there) is)
-  was_durable given (Stage client request body) is =
-      let m = memory_of (shape file) (spelling file) w in
-      inl (unless_was (first_refusal (stage_refusals m client request body)) (with_staged w (record { client = client; request = request; body = body })) (m.head + length m.staged + 1) (λ there. there) is)
-  was_durable given Flush is =
-      let m = memory_of (shape file) (spelling file) w in
-      inl (unless_was (first_refusal (flush_refusals m)) (with_group w (group_of m (supplied_sums given))) (length m.staged) (λ there. there) is)
-  was_durable given (Reply op body) is =
-      let m = memory_of (shape file) (spelling file) w in
-      inl (unless_was (first_refusal (reply_refusals m op body)) (with_reply w (place_of_reply m) (reply_of m (supplied_sum given) body)) (supplied_sum given) (λ there. there) is)
-  was_durable given (WriteBlock kind body) is =
-      let m = memory_of (shape file) (spelling file) w in
-      let answer : ℕ × ℕ = (next_address m, supplied_sum given) in
-      inl (unless_was (first_refusal (block_refusals m kind body)) (with_live w (next_address m) (Some (supplied_sum given))) answer (λ there. there) is)
-  was_durable given (Release address) is =
-      let m = memory_of (shape file) (spelling file) w in
-      inl (unless_was (first_refusal (release_refusals m address)) (with_live w address None) tt (λ there. there) is)
-  was_durable given (Begin root) is =
-      let m = memory_of (shape file) (spelling file) w in
-      let needed = needed_of (spelling file) m root in
-      inl (unless_was (first_refusal (begin_refusals m needed root)) (with_running w (Some (begun (shape file) (spelling file) w root))) needed (λ there. there) is)
-  was_durable given Advance is = step_was (supplied_sum given) w.running refl is
-  was_durable given (ReadPrepare op) is = inl is
-  was_durable given (ReadReply client) is = inl is
-  was_durable given (ReadBlock address) is = inl is
-  was_durable given Scrub is = inl (checked_was (supplied_verdict given) (to_check (memory_of (shape file) (spelling file) w)) is)
-  was_durable given Recent is = inl is
+  was_durable given command is = changed_was given command (next file w given command).0 (one_thing_law (shape file) (spelling file) w given command) is
 
 -- what is durable is held
 pub durable_held : (w : Work) (a : ℕ) → is_durable w a ≡ true → is_held w a ≡ true
@@ -173,18 +137,7 @@ next_aside w a clear is Advance (r, more, running, left) =
       | inl known ↦ let no : true ≡ false = sym known ∙ ap is_known free.unreferenced in cc
       | inr there ↦ let at = some_of a w.view.checkpoint.chain there in free.no_trailer at.0 at.1
     ]
-next_aside w a clear is (Append client request body) never = never
-next_aside w a clear is (Stage client request body) never = never
-next_aside w a clear is Flush never = never
-next_aside w a clear is (Reply op body) never = never
-next_aside w a clear is (WriteBlock kind body) never = never
-next_aside w a clear is (Release address) never = never
-next_aside w a clear is (Begin root) never = never
-next_aside w a clear is (ReadPrepare op) never = never
-next_aside w a clear is (ReadReply client) never = never
-next_aside w a clear is (ReadBlock address) never = never
-next_aside w a clear is Scrub never = never
-next_aside w a clear is Recent never = never
+next_aside w a clear is command never = never
 
 -- nor does the last step write one
 last_aside : (w : Work) (a : ℕ) (r : Running) → w.running ≡ Some r → r.left ≡ [] → (command : Command) → WritesNext command w a → ⊥
@@ -192,18 +145,7 @@ last_aside w a r running left Advance (q, more, on, to_come) =
     let same : r ≡ q = same_Some _ _ (sym running ∙ on) in
     let no : [] ≡ a ∷ more = sym left ∙ ap (λ (x : Running). x.left) same ∙ to_come in
     cc
-last_aside w a r running left (Append client request body) never = never
-last_aside w a r running left (Stage client request body) never = never
-last_aside w a r running left Flush never = never
-last_aside w a r running left (Reply op body) never = never
-last_aside w a r running left (WriteBlock kind body) never = never
-last_aside w a r running left (Release address) never = never
-last_aside w a r running left (Begin root) never = never
-last_aside w a r running left (ReadPrepare op) never = never
-last_aside w a r running left (ReadReply client) never = never
-last_aside w a r running left (ReadBlock address) never = never
-last_aside w a r running left Scrub never = never
-last_aside w a r running left Recent never = never
+last_aside w a r running left command never = never
 
 -- ---- a call whose steps put what its command makes
 
@@ -296,18 +238,7 @@ module _ (given : Given) (command : Command) (s : State) (events : List Event) (
   -- no command but a step ends a checkpoint
   ends_by : (P : Command → Type 0) (w : Work) (a : ℕ) → (EndsWith Advance w a → P Advance) → (c : Command) → EndsWith c w a → P c
   ends_by P w a step Advance ends = step ends
-  ends_by P w a step (Append client request body) never = absurd never
-  ends_by P w a step (Stage client request body) never = absurd never
-  ends_by P w a step Flush never = absurd never
-  ends_by P w a step (Reply op body) never = absurd never
-  ends_by P w a step (WriteBlock kind body) never = absurd never
-  ends_by P w a step (Release address) never = absurd never
-  ends_by P w a step (Begin root) never = absurd never
-  ends_by P w a step (ReadPrepare op) never = absurd never
-  ends_by P w a step (ReadReply client) never = absurd never
-  ends_by P w a step (ReadBlock address) never = absurd never
-  ends_by P w a step Scrub never = absurd never
-  ends_by P w a step Recent never = absurd never
+  ends_by P w a step command never = absurd never
 
   ends_last : (w : Work) (a : ℕ) (c : Command) → EndsWith c w a → IsLast c (memory_of (shape s.file) (spelling s.file) w)
   ends_last w a = ends_by (λ c. IsLast c (memory_of (shape s.file) (spelling s.file) w)) w a (λ ends. subst (λ (o : Option Running). IsWhole (course_of (spelling s.file) o)) (sym ends.1) ends.2)

@@ -65,34 +65,16 @@ module _ (given : Given) (s u : State) (w : Work) (t : Told) (new : Option Told)
     block_own address call b is = block_is_lent s w t address b keeps.1 (block_read address call b is)
 
 pub call_is_the_one : CallIsTheOne
-call_is_the_one given (Append client request body) s u w t new answer call keeps chance = tt
-call_is_the_one given (Stage client request body) s u w t new answer call keeps chance = tt
-call_is_the_one given Flush s u w t new answer call keeps chance = tt
-call_is_the_one given (Reply op body) s u w t new answer call keeps chance = tt
-call_is_the_one given (WriteBlock kind body) s u w t new answer call keeps chance = tt
-call_is_the_one given (Release address) s u w t new answer call keeps chance = tt
-call_is_the_one given (Begin root) s u w t new answer call keeps chance = tt
-call_is_the_one given Advance s u w t new answer call keeps chance = tt
 call_is_the_one given (ReadPrepare op) s u w t new answer call keeps chance = λ p is. prepare_is_the_one s t op p chance (prepare_read given s u w t new answer keeps op call p is)
 call_is_the_one given (ReadReply client) s u w t new answer call keeps chance = λ r is. reply_is_the_one s t client r chance (reply_read given s u w t new answer keeps client call r is)
 call_is_the_one given (ReadBlock address) s u w t new answer call keeps chance = λ b is. block_is_the_one s t address b chance (block_read given s u w t new answer keeps address call b is)
-call_is_the_one given Scrub s u w t new answer call keeps chance = tt
-call_is_the_one given Recent s u w t new answer call keeps chance = tt
+call_is_the_one given command s u w t new answer call keeps chance = tt
 
 pub call_is_own : CallIsOwn
-call_is_own given (Append client request body) s u w t new answer call keeps written chance = tt
-call_is_own given (Stage client request body) s u w t new answer call keeps written chance = tt
-call_is_own given Flush s u w t new answer call keeps written chance = tt
-call_is_own given (Reply op body) s u w t new answer call keeps written chance = tt
-call_is_own given (WriteBlock kind body) s u w t new answer call keeps written chance = tt
-call_is_own given (Release address) s u w t new answer call keeps written chance = tt
-call_is_own given (Begin root) s u w t new answer call keeps written chance = tt
-call_is_own given Advance s u w t new answer call keeps written chance = tt
 call_is_own given (ReadPrepare op) s u w t new answer call keeps written chance = prepare_own given s u w t new answer keeps written chance op call
 call_is_own given (ReadReply client) s u w t new answer call keeps written chance = reply_own given s u w t new answer keeps written chance client call
 call_is_own given (ReadBlock address) s u w t new answer call keeps written chance = block_own given s u w t new answer keeps written chance address call
-call_is_own given Scrub s u w t new answer call keeps written chance = tt
-call_is_own given Recent s u w t new answer call keeps written chance = tt
+call_is_own given command s u w t new answer call keeps written chance = tt
 
 -- ---- calls one after the other, between which sectors may be struck
 

@@ -11,12 +11,14 @@ use Rattle.df_theory.specs.Trailer.{InChain}
 use Rattle.df_theory.specs.Units.{AnyUnit, Block, BlockPlace, BlockUnit, CopyPlace, HeaderPlace, Message, Parts, Place, PreparePlace, PrepareUnit, ReplyPlace, ReplyUnit}
 use Rattle.df_theory.specs.View.{head}
 use Rattle.df_theory.proofs.Laws.{in_dropped, in_either, kept_some}
-use Rattle.df_model.specs.After.{after_check, after_running, after_step_of, begun, finished, next_trailer, outcome, to_check, with_group, with_live, with_prepare, with_reply, with_running, with_staged, with_trailer_block}
-use Rattle.df_model.specs.Commands.{Advance, Append, Begin, Command, Flush, Given, ReadBlock, ReadPrepare, ReadReply, Recent, Release, Reply, Scrub, Stage, WriteBlock, after, supplied_sum, supplied_sums, supplied_verdict}
-use Rattle.df_model.specs.Making.{group_of, needed_of, next_address, place_of_reply, prepare_of, reply_of}
+use Rattle.df_model.specs.After.{begun, finished, next_trailer, with_group, with_reply, with_running, with_trailer_block, with_verdict}
+use Rattle.df_model.specs.Change.{Appends, Begins, Change, Checks, Ends, LetsGo, Lives, One, Replies, Staged, Stages, Stays, TourEnds, Writes}
+use Rattle.df_model.specs.Commands.{Advance, Append, Command, Flush, Given, Reply, after, supplied_sum, supplied_sums, supplied_verdict}
+use Rattle.df_model.specs.Making.{group_of, place_of_reply, prepare_of, reply_of}
 use Rattle.df_model.specs.Memory.{memory_of}
-use Rattle.df_model.specs.Refusals.{append_refusals, begin_refusals, block_refusals, first_refusal, flush_refusals, release_refusals, reply_refusals, stage_refusals}
+use Rattle.df_model.specs.Refusals.{append_refusals, first_refusal, flush_refusals, reply_refusals}
 use Rattle.df_model.specs.Work.{Running, Work, kept}
+use Rattle.df_model.proofs.Laws.{one_thing_law}
 use Rattle.df_model.specs.declared.answers.Verdict.{Verdict}
 use Rattle.df_model.specs.declared.answers.Verdict.TheVariants.{Sound, Failing}
 
@@ -46,20 +48,12 @@ abbrev pub OfMade : Shape → (Parts → List ℕ) → (Place → AnyUnit → Ty
 OfMade sh spell P w given (Append client request body) =
     let p = prepare_of (memory_of sh spell w) (supplied_sum given) client request body in
     Unless (first_refusal (append_refusals (memory_of sh spell w) client request body)) (P (PreparePlace (p.header.op % slots sh)) (PrepareUnit p))
-OfMade sh spell P w given (Stage client request body) = Unit {0}
 OfMade sh spell P w given Flush = Unless (first_refusal (flush_refusals (memory_of sh spell w))) (OfPrepares sh P (group_of (memory_of sh spell w) (supplied_sums given)))
 OfMade sh spell P w given (Reply op body) =
     let m = memory_of sh spell w in
     Unless (first_refusal (reply_refusals m op body)) (P (ReplyPlace (place_of_reply m)) (ReplyUnit (reply_of m (supplied_sum given) body)))
 OfMade sh spell P w given Advance = OfStep sh spell P w (supplied_sum given) w.running
-OfMade sh spell P w given (WriteBlock kind body) = Unit {0}
-OfMade sh spell P w given (Release address) = Unit {0}
-OfMade sh spell P w given (Begin root) = Unit {0}
-OfMade sh spell P w given (ReadPrepare op) = Unit {0}
-OfMade sh spell P w given (ReadReply client) = Unit {0}
-OfMade sh spell P w given (ReadBlock address) = Unit {0}
-OfMade sh spell P w given Scrub = Unit {0}
-OfMade sh spell P w given Recent = Unit {0}
+OfMade sh spell P w given command = Unit {0}
 
 -- a weaker fact of it
 module _ (sh : Shape) (spell : Parts → List ℕ) (P Q : Place → AnyUnit → Type 0) (weaker : (place : Place) (x : AnyUnit) → P place x → Q place x) (w : Work) where
@@ -85,18 +79,10 @@ module _ (sh : Shape) (spell : Parts → List ℕ) (P Q : Place → AnyUnit → 
 
   pub made_weaker : (given : Given) (command : Command) → OfMade sh spell P w given command → OfMade sh spell Q w given command
   made_weaker given (Append client request body) is = unless_weaker (first_refusal (append_refusals (memory_of sh spell w) client request body)) _ _ is
-  made_weaker given (Stage client request body) is = tt
   made_weaker given Flush is = group_weaker (first_refusal (flush_refusals (memory_of sh spell w))) (group_of (memory_of sh spell w) (supplied_sums given)) is
   made_weaker given (Reply op body) is = unless_weaker (first_refusal (reply_refusals (memory_of sh spell w) op body)) _ _ is
   made_weaker given Advance is = step_weaker (supplied_sum given) w.running is
-  made_weaker given (WriteBlock kind body) is = tt
-  made_weaker given (Release address) is = tt
-  made_weaker given (Begin root) is = tt
-  made_weaker given (ReadPrepare op) is = tt
-  made_weaker given (ReadReply client) is = tt
-  made_weaker given (ReadBlock address) is = tt
-  made_weaker given Scrub is = tt
-  made_weaker given Recent is = tt
+  made_weaker given command is = tt
 
 -- ---- what a state needs
 
@@ -123,9 +109,6 @@ module _ (sh : Shape) (spell : Parts → List ℕ) (P : Place → AnyUnit → Ty
   ]
   needs_more ps made (ReplyPlace k) x (r, at, is) = has.needs (ReplyPlace k) x (r, kept_some _ (head w.view) (w.view.stored k) r at, is)
   needs_more ps made (BlockPlace a) x need = has.needs (BlockPlace a) x need
-
-  appended_has : (p : Message) → P (PreparePlace (p.header.op % slots sh)) (PrepareUnit p) → HasEach sh P (with_prepare w p)
-  appended_has p made = record { needs = λ place x need. needs_more (p ∷ []) (made, tt) place x need; trailer = has.trailer }
 
   flushed_has : (ps : List Message) → OfPrepares sh P ps → HasEach sh P (with_group w ps)
   flushed_has ps made = record { needs = λ place x need. needs_more ps made place x need; trailer = has.trailer }
@@ -174,58 +157,33 @@ module _ (sh : Shape) (spell : Parts → List ℕ) (P : Place → AnyUnit → Ty
       needs (ReplyPlace k) x need = has.needs (ReplyPlace k) x need
       needs (BlockPlace a) x (b, at, is) = subst (λ (y : AnyUnit). P (BlockPlace a) y) (sym is) (has.trailer r running a b at)
 
-  left_has : (sum : ℕ) (r : Running) → w.running ≡ Some r → (left : List ℕ) → OfLeft sh spell P w sum r left → HasEach sh P (after_running sh spell w sum r left).0
-  left_has sum r running [] made = finished_has r running sum
-  left_has sum r running (a ∷ more) made = wrote_has r running a (next_trailer sh spell w r sum) more made
-
-  step_has : (sum : ℕ) (o : Option Running) → w.running ≡ o → OfStep sh spell P w sum o → HasEach sh P (after_step_of sh spell w sum o).0
-  step_has sum None running made = has
-  step_has sum (Some r) running made = left_has sum r running r.left made
+  checked_has : (at : ℕ) (verdict : Verdict) → HasEach sh P (with_verdict w at verdict)
+  checked_has at Sound = record { needs = has.needs; trailer = has.trailer }
+  checked_has at (Failing class) = record { needs = has.needs; trailer = has.trailer }
 
   -- ---- any command
 
-  unless_has : {E A : Type 0} (o : Option E) (u : Work) (answer : A) → HasEach sh P u → HasEach sh P (outcome o w u answer).0
-  unless_has (Some e) u answer there = has
-  unless_has None u answer there = there
+  -- what isn't refused is made
+  made_now : {E : Type 0} (o : Option E) (Q : Type 0) → o ≡ None → Unless o Q → Q
+  made_now (Some e) Q none made = absurd (cc)
+  made_now None Q none made = made
 
-  made_has : {E A : Type 0} (o : Option E) (u : Work) (answer : A) (place : Place) (x : AnyUnit) → (P place x → HasEach sh P u) → Unless o (P place x) → HasEach sh P (outcome o w u answer).0
-  made_has (Some e) u answer place x leads made = has
-  made_has None u answer place x leads made = leads made
+  written_now : (sum : ℕ) (r : Running) (a : ℕ) (more : List ℕ) → w.running ≡ Some r → r.left ≡ a ∷ more → OfStep sh spell P w sum w.running → P (BlockPlace a) (BlockUnit (next_trailer sh spell w r sum))
+  written_now sum r a more running left made = subst (λ (l : List ℕ). OfLeft sh spell P w sum r l) left (subst (λ (o : Option Running). OfStep sh spell P w sum o) running made)
 
-  group_has : {E A : Type 0} (o : Option E) (ps : List Message) (answer : A) → Unless o (OfPrepares sh P ps) → HasEach sh P (outcome o w (with_group w ps) answer).0
-  group_has (Some e) ps answer made = has
-  group_has None ps answer made = flushed_has ps made
-
-  checked_has : (verdict : Verdict) (list : List (ℕ × ℕ)) → HasEach sh P (after_check w verdict list).0
-  checked_has verdict [] = record { needs = has.needs; trailer = has.trailer }
-  checked_has Sound (x ∷ more) = record { needs = has.needs; trailer = has.trailer }
-  checked_has (Failing class) (x ∷ more) = record { needs = has.needs; trailer = has.trailer }
+  changed_has : (given : Given) (command : Command) (u : Work) → Change sh spell w given command u → OfMade sh spell P w given command → HasEach sh P u
+  changed_has given command u (Stays _ idle) made = has
+  changed_has given command u (Appends _ ps (One client request body none staged)) made = flushed_has ps (made_now (first_refusal (append_refusals (memory_of sh spell w) client request body)) _ none made, tt)
+  changed_has given command u (Appends _ ps (Staged none)) made = flushed_has ps (made_now (first_refusal (flush_refusals (memory_of sh spell w))) _ none made)
+  changed_has given command u (Stages client request body none) made = record { needs = has.needs; trailer = has.trailer }
+  changed_has given command u (Replies op body none) made = replied_has (place_of_reply (memory_of sh spell w)) (reply_of (memory_of sh spell w) (supplied_sum given) body) (made_now (first_refusal (reply_refusals (memory_of sh spell w) op body)) _ none made)
+  changed_has given command u (Lives kind body none) made = record { needs = has.needs; trailer = has.trailer }
+  changed_has given command u (LetsGo address none) made = record { needs = has.needs; trailer = has.trailer }
+  changed_has given command u (Begins root none) made = begun_has root
+  changed_has given command u (Writes r a more running left) made = wrote_has r running a (next_trailer sh spell w r (supplied_sum given)) more (written_now (supplied_sum given) r a more running left made)
+  changed_has given command u (Ends r running left) made = finished_has r running (supplied_sum given)
+  changed_has given command u (Checks x more list) made = checked_has x.0 (supplied_verdict given)
+  changed_has given command u (TourEnds none) made = record { needs = has.needs; trailer = has.trailer }
 
   pub after_has : (given : Given) (command : Command) → OfMade sh spell P w given command → HasEach sh P (after sh spell w given command).0
-  after_has given (Append client request body) made =
-      let m = memory_of sh spell w in
-      let p = prepare_of m (supplied_sum given) client request body in
-      made_has (first_refusal (append_refusals m client request body)) (with_prepare w p) (p.header.op, supplied_sum given) (PreparePlace (p.header.op % slots sh)) (PrepareUnit p) (appended_has p) made
-  after_has given (Stage client request body) made =
-      let m = memory_of sh spell w in
-      unless_has (first_refusal (stage_refusals m client request body)) (with_staged w (record { client = client; request = request; body = body })) (m.head + length m.staged + 1) (record { needs = has.needs; trailer = has.trailer })
-  after_has given Flush made =
-      let m = memory_of sh spell w in
-      group_has (first_refusal (flush_refusals m)) (group_of m (supplied_sums given)) (length m.staged) made
-  after_has given (Reply op body) made =
-      let m = memory_of sh spell w in
-      let r = reply_of m (supplied_sum given) body in
-      made_has (first_refusal (reply_refusals m op body)) (with_reply w (place_of_reply m) r) (supplied_sum given) (ReplyPlace (place_of_reply m)) (ReplyUnit r) (replied_has (place_of_reply m) r) made
-  after_has given Advance made = step_has (supplied_sum given) w.running refl made
-  after_has given (WriteBlock kind body) made =
-      let a = next_address (memory_of sh spell w) in
-      unless_has (first_refusal (block_refusals (memory_of sh spell w) kind body)) (with_live w a (Some (supplied_sum given))) (a, supplied_sum given) (record { needs = has.needs; trailer = has.trailer })
-  after_has given (Release address) made = unless_has (first_refusal (release_refusals (memory_of sh spell w) address)) (with_live w address None) tt (record { needs = has.needs; trailer = has.trailer })
-  after_has given (Begin root) made =
-      let needed = needed_of spell (memory_of sh spell w) root in
-      unless_has (first_refusal (begin_refusals (memory_of sh spell w) needed root)) (with_running w (Some (begun sh spell w root))) needed (begun_has root)
-  after_has given (ReadPrepare op) made = has
-  after_has given (ReadReply client) made = has
-  after_has given (ReadBlock address) made = has
-  after_has given Scrub made = checked_has (supplied_verdict given) (to_check (memory_of sh spell w))
-  after_has given Recent made = has
+  after_has given command made = changed_has given command (after sh spell w given command).0 (one_thing_law sh spell w given command) made

@@ -138,19 +138,11 @@ module _ (file : DataFile) (one other : Shown) (agree : AgreeShown file.layout o
       (check_same file.layout one other agree l (filter_within 1 file.layout.blocks (λ x. nat_lt m.tour.last x.0) (entries (reference_in m.blocks) (addresses m.layout)) (entries_within (reference_in m.blocks) 1 file.layout.blocks)))
 
   pub next_agrees : (c : Command) → by one c ≡ by other c
-  next_agrees (Append client request body) = refl
-  next_agrees (Stage client request body) = refl
-  next_agrees Flush = refl
-  next_agrees (Reply op body) = refl
-  next_agrees (WriteBlock kind body) = refl
-  next_agrees (Release address) = refl
-  next_agrees (Begin root) = refl
-  next_agrees Advance = refl
   next_agrees (ReadPrepare op) = prepare_agrees op
   next_agrees (ReadReply client) = reply_agrees client
   next_agrees (ReadBlock address) = block_agrees address
   next_agrees Scrub = scrub_agrees
-  next_agrees Recent = refl
+  next_agrees command = refl
 
 pub next_same : NextAgrees
 next_same file one other w command agree work = next_agrees file one other agree w work command

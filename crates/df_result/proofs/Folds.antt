@@ -43,33 +43,19 @@ module _ (file : DataFile) (m : Memory) where
 
   given_small : (c : Command) → AreChecksums (checksums_given (codec file) m c)
   given_small (Append client request body) = (small (prepare_header file (prepare_of m 0 client request body).header) body, tt)
-  given_small (Stage client request body) = tt
   given_small Flush = group_small (m.head + 1) (m.head + length m.staged) (m.head + 1) m.head_checksum m.staged
   given_small (Reply op body) = (small (reply_header file (place_of_reply m) (reply_of m 0 body).header) body, tt)
   given_small (WriteBlock kind body) = (small (block_header file (next_address m) (block_of m.content.boot 0 kind body)) body, tt)
-  given_small (Release address) = tt
-  given_small (Begin root) = tt
   given_small Advance = (step_small m.running, tt)
-  given_small (ReadPrepare op) = tt
-  given_small (ReadReply client) = tt
-  given_small (ReadBlock address) = tt
-  given_small Scrub = tt
-  given_small Recent = tt
+  given_small command = tt
 
   supplied_small : (shown : Shown) (c : Command) → AreChecksums (supplied_sums (supplied (codec file) shown m c))
   supplied_small shown (Append client request body) = given_small (Append client request body)
-  supplied_small shown (Stage client request body) = tt
   supplied_small shown Flush = given_small Flush
   supplied_small shown (Reply op body) = given_small (Reply op body)
   supplied_small shown (WriteBlock kind body) = given_small (WriteBlock kind body)
-  supplied_small shown (Release address) = tt
-  supplied_small shown (Begin root) = tt
   supplied_small shown Advance = given_small Advance
-  supplied_small shown (ReadPrepare op) = tt
-  supplied_small shown (ReadReply client) = tt
-  supplied_small shown (ReadBlock address) = tt
-  supplied_small shown Scrub = tt
-  supplied_small shown Recent = tt
+  supplied_small shown command = tt
 
 -- ---- what is shown then
 

@@ -105,15 +105,8 @@ module _ (file : DataFile) (m : Memory) (sums : List ℕ) (before after : Image)
   pub sums_made : (command : Command) → IsOfFile file m.content → 0 < m.layout.slots → length m.staged ≤ m.layout.slots → AreAsMany m sums command → LeavesShown file m sums command before after → LeavesCopies file m sums command before after
       → AreSums (codec file) m sums command
   sums_made (Append client request body) of some few many leaves copies = append_sums client request body many leaves
-  sums_made (Stage client request body) of some few many leaves copies = many
   sums_made Flush of some few many leaves copies = flush_sums some few many leaves
   sums_made (Reply op body) of some few many leaves copies = reply_sums op body many leaves
   sums_made (WriteBlock kind body) of some few many leaves copies = block_sums kind body many leaves
-  sums_made (Release address) of some few many leaves copies = many
-  sums_made (Begin root) of some few many leaves copies = many
   sums_made Advance of some few many leaves copies = one_sum (step_sum (codec file) m m.running) many.0 (advance_sum of leaves copies m.running refl many.1)
-  sums_made (ReadPrepare op) of some few many leaves copies = many
-  sums_made (ReadReply client) of some few many leaves copies = many
-  sums_made (ReadBlock address) of some few many leaves copies = many
-  sums_made Scrub of some few many leaves copies = many
-  sums_made Recent of some few many leaves copies = many
+  sums_made command of some few many leaves copies = many

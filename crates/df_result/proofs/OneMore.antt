@@ -66,19 +66,11 @@ module _ (file : DataFile) (m : Memory) (sums : List ℕ) (command : Command) (b
 -- ---- what is supplied
 
 found_in : (s : State) (t : Told) (given : Given) (command : Command) → IsSupplied s (Some t) command given → IsFoundIn (shown_of s.file t.shown) (memory s) given command
-found_in s t given (Append client request body) is = tt
-found_in s t given (Stage client request body) is = tt
-found_in s t given Flush is = tt
-found_in s t given (Reply op body) is = tt
-found_in s t given (WriteBlock kind body) is = tt
-found_in s t given (Release address) is = tt
-found_in s t given (Begin root) is = tt
-found_in s t given Advance is = tt
 found_in s t given (ReadPrepare op) is = is.1
 found_in s t given (ReadReply client) is = is.1
 found_in s t given (ReadBlock address) is = is.1
 found_in s t given Scrub is = is.1
-found_in s t given Recent is = tt
+found_in s t given command is = tt
 
 idle_sum : (s : State) (sum : ℕ) (o : Option RunningState) → s.running ≡ o → sum ≡ made_by s o → (memory s).running ≡ None → sum ≡ 0
 idle_sum s sum None running is none = is
@@ -93,18 +85,15 @@ one_checksum given x is = is ∙ sym (ap (λ (xs : List ℕ). first_of xs ∷ []
 
 as_many : (s : State) (told : Option Told) (given : Given) (command : Command) → IsSupplied s told command given → AreAsMany (memory s) (supplied_sums given) command
 as_many s told given (Append client request body) is = one_checksum given _ (ap supplied_sums is)
-as_many s told given (Stage client request body) is = ap supplied_sums is
 as_many s told given Flush is = ap (λ (g : Given). length (supplied_sums g)) is ∙ made_count s (s.head + 1) s.head_checksum s.staged
 as_many s told given (Reply op body) is = one_checksum given _ (ap supplied_sums is)
 as_many s told given (WriteBlock kind body) is = one_checksum given _ (ap supplied_sums is)
-as_many s told given (Release address) is = ap supplied_sums is
-as_many s told given (Begin root) is = ap supplied_sums is
 as_many s told given Advance is = (one_checksum given _ (ap supplied_sums is), idle_sum s (supplied_sum given) s.running refl (ap supplied_sum is))
 as_many s told given (ReadPrepare op) is = ap supplied_sums is.0
 as_many s told given (ReadReply client) is = ap supplied_sums is.0
 as_many s told given (ReadBlock address) is = ap supplied_sums is.0
 as_many s told given Scrub is = ap supplied_sums is.0
-as_many s told given Recent is = ap supplied_sums is
+as_many s told given command is = ap supplied_sums is
 
 pub supplied_is_result : SuppliedIsResult
 supplied_is_result s w t command given rep supplied sums =

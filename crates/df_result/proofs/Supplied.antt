@@ -29,20 +29,13 @@ module _ (codec : Codec) (m : Memory) (sums : List ℕ) where
   puts_are (Append client request body) is =
       by_refusal (λ (o : Option AppendError) (ns : List ℕ). unless o (put_one (PreparePlace ((m.head + 1) % m.layout.slots)) (PrepareUnit (prepare_of m (first_of ns) client request body)))) (first_refusal (append_refusals m client request body)) sums
       (checksums_given codec m (Append client request body)) (λ e. refl) is
-  puts_are (Stage client request body) is = refl
   puts_are Flush is = by_refusal (λ (o : Option FlushError) (ns : List ℕ). unless o (group_puts m.layout.slots (group_of m ns))) (first_refusal (flush_refusals m)) sums (checksums_given codec m Flush) (λ e. refl) is
   puts_are (Reply op body) is =
       by_refusal (λ (o : Option ReplyError) (ns : List ℕ). unless o (put_one (ReplyPlace (place_of_reply m)) (ReplyUnit (reply_of m (first_of ns) body)))) (first_refusal (reply_refusals m op body)) sums (checksums_given codec m (Reply op body)) (λ e. refl) is
   puts_are (WriteBlock kind body) is =
       by_refusal (λ (o : Option BlockError) (ns : List ℕ). unless o (put_one (BlockPlace (next_address m)) (BlockUnit (block_of m.content.boot (first_of ns) kind body)))) (first_refusal (block_refusals m kind body)) sums (checksums_given codec m (WriteBlock kind body)) (λ e. refl) is
-  puts_are (Release address) is = refl
-  puts_are (Begin root) is = refl
   puts_are Advance is = ap (λ (ns : List ℕ). step_puts m m.running (first_of ns)) is
-  puts_are (ReadPrepare op) is = refl
-  puts_are (ReadReply client) is = refl
-  puts_are (ReadBlock address) is = refl
-  puts_are Scrub is = refl
-  puts_are Recent is = refl
+  puts_are command is = refl
 
 module _ (sh : Shape) (codec : Codec) (shown : Shown) (w : Work) (given : Given) where
   abbrev m : Memory
@@ -52,7 +45,6 @@ module _ (sh : Shape) (codec : Codec) (shown : Shown) (w : Work) (given : Given)
   next_is (Append client request body) is found =
       by_refusal (λ (o : Option AppendError) (ns : List ℕ). as_answer ToAppend (outcome o w (with_prepare w (prepare_of m (first_of ns) client request body)) (m.head + 1, first_of ns))) (first_refusal (append_refusals m client request body)) (supplied_sums given)
       (checksums_given codec m (Append client request body)) (λ e. refl) is
-  next_is (Stage client request body) is found = refl
   next_is Flush is found =
       by_refusal (λ (o : Option FlushError) (ns : List ℕ). as_answer ToFlush (outcome o w (with_group w (group_of m ns)) (length w.staged))) (first_refusal (flush_refusals m)) (supplied_sums given) (checksums_given codec m Flush) (λ e. refl) is
   next_is (Reply op body) is found =
@@ -61,11 +53,9 @@ module _ (sh : Shape) (codec : Codec) (shown : Shown) (w : Work) (given : Given)
   next_is (WriteBlock kind body) is found =
       by_refusal (λ (o : Option BlockError) (ns : List ℕ). as_answer ToWriteBlock (outcome o w (with_live w (next_address m) (Some (first_of ns))) (next_address m, first_of ns))) (first_refusal (block_refusals m kind body)) (supplied_sums given)
       (checksums_given codec m (WriteBlock kind body)) (λ e. refl) is
-  next_is (Release address) is found = refl
-  next_is (Begin root) is found = refl
   next_is Advance is found = ap (λ (ns : List ℕ). as_answer ToAdvance (after_step_of sh codec.spell w (first_of ns) w.running)) is
   next_is (ReadPrepare op) is found = ap (λ (x : Result Message Class). let y : Work × Answer = (w, ToReadPrepare (prepare_answer m x op)) in y) found
   next_is (ReadReply client) is found = ap (λ (x : Result Message Class). let y : Work × Answer = (w, ToReadReply (lookup_answer m x client)) in y) found
   next_is (ReadBlock address) is found = ap (λ (x : Result Block Class). let y : Work × Answer = (w, ToReadBlock (read_answer m x address)) in y) found
   next_is Scrub is found = ap (λ (v : Verdict). as_answer ToScrub (after_check w v (to_check m))) found
-  next_is Recent is found = refl
+  next_is command is found = refl

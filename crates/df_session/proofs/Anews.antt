@@ -12,14 +12,13 @@ use Rattle.df_theory.specs.Units.{Parts}
 use Rattle.df_theory.specs.View.{View}
 use Rattle.df_theory.proofs.Laws.{tidy_sync_law}
 use Rattle.df_units.specs.Bytes.{unit_at}
-use Rattle.df_model.specs.Commands.{Answer}
 use Rattle.df_model.specs.Laws.{IsKeptBy}
 use Rattle.df_model.specs.Work.{Work, kept}
 use Rattle.df_result.specs.Begun.{begun_work}
 use Rattle.df_result.specs.Below.{AreDistinct, State as Replica, begun, shape, spelling, told_after}
 use Rattle.df_result.specs.Opened.{HistoryBegins, MendsAll}
 use Rattle.df_result.specs.Serving.{Firm, Grade, IsKept, KeptFor, StandsFor, Whole, format}
-use Rattle.df_result.specs.Session.{Act}
+use Rattle.df_result.specs.Session.{Act, Exchange}
 use Rattle.df_result.proofs.Laws.{begun_is_work, good_now, keeps_self, same_goes_on}
 use Rattle.df_session.specs.Anew.{KeepsAnew}
 use Rattle.df_session.specs.Laws.{made_on}
@@ -62,10 +61,10 @@ opened_begun g s w n k =
 
 -- ---- the calls
 
-pub calls_keep_anew : (t : Told) (s : Replica) (mended : Option Told) (found : MendsAll t s mended) (to : Replica) (new : Option Told) (acts : List Act) (answers : List Answer) (failed : Option Act) (calls : EndsCalls s to mended new acts answers failed)
+pub calls_keep_anew : (t : Told) (s : Replica) (mended : Option Told) (found : MendsAll t s mended) (to : Replica) (new : Option Told) (xs : List Exchange) (failed : Option Act) (calls : EndsCalls s to mended new xs failed)
     → IsImage t.shown → s.live ≡ true → (g : Grade) (view : View) → IsFound (shape s.file) (unit_at s.file.layout s.file.cluster t.shown) view → AreDistinct (unit_at s.file.layout s.file.cluster t.shown)
-    → StandsFor g (unit_at s.file.layout s.file.cluster t.shown) view → KeepsAnew g t s view found.mending.events (made_on s mended to new acts answers failed calls)
-calls_keep_anew t s mended found to new acts answers failed calls whole live g view is distinct stands =
+    → StandsFor g (unit_at s.file.layout s.file.cluster t.shown) view → KeepsAnew g t s view found.mending.events (made_on s mended to new xs failed calls)
+calls_keep_anew t s mended found to new xs failed calls whole live g view is distinct stands =
     let es = found.mending.events in
     let n : Told = told_after es (did Sync t) in
     let w : Work = begun_work s.file t.shown view in
@@ -79,6 +78,6 @@ calls_keep_anew t s mended found to new acts answers failed calls whole live g v
       bare = anew.bare;
       kept = there;
       begins = subst (HistoryBegins s.file) same anew.begins;
-      keeps = keeps_over g s (kept w) w (begun n) (did Sync (begun n)) live by to mended new acts answers failed calls;
-      acknowledged = keeps_answered s.file g w (Some (did Sync (begun n))) (made_on s mended to new acts answers failed calls) refl live by.kept_for;
+      keeps = keeps_over g s (kept w) w (begun n) (did Sync (begun n)) live by to mended new xs failed calls;
+      acknowledged = keeps_answered s.file g w (Some (did Sync (begun n))) (made_on s mended to new xs failed calls) refl live by.kept_for;
     }

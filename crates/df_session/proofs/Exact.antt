@@ -264,29 +264,15 @@ module _ (s t : Replica) (told : Option Told) (faults : ℕ) where
 module _ (s t : Replica) (old new : Option Told) (answer : Answer) where
   -- it lends nothing
   pub exact_lends : (command : Command) → IsExact command s t old new answer → LendsNothing answer
-  exact_lends (Append client request body) is = subst LendsNothing (sym is.1) tt
-  exact_lends (Stage client request body) is = subst LendsNothing (sym is.1) tt
-  exact_lends Flush is = subst LendsNothing (sym is.1) tt
-  exact_lends (Reply op body) is = subst LendsNothing (sym is.1) tt
-  exact_lends (WriteBlock kind body) is = subst LendsNothing (sym is.1) tt
-  exact_lends (Release address) is = subst LendsNothing (sym is.1) tt
-  exact_lends (Begin root) is = subst LendsNothing (sym is.1) tt
-  exact_lends Advance is = subst LendsNothing (sym is.1) tt
   exact_lends (ReadPrepare op) is = absurd is
   exact_lends (ReadReply client) is = absurd is
   exact_lends (ReadBlock address) is = absurd is
   exact_lends Scrub is = absurd is
   exact_lends Recent is = absurd is
+  exact_lends command is = subst LendsNothing (sym is.1) tt
 
   -- a step alone finds the superblock damaged, and only where the disk tells nothing
   pub exact_damaged : (command : Command) → IsExact command s t old new answer → (place : Place) (class : Class) → answer ≡ answers.Advance (Err (step.Damaged place class)) → IsDamaged command new place class
-  exact_damaged (Append client request body) is place class damaged = absurd (cc (is.1, damaged))
-  exact_damaged (Stage client request body) is place class damaged = absurd (cc (is.1, damaged))
-  exact_damaged Flush is place class damaged = absurd (cc (is.1, damaged))
-  exact_damaged (Reply op body) is place class damaged = absurd (cc (is.1, damaged))
-  exact_damaged (WriteBlock kind body) is place class damaged = absurd (cc (is.1, damaged))
-  exact_damaged (Release address) is place class damaged = absurd (cc (is.1, damaged))
-  exact_damaged (Begin root) is place class damaged = absurd (cc (is.1, damaged))
   exact_damaged Advance is place class damaged =
       let answered : is.0 ≡ Err (step.Damaged place class) = cc (is.1, damaged) in
       let stopped = subst (λ (r : Result Progress StepError). IsStep s t old new r) answered is.2 in
@@ -300,3 +286,4 @@ module _ (s t : Replica) (old new : Option Told) (answer : Answer) where
   exact_damaged (ReadBlock address) is place class damaged = absurd is
   exact_damaged Scrub is place class damaged = absurd is
   exact_damaged Recent is other class damaged = absurd is
+  exact_damaged command is place class damaged = absurd (cc (is.1, damaged))

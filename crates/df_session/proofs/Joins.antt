@@ -8,9 +8,9 @@ use Rattle.df_model.specs.Commands.{Answer, Command, Given}
 use Rattle.df_result.specs.Below.{State as Replica}
 use Rattle.df_result.specs.Answering.{Serves}
 use Rattle.df_result.specs.Opened.{ToldBy}
-use Rattle.df_result.specs.Session.{Act}
+use Rattle.df_result.specs.Session.{Exchange}
 use Rattle.df_result.specs.Supply.{IsSupplied}
-use Rattle.df_session.specs.Links.{AreCalls, Makes}
+use Rattle.df_session.specs.Links.{AreCalls, Makes, More, NoCalls}
 use Rattle.df_session.specs.Own.{AddsOwn, own_events}
 
 -- what was told changed by a part of the events
@@ -33,10 +33,6 @@ made command given s t old new answer supplied serves own = record {
   calls = record { call = serves given supplied; own = own };
 }
 
-pub calls_join : (s t u : Replica) (old mid new : Option Told) (acts more : List Act) (answers others : List Answer)
-    → AreCalls s old acts answers t mid → AreCalls t mid more others u new → AreCalls s old (acts ++ more) (answers ++ others) u new
-calls_join s t u old mid new [] more [] others calls rest =
-    subst (λ (o : Option Told). AreCalls s o more others u new) calls.1 (subst (λ (r : Replica). AreCalls r mid more others u new) calls.0 rest)
-calls_join s t u old mid new [] more (y ∷ answers) others calls rest = absurd calls
-calls_join s t u old mid new (b ∷ acts) more [] others calls rest = absurd calls
-calls_join s t u old mid new (b ∷ acts) more (y ∷ answers) others calls rest = (calls.0, calls.1, calls.2, calls_join calls.0 t u calls.1 mid new acts more answers others calls.3 rest)
+pub calls_join : (s t u : Replica) (old mid new : Option Told) (xs ys : List Exchange) → AreCalls s old xs t mid → AreCalls t mid ys u new → AreCalls s old (xs ++ ys) u new
+calls_join s t u old mid new [] ys NoCalls others = others
+calls_join s t u old mid new (x ∷ xs) ys (More v between call rest) others = More v between call (calls_join v t u between mid new xs ys rest others)

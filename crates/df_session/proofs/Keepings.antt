@@ -40,25 +40,25 @@ opened_here t s mended over whole g view base same may stands =
     subst (λ (w : Work). OpenedOver g s view w base (told_after over.mending.events (did Sync base))) (begun_is_work t s mended over view whole found) (opened_over t s mended over g view base same may stands)
 
 pub calls_keep : CallsOnOpenFileKeepIt
-calls_keep t s mended found to new acts answers failed calls whole live = record {
+calls_keep t s mended found to new xs failed calls whole live = record {
   stands = λ view is. begun_here t s mended found view whole is;
-  answered = λ view is. answers_alone Firm (begun_work s.file t.shown view) s to mended new acts answers failed live (begun_here t s mended found view whole is) calls;
-  result = λ view shown is agree. opened_answers s t mended found whole (begun_work s.file t.shown view) (begun_here t s mended found view whole is) to new failed shown agree acts answers calls;
+  answered = λ view is. answers_alone Firm (begun_work s.file t.shown view) s to mended new xs failed live (begun_here t s mended found view whole is) calls;
+  result = λ view shown is agree. opened_answers s t mended found whole (begun_work s.file t.shown view) (begun_here t s mended found view whole is) to new failed shown agree xs calls;
   mends = (found.found, found.raised, found.own whole);
-  adds = ends_add s to mended new acts answers failed calls;
+  adds = ends_add s to mended new xs failed calls;
   kept = λ g view base same may stands. (opened_here t s mended found whole g view base same may stands).kept_for;
   keeps = λ g view base same may stands.
       keeps_over g s view (begun_work s.file t.shown view) base (told_after found.mending.events (did Sync base)) live (opened_here t s mended found whole g view base same may stands)
-      to mended new acts answers failed calls;
+      to mended new xs failed calls;
   acknowledged = λ g view base same may stands.
-      keeps_answered s.file g (begun_work s.file t.shown view) (Some (told_after found.mending.events (did Sync base))) (made_on s mended to new acts answers failed calls) refl live
+      keeps_answered s.file g (begun_work s.file t.shown view) (Some (told_after found.mending.events (did Sync base))) (made_on s mended to new xs failed calls) refl live
       (opened_here t s mended found whole g view base same may stands).kept_for;
-  anew = calls_keep_anew t s mended found to new acts answers failed calls whole live;
+  anew = calls_keep_anew t s mended found to new xs failed calls whole live;
   lived = λ log logs may.
-      calls_lived t s mended found whole (events_to s to mended new acts answers failed calls)
+      calls_lived t s mended found whole (events_to s to mended new xs failed calls)
       (λ view opens.
-      safe_each s.file Firm (begun_work s.file t.shown view) (begun t) acts answers failed found.mending.events (events_to s to mended new acts answers failed calls)
+      safe_each s.file Firm (begun_work s.file t.shown view) (begun t) xs failed found.mending.events (events_to s to mended new xs failed calls)
       (keeps_over Firm s view (begun_work s.file t.shown view) (begun t) (told_after found.mending.events (did Sync (begun t))) live (opened_here t s mended found whole Firm view (begun t) refl opens tt)
-      to mended new acts answers failed calls)) log logs may;
-  spares = λ view is. spares_blocks (begun_work s.file t.shown view) (made_on s mended to new acts answers failed calls) live (begun_here t s mended found view whole is);
+      to mended new xs failed calls)) log logs may;
+  spares = λ view is. spares_blocks (begun_work s.file t.shown view) (made_on s mended to new xs failed calls) live (begun_here t s mended found view whole is);
 }

@@ -15,7 +15,6 @@ use Rattle.df_theory.specs.TidyLaws.{IsTidy}
 use Rattle.df_theory.specs.Units.{Parts}
 use Rattle.df_theory.specs.View.{View}
 use Rattle.df_units.specs.Bytes.{unit_at}
-use Rattle.df_model.specs.Commands.{Answer}
 use Rattle.df_model.specs.Views.{KeepsView}
 use Rattle.df_model.specs.Work.{Work, kept}
 use Rattle.df_result.specs.Below.{DataFile, State as Replica, shape, spelling, told_after}
@@ -23,10 +22,10 @@ use Rattle.df_result.specs.Following.{MayOpen}
 use Rattle.df_result.specs.Leaving.{AreSettled, SparesHeld}
 use Rattle.df_result.specs.Opened.{MendsAll, ToldBy, begun_state}
 use Rattle.df_result.specs.Serving.{Firm, Grade, IsGoodFor, IsKept, Keeps, KeptFor, StandsFor, Whole, format}
-use Rattle.df_result.specs.Session.{Act, EachIsMidway, HasView, HoldsSome, IsMidway, IsServed, LeavesEither, LeavesView, answers_of, work_after}
+use Rattle.df_result.specs.Session.{Act, EachIsMidway, Exchange, HasView, HoldsSome, IsMidway, IsServed, LeavesEither, LeavesView, acts_in, answers_in, answers_of, work_after}
 use Rattle.df_result.proofs.Laws.{added_is_told, answered_is_there, fault_stops_them, good_left, good_safe, holds_on, joined, keeps_alone, nothing_is_served, one_more_is_served}
 use Rattle.df_session.specs.Keeping.{KeepsFile}
-use Rattle.df_session.specs.Links.{AreCalls, Calls, EndsCalls, events_of, events_to}
+use Rattle.df_session.specs.Links.{AreCalls, Calls, EndsCalls, More, NoCalls, events_of, events_to}
 use Rattle.df_session.proofs.Untouched.{settled_told, stay_settled}
 
 -- ---- what is told
@@ -34,30 +33,26 @@ use Rattle.df_session.proofs.Untouched.{settled_told, stay_settled}
 told_on : (old mid new : Option Told) → ToldBy old mid → ToldBy mid new → ToldBy old new
 told_on old mid new one two = (one.0 ++ two.0, two.1 ∙ ap (after_all two.0) one.1 ∙ sym (after_append one.0 two.0 old))
 
-calls_told : (s t : Replica) (old new : Option Told) (acts : List Act) (answers : List Answer) → AreCalls s old acts answers t new → ToldBy old new
-calls_told s t old new [] [] calls = ([], calls.1)
-calls_told s t old new [] (x ∷ answers) calls = absurd calls
-calls_told s t old new (a ∷ acts) [] calls = absurd calls
-calls_told s t old new (a ∷ acts) (x ∷ answers) calls = told_on old calls.1 new (calls.2.call.events, calls.2.call.told) (calls_told calls.0 t calls.1 new acts answers calls.3)
+calls_told : (s t : Replica) (old new : Option Told) (xs : List Exchange) → AreCalls s old xs t new → ToldBy old new
+calls_told s t old new [] NoCalls = ([], refl)
+calls_told s t old new (x ∷ xs) (More u mid call rest) = told_on old mid new (call.call.events, call.call.told) (calls_told u t mid new xs rest)
 
-pub ends_told : (s t : Replica) (old new : Option Told) (acts : List Act) (answers : List Answer) (failed : Option Act) → EndsCalls s t old new acts answers failed → ToldBy old new
-ends_told s t old new acts answers None calls = calls_told s t old new acts answers calls
-ends_told s t old new acts answers (Some a) calls = told_on old calls.1 new (calls_told s calls.0 old calls.1 acts answers calls.2) (calls.3.call.events, calls.3.call.told)
+pub ends_told : (s t : Replica) (old new : Option Told) (xs : List Exchange) (failed : Option Act) → EndsCalls s t old new xs failed → ToldBy old new
+ends_told s t old new xs None calls = calls_told s t old new xs calls
+ends_told s t old new xs (Some a) calls = told_on old calls.1 new (calls_told s calls.0 old calls.1 xs calls.2) (calls.3.call.events, calls.3.call.told)
 
 -- all that was told is what the calls added
-calls_add : (s t : Replica) (old new : Option Told) (acts : List Act) (answers : List Answer) → (calls : AreCalls s old acts answers t new) → new ≡ after_all (events_of s old acts answers t new calls) old
-calls_add s t old new [] [] calls = calls.1
-calls_add s t old new [] (x ∷ answers) calls = absurd calls
-calls_add s t old new (a ∷ acts) [] calls = absurd calls
-calls_add s t old new (a ∷ acts) (x ∷ answers) calls =
-    let rest = events_of calls.0 calls.1 acts answers t new calls.3 in
-    calls_add calls.0 t calls.1 new acts answers calls.3 ∙ ap (after_all rest) calls.2.call.told ∙ sym (after_append calls.2.call.events rest old)
+calls_add : (s t : Replica) (old new : Option Told) (xs : List Exchange) → (calls : AreCalls s old xs t new) → new ≡ after_all (events_of calls) old
+calls_add s t old new [] NoCalls = refl
+calls_add s t old new (x ∷ xs) (More u mid call later) =
+    let rest = events_of later in
+    calls_add u t mid new xs later ∙ ap (after_all rest) call.call.told ∙ sym (after_append call.call.events rest old)
 
-pub ends_add : (s t : Replica) (old new : Option Told) (acts : List Act) (answers : List Answer) (failed : Option Act) → (calls : EndsCalls s t old new acts answers failed) → new ≡ after_all (events_to s t old new acts answers failed calls) old
-ends_add s t old new acts answers None calls = calls_add s t old new acts answers calls
-ends_add s t old new acts answers (Some a) calls =
-    let front = events_of s old acts answers calls.0 calls.1 calls.2 in
-    calls.3.call.told ∙ ap (after_all calls.3.call.events) (calls_add s calls.0 old calls.1 acts answers calls.2) ∙ sym (after_append front calls.3.call.events old)
+pub ends_add : (s t : Replica) (old new : Option Told) (xs : List Exchange) (failed : Option Act) → (calls : EndsCalls s t old new xs failed) → new ≡ after_all (events_to s t old new xs failed calls) old
+ends_add s t old new xs None calls = calls_add s t old new xs calls
+ends_add s t old new xs (Some a) calls =
+    let front = events_of calls.2 in
+    calls.3.call.told ∙ ap (after_all calls.3.call.events) (calls_add s calls.0 old calls.1 xs calls.2) ∙ sym (after_append front calls.3.call.events old)
 
 -- what a base tells after events goes on from it
 pub goes_over : (es : List Event) (t : Told) → Goes t (told_after es t)
@@ -68,28 +63,17 @@ goes_over (e ∷ es) t =
 
 -- ---- what was served
 
-serves_on : (s0 s t : Replica) (told0 told new : Option Told) (acts more : List Act) (answers others : List Answer) (events : List Event) → IsServed s0 s told0 told acts answers events
-    → (calls : AreCalls s told more others t new) → IsServed s0 t told0 new (acts ++ more) (answers ++ others) (events ++ events_of s told more others t new calls)
-serves_on s0 s t told0 told new acts [] answers [] events served calls =
-    subst (λ (l : List Act). IsServed s0 t told0 new l (answers ++ []) (events ++ [])) (sym (append-nil acts))
-    (subst (λ (l : List Answer). IsServed s0 t told0 new acts l (events ++ [])) (sym (append-nil answers))
-    (subst (λ (l : List Event). IsServed s0 t told0 new acts answers l) (sym (append-nil events))
-    (subst (λ (o : Option Told). IsServed s0 t told0 o acts answers events) (sym calls.1) (subst (λ (r : Replica). IsServed s0 r told0 told acts answers events) (sym calls.0) served))))
-serves_on s0 s t told0 told new acts [] answers (x ∷ others) events served calls = absurd calls
-serves_on s0 s t told0 told new acts (a ∷ more) answers [] events served calls = absurd calls
-serves_on s0 s t told0 told new acts (a ∷ more) answers (x ∷ others) events served calls =
-    let u = calls.0 in
-    let mid = calls.1 in
-    let fs = calls.2.call.events in
-    let rest = events_of u mid more others t new calls.3 in
-    let one = one_more_is_served s0 s u told0 told mid acts answers events a x served calls.2.call in
-    subst (λ (l : List Act). IsServed s0 t told0 new l (answers ++ x ∷ others) (events ++ (fs ++ rest))) (append_assoc acts (a ∷ []) more)
-    (subst (λ (l : List Answer). IsServed s0 t told0 new ((acts ++ a ∷ []) ++ more) l (events ++ (fs ++ rest))) (append_assoc answers (x ∷ []) others)
-    (subst (λ (l : List Event). IsServed s0 t told0 new ((acts ++ a ∷ []) ++ more) ((answers ++ x ∷ []) ++ others) l) (append_assoc events fs rest)
-    (serves_on s0 u t told0 mid new (acts ++ a ∷ []) more (answers ++ x ∷ []) others (events ++ fs) one calls.3)))
+serves_on : (s0 s t : Replica) (told0 told new : Option Told) (xs ys : List Exchange) (events : List Event) → IsServed s0 s told0 told xs events → (calls : AreCalls s told ys t new) → IsServed s0 t told0 new (xs ++ ys) (events ++ events_of calls)
+serves_on s0 s t told0 told new xs [] events served NoCalls =
+    subst (λ (l : List Exchange). IsServed s0 t told0 new l (events ++ [])) (sym (append-nil xs)) (subst (λ (l : List Event). IsServed s0 t told0 new xs l) (sym (append-nil events)) served)
+serves_on s0 s t told0 told new xs (y ∷ ys) events served (More u mid call rest) =
+    let fs = call.call.events in
+    subst (λ (l : List Exchange). IsServed s0 t told0 new l (events ++ (fs ++ events_of rest))) (append_assoc xs (y ∷ []) ys)
+    (subst (λ (l : List Event). IsServed s0 t told0 new ((xs ++ y ∷ []) ++ ys) l) (append_assoc events fs (events_of rest))
+    (serves_on s0 u t told0 mid new (xs ++ y ∷ []) ys (events ++ fs) (one_more_is_served s0 s u told0 told mid xs events y served call.call) rest))
 
-pub all_served : (s t : Replica) (old new : Option Told) (acts : List Act) (answers : List Answer) → s.live ≡ true → (calls : AreCalls s old acts answers t new) → IsServed s t old new acts answers (events_of s old acts answers t new calls)
-all_served s t old new acts answers live calls = serves_on s s t old old new [] acts [] answers [] (nothing_is_served s old live) calls
+pub all_served : (s t : Replica) (old new : Option Told) (xs : List Exchange) → s.live ≡ true → (calls : AreCalls s old xs t new) → IsServed s t old new xs (events_of calls)
+all_served s t old new xs live calls = serves_on s s t old old new [] xs [] (nothing_is_served s old live) calls
 
 -- ---- what is kept
 
@@ -150,72 +134,72 @@ module _ (g : Grade) (s : Replica) (view : View) (w : Work) (base n0 : Told) (li
   alone = keeps_alone g s w (Some n0) is_opened.kept_for
 
   -- no block of the checkpoint is loose after the calls that were answered, nor after one that was not
-  settled_behind : (u : Replica) (old new : Option Told) (acts : List Act) (answers : List Answer) (events : List Event) → IsServed s u old new acts answers events → AreSettled s.file (adds events n0.log) (work_after s.file w acts)
-  settled_behind u old new acts answers events served = served.settles w n0.log alone is_opened.settled
+  settled_behind : (u : Replica) (old new : Option Told) (xs : List Exchange) (events : List Event) → IsServed s u old new xs events → AreSettled s.file (adds events n0.log) (work_after s.file w (acts_in xs))
+  settled_behind u old new xs events served = served.settles w n0.log alone is_opened.settled
 
-  settled_still : (u v : Replica) (old mid new : Option Told) (acts : List Act) (answers : List Answer) (events : List Event) (a : Act) → IsServed s u old mid acts answers events → (call : Calls a u v mid new None)
-      → AreSettled s.file (adds (events ++ call.call.events) n0.log) (work_after s.file w acts)
-  settled_still u v old mid new acts answers events a served call =
+  settled_still : (u v : Replica) (old mid new : Option Told) (xs : List Exchange) (events : List Event) (a : Act) → IsServed s u old mid xs events → (call : Calls a u v mid new None)
+      → AreSettled s.file (adds (events ++ call.call.events) n0.log) (work_after s.file w (acts_in xs))
+  settled_still u v old mid new xs events a served call =
       let then = (served.answered Firm w alone).1 in
-      let spares : SparesHeld s.file a.command (work_after s.file w acts) call.call.events = subst (λ (f : DataFile). SparesHeld f a.command (work_after s.file w acts) call.call.events) served.file (call.call.spares (work_after s.file w acts) then) in
-      subst (λ (l : Log). AreSettled s.file l (work_after s.file w acts)) (sym (adds_on events call.call.events n0.log))
-      (stay_settled (work_after s.file w acts) then.0.clear s.file a.command call.call.events (adds events n0.log) spares (settled_behind u old mid acts answers events served))
+      let spares : SparesHeld s.file a.command (work_after s.file w (acts_in xs)) call.call.events = subst (λ (f : DataFile). SparesHeld f a.command (work_after s.file w (acts_in xs)) call.call.events) served.file (call.call.spares (work_after s.file w (acts_in xs)) then) in
+      subst (λ (l : Log). AreSettled s.file l (work_after s.file w (acts_in xs))) (sym (adds_on events call.call.events n0.log))
+      (stay_settled (work_after s.file w (acts_in xs)) then.0.clear s.file a.command call.call.events (adds events n0.log) spares (settled_behind u old mid xs events served))
 
   -- every call was answered
-  kept_answered : (u : Replica) (old new : Option Told) (acts : List Act) (answers : List Answer) (n : Told) (calls : AreCalls s old acts answers u new) → after_all (events_of s old acts answers u new calls) (Some n0) ≡ Some n → Goes n0 n
-      → KeepsFile s.file g w base acts answers None (after_all (events_of s old acts answers u new calls) (Some n0))
-  kept_answered u old new acts answers n calls is goes =
-      let served = all_served s u old new acts answers live calls in
+  kept_answered : (u : Replica) (old new : Option Told) (xs : List Exchange) (n : Told) (calls : AreCalls s old xs u new) → after_all (events_of calls) (Some n0) ≡ Some n → Goes n0 n
+      → KeepsFile s.file g w base xs None (after_all (events_of calls) (Some n0))
+  kept_answered u old new xs n calls is goes =
+      let served = all_served s u old new xs live calls in
       let on = served.kept_on g w (Some n0) is_opened.kept_for in
       record {
         after = n;
         is = is;
         honest = goes.honest is_opened.honest;
         barrier = extends_on n.log n0.log (did Sync base).log goes.grew is_opened.grew;
-        moments = subst (λ (l : List Act). EachMoment (did Sync base).log n.log (IsMidway s.file g w l)) (sym (append-nil acts)) (all_moments acts n (subst (λ (o : Option Told). EachIsMidway s.file g w acts (Some n0) o) is on.0));
-        left = subst (λ (o : Option Told). LeavesView s.file g (work_after s.file w acts) o) is (answered_is_there s u old new acts answers (events_of s old acts answers u new calls) served g w (Some n0) is_opened.kept_for);
-        tidy = tidy_of u (work_after s.file w acts) n.log served.file (subst (λ (o : Option Told). Keeps g u (work_after s.file w acts) o) is on.1);
-        settled = settled_told s.file (work_after s.file w acts) (events_of s old acts answers u new calls) n0 n is (settled_behind u old new acts answers (events_of s old acts answers u new calls) served);
+        moments = subst (λ (l : List Act). EachMoment (did Sync base).log n.log (IsMidway s.file g w l)) (sym (append-nil (acts_in xs))) (all_moments (acts_in xs) n (subst (λ (o : Option Told). EachIsMidway s.file g w (acts_in xs) (Some n0) o) is on.0));
+        left = subst (λ (o : Option Told). LeavesView s.file g (work_after s.file w (acts_in xs)) o) is (answered_is_there s u old new xs (events_of calls) served g w (Some n0) is_opened.kept_for);
+        tidy = tidy_of u (work_after s.file w (acts_in xs)) n.log served.file (subst (λ (o : Option Told). Keeps g u (work_after s.file w (acts_in xs)) o) is on.1);
+        settled = settled_told s.file (work_after s.file w (acts_in xs)) (events_of calls) n0 n is (settled_behind u old new xs (events_of calls) served);
         answered = (served.answered g w (keeps_alone g s w (Some n0) is_opened.kept_for)).0;
       }
 
   -- the disk failed in the last one
-  kept_failed : (u : Replica) (old new : Option Told) (acts : List Act) (answers : List Answer) (a : Act) (n : Told) (calls : EndsCalls s u old new acts answers (Some a)) → after_all (events_to s u old new acts answers (Some a) calls) (Some n0) ≡ Some n → Goes n0 n
-      → KeepsFile s.file g w base acts answers (Some a) (after_all (events_to s u old new acts answers (Some a) calls) (Some n0))
-  kept_failed u old new acts answers a n calls is goes =
-      let served = all_served s calls.0 old calls.1 acts answers live calls.2 in
-      let stopped = fault_stops_them s calls.0 u old calls.1 new acts answers (events_of s old acts answers calls.0 calls.1 calls.2) a served calls.3.call in
+  kept_failed : (u : Replica) (old new : Option Told) (xs : List Exchange) (a : Act) (n : Told) (calls : EndsCalls s u old new xs (Some a)) → after_all (events_to s u old new xs (Some a) calls) (Some n0) ≡ Some n → Goes n0 n
+      → KeepsFile s.file g w base xs (Some a) (after_all (events_to s u old new xs (Some a) calls) (Some n0))
+  kept_failed u old new xs a n calls is goes =
+      let served = all_served s calls.0 old calls.1 xs live calls.2 in
+      let stopped = fault_stops_them s calls.0 u old calls.1 new xs (events_of calls.2) a served calls.3.call in
       record {
         after = n;
         is = is;
         honest = goes.honest is_opened.honest;
         barrier = extends_on n.log n0.log (did Sync base).log goes.grew is_opened.grew;
-        moments = all_moments (acts ++ a ∷ []) n (subst (λ (o : Option Told). EachIsMidway s.file g w (acts ++ a ∷ []) (Some n0) o) is (stopped.moments g w (Some n0) is_opened.kept_for));
-        left = subst (λ (o : Option Told). LeavesEither s.file g (work_after s.file w acts) (work_after s.file w (acts ++ a ∷ [])) o) is (stopped.left g w (Some n0) is_opened.kept_for);
+        moments = all_moments (acts_in xs ++ a ∷ []) n (subst (λ (o : Option Told). EachIsMidway s.file g w (acts_in xs ++ a ∷ []) (Some n0) o) is (stopped.moments g w (Some n0) is_opened.kept_for));
+        left = subst (λ (o : Option Told). LeavesEither s.file g (work_after s.file w (acts_in xs)) (work_after s.file w (acts_in xs ++ a ∷ [])) o) is (stopped.left g w (Some n0) is_opened.kept_for);
         tidy = tt;
         settled =
-            settled_told s.file (work_after s.file w acts) (events_to s u old new acts answers (Some a) calls) n0 n is
-            (settled_still calls.0 u old calls.1 new acts answers (events_of s old acts answers calls.0 calls.1 calls.2) a served calls.3);
+            settled_told s.file (work_after s.file w (acts_in xs)) (events_to s u old new xs (Some a) calls) n0 n is
+            (settled_still calls.0 u old calls.1 new xs (events_of calls.2) a served calls.3);
         answered = (served.answered g w (keeps_alone g s w (Some n0) is_opened.kept_for)).0;
       }
 
-  pub keeps_file : (u : Replica) (old new : Option Told) (acts : List Act) (answers : List Answer) (failed : Option Act) (calls : EndsCalls s u old new acts answers failed)
-      → KeepsFile s.file g w base acts answers failed (after_all (events_to s u old new acts answers failed calls) (Some n0))
-  keeps_file u old new acts answers None calls =
-      let goes = goes_by (events_of s old acts answers u new calls) n0 (after_all (events_of s old acts answers u new calls) (Some n0)) refl in
-      kept_answered u old new acts answers goes.0 calls goes.1 goes.2
-  keeps_file u old new acts answers (Some a) calls =
-      let goes = goes_by (events_to s u old new acts answers (Some a) calls) n0 (after_all (events_to s u old new acts answers (Some a) calls) (Some n0)) refl in
-      kept_failed u old new acts answers a goes.0 calls goes.1 goes.2
+  pub keeps_file : (u : Replica) (old new : Option Told) (xs : List Exchange) (failed : Option Act) (calls : EndsCalls s u old new xs failed)
+      → KeepsFile s.file g w base xs failed (after_all (events_to s u old new xs failed calls) (Some n0))
+  keeps_file u old new xs None calls =
+      let goes = goes_by (events_of calls) n0 (after_all (events_of calls) (Some n0)) refl in
+      kept_answered u old new xs goes.0 calls goes.1 goes.2
+  keeps_file u old new xs (Some a) calls =
+      let goes = goes_by (events_to s u old new xs (Some a) calls) n0 (after_all (events_to s u old new xs (Some a) calls) (Some n0)) refl in
+      kept_failed u old new xs a goes.0 calls goes.1 goes.2
 
   -- as it is said of the base
-  pub keeps_over : (u : Replica) (old new : Option Told) (acts : List Act) (answers : List Answer) (failed : Option Act) (calls : EndsCalls s u old new acts answers failed)
-      → KeepsFile s.file g w base acts answers failed (Some (told_after (events_to s u old new acts answers failed calls) n0))
-  keeps_over u old new acts answers failed calls =
-      subst (λ (o : Option Told). KeepsFile s.file g w base acts answers failed o) (added_is_told (events_to s u old new acts answers failed calls) n0) (keeps_file u old new acts answers failed calls)
+  pub keeps_over : (u : Replica) (old new : Option Told) (xs : List Exchange) (failed : Option Act) (calls : EndsCalls s u old new xs failed)
+      → KeepsFile s.file g w base xs failed (Some (told_after (events_to s u old new xs failed calls) n0))
+  keeps_over u old new xs failed calls =
+      subst (λ (o : Option Told). KeepsFile s.file g w base xs failed o) (added_is_told (events_to s u old new xs failed calls) n0) (keeps_file u old new xs failed calls)
 
 -- the answers, over whatever image
-pub answers_alone : (g : Grade) (w : Work) (s u : Replica) (old new : Option Told) (acts : List Act) (answers : List Answer) (failed : Option Act) → s.live ≡ true → Keeps g s w None → EndsCalls s u old new acts answers failed
-    → answers ≡ answers_of s.file w acts
-answers_alone g w s u old new acts answers None live keeps calls = ((all_served s u old new acts answers live calls).answered g w keeps).0
-answers_alone g w s u old new acts answers (Some a) live keeps calls = ((all_served s calls.0 old calls.1 acts answers live calls.2).answered g w keeps).0
+pub answers_alone : (g : Grade) (w : Work) (s u : Replica) (old new : Option Told) (xs : List Exchange) (failed : Option Act) → s.live ≡ true → Keeps g s w None → EndsCalls s u old new xs failed
+    → answers_in xs ≡ answers_of s.file w (acts_in xs)
+answers_alone g w s u old new xs None live keeps calls = ((all_served s u old new xs live calls).answered g w keeps).0
+answers_alone g w s u old new xs (Some a) live keeps calls = ((all_served s calls.0 old calls.1 xs live calls.2).answered g w keeps).0

@@ -8,13 +8,12 @@ use Rattle.df_base.proofs.Laws.{extends_on}
 use Rattle.df_disk.specs.Told.{Told, did}
 use Rattle.df_theory.specs.Device.{IsSafeDisk}
 use Rattle.df_theory.specs.View.{View}
-use Rattle.df_model.specs.Commands.{Answer}
 use Rattle.df_model.specs.Work.{Work}
 use Rattle.df_result.specs.Below.{DataFile, FindsSince, IsLivedDisk, IsOpened, MayReopen, State as Replica, begun, shape, told_after}
 use Rattle.df_result.specs.Following.{MayOpen}
 use Rattle.df_result.specs.Opened.{MendsAll}
 use Rattle.df_result.specs.Serving.{Grade, format}
-use Rattle.df_result.specs.Session.{Act}
+use Rattle.df_result.specs.Session.{Act, Exchange}
 use Rattle.df_result.proofs.Laws.{begun_may_open, found_was_since, joined, raised_goes_on}
 use Rattle.df_session.specs.Keeping.{KeepsFile, over}
 use Rattle.df_session.proofs.Kept.{goes_over}
@@ -23,9 +22,9 @@ use Rattle.df_session.proofs.Kept.{goes_over}
 abbrev IsSafeEach : DataFile → (base n : Told) → Type 0
 IsSafeEach file base n = EachMoment (did Sync base).log n.log (IsSafeDisk (format file) (shape file))
 
-pub safe_each : (file : DataFile) (g : Grade) (w : Work) (base : Told) (acts : List Act) (answers : List Answer) (failed : Option Act) (mending added : List Event)
-    → KeepsFile file g w base acts answers failed (over mending added base) → IsSafeEach file base (told_after added (told_after mending (did Sync base)))
-safe_each file g w base acts answers failed mending added keeps =
+pub safe_each : (file : DataFile) (g : Grade) (w : Work) (base : Told) (xs : List Exchange) (failed : Option Act) (mending added : List Event)
+    → KeepsFile file g w base xs failed (over mending added base) → IsSafeEach file base (told_after added (told_after mending (did Sync base)))
+safe_each file g w base xs failed mending added keeps =
     subst (λ (n : Told). IsSafeEach file base n) (sym (same_Some (told_after added (told_after mending (did Sync base))) keeps.after keeps.is)) (λ l moment. (keeps.moments l moment).safe)
 
 -- from the barrier of the open on the history is lived with the log that is begun anew there

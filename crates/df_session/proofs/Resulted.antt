@@ -6,7 +6,6 @@ use Rattle.df_disk.specs.Told.{Told, did}
 use Rattle.df_layout.specs.declared.layout.Layout.{Layout}
 use Rattle.df_theory.specs.Units.{BlockPlace, CopyPlace, HeaderPlace, Place, PreparePlace, ReplyPlace}
 use Rattle.df_units.specs.Bytes.{unit_at}
-use Rattle.df_model.specs.Commands.{Answer}
 use Rattle.df_model.specs.Memory.{Memory, memory_of}
 use Rattle.df_model.specs.Supply.{Shown, next, result, shown_after}
 use Rattle.df_model.specs.Work.{Work}
@@ -15,30 +14,27 @@ use Rattle.df_result.specs.Leaving.{IsReadPlace, SparesReads}
 use Rattle.df_result.specs.Opened.{MendsAll}
 use Rattle.df_result.specs.Reading.{shown_of}
 use Rattle.df_result.specs.Serving.{Firm, IsCall, Keeps}
-use Rattle.df_result.specs.Session.{Act}
+use Rattle.df_result.specs.Session.{Act, Exchange, acts_in, answers_in, command_in}
 use Rattle.df_result.proofs.Laws.{added_is_told, shown_after as shown_then}
 use Rattle.df_result.specs.Agreeing.{AgreeShown}
 use Rattle.df_result.specs.Calls.{IsResult}
 use Rattle.df_result.specs.Codec.{codec}
 use Rattle.df_result.proofs.Laws.{one_more_is_result}
-use Rattle.df_session.specs.Links.{AreCalls, EndsCalls, command_in}
+use Rattle.df_session.specs.Links.{AreCalls, EndsCalls, More}
 use Rattle.df_session.specs.Resulting.{AnswersResult}
 
 -- ---- answers
 
 -- calls one after the other answer the result
-pub calls_result : (file : DataFile) (s u : Replica) (old new : Option Told) (acts : List Act) (answers : List Answer) (t : Told) (w : Work) (shown : Shown) → s.file ≡ file → old ≡ Some t → AreCalls s old acts answers u new → Keeps Firm s w None → IsImage t.shown
-    → AgreeShown file.layout (shown_of file t.shown) shown → answers ≡ result (shape file) (codec file) shown w (map command_in acts)
-calls_result file s u old new [] [] t w shown of told calls k whole agree = refl
-calls_result file s u old new [] (x ∷ answers) t w shown of told calls k whole agree = absurd calls
-calls_result file s u old new (a ∷ acts) [] t w shown of told calls k whole agree = absurd calls
-calls_result file s u old new (a ∷ acts) (x ∷ answers) t w shown of told calls k whole agree =
-    let v = calls.0 in
-    let call : IsCall a.given a.command s v (Some t) calls.1 (Some x) = subst (λ (o : Option Told). IsCall a.given a.command s v o calls.1 (Some x)) told calls.2.call in
-    let one = one_more_is_result a.given a.command s v t calls.1 x w shown call k whole (subst (λ (f : DataFile). AgreeShown f.layout (shown_of f t.shown) shown) (sym of) agree) in
-    let is : IsResult file shown w a.command x v (told_after call.events t) = subst (λ (f : DataFile). IsResult f shown w a.command x v (told_after call.events t)) of one.1 in
+pub calls_result : (file : DataFile) (s u : Replica) (old new : Option Told) (xs : List Exchange) (t : Told) (w : Work) (shown : Shown) → s.file ≡ file → old ≡ Some t → AreCalls s old xs u new → Keeps Firm s w None → IsImage t.shown
+    → AgreeShown file.layout (shown_of file t.shown) shown → answers_in xs ≡ result (shape file) (codec file) shown w (map command_in (acts_in xs))
+calls_result file s u old new [] t w shown of told calls k whole agree = refl
+calls_result file s u old new (x ∷ xs) t w shown of told (More v mid made later) k whole agree =
+    let call : IsCall x.act.given x.act.command s v (Some t) mid (Some x.answer) = subst (λ (o : Option Told). IsCall x.act.given x.act.command s v o mid (Some x.answer)) told made.call in
+    let one = one_more_is_result x.act.given x.act.command s v t mid x.answer w shown call k whole (subst (λ (f : DataFile). AgreeShown f.layout (shown_of f t.shown) shown) (sym of) agree) in
+    let is : IsResult file shown w x.act.command x.answer v (told_after call.events t) = subst (λ (f : DataFile). IsResult f shown w x.act.command x.answer v (told_after call.events t)) of one.1 in
     let m : Memory = memory_of (shape file) (codec file).spell w in
-    let rest = calls_result file v u calls.1 new acts answers (told_after call.events t) (next (shape file) (codec file) shown w a.command).0 (shown_after (codec file) shown m a.command) is.file_is one.0 calls.3 is.keeps is.whole is.shown_is in
+    let rest = calls_result file v u mid new xs (told_after call.events t) (next (shape file) (codec file) shown w x.act.command).0 (shown_after (codec file) shown m x.act.command) is.file_is one.0 later is.keeps is.whole is.shown_is in
     (λ i. is.answer_is i ∷ rest i)
 
 -- ---- a session that was opened
@@ -62,9 +58,9 @@ agree_spared file before after shown spares agree = record {
 }
 
 -- the calls that were answered
-calls_answered : (s t : Replica) (old new : Option Told) (acts : List Act) (answers : List Answer) (failed : Option Act) → EndsCalls s t old new acts answers failed → (u : Replica) × (mid : Option Told) × AreCalls s old acts answers u mid
-calls_answered s t old new acts answers None calls = (t, new, calls)
-calls_answered s t old new acts answers (Some a) calls = (calls.0, calls.1, calls.2)
+calls_answered : (s t : Replica) (old new : Option Told) (xs : List Exchange) (failed : Option Act) → EndsCalls s t old new xs failed → (u : Replica) × (mid : Option Told) × AreCalls s old xs u mid
+calls_answered s t old new xs None calls = (t, new, calls)
+calls_answered s t old new xs (Some a) calls = (calls.0, calls.1, calls.2)
 
 -- what is told after the mending of an open shows an image, which agrees with what was shown before it in all that calls read
 pub record OpenedAgrees (s : Replica) (mended : Option Told) (shown : Shown) : Type 0 where
@@ -86,11 +82,11 @@ opened_agrees s t mended over shown whole agree =
 
 -- its calls answer the result over what the disk showed before the mending
 pub opened_answers : (s : Replica) (t : Told) (mended : Option Told) (over : MendsAll t s mended) (whole : IsImage t.shown) (w : Work) (k : Keeps Firm s w None) (last : Replica) (new : Option Told) (failed : Option Act) (shown : Shown)
-    → AgreeShown s.file.layout (shown_of s.file t.shown) shown → (acts : List Act) (answers : List Answer) → EndsCalls s last mended new acts answers failed → AnswersResult s.file shown w acts answers
-opened_answers s t mended over whole w k last new failed shown agree acts answers ends =
-    let calls = calls_answered s last mended new acts answers failed ends in
+    → AgreeShown s.file.layout (shown_of s.file t.shown) shown → (xs : List Exchange) → EndsCalls s last mended new xs failed → AnswersResult s.file shown w xs
+opened_answers s t mended over whole w k last new failed shown agree xs ends =
+    let calls = calls_answered s last mended new xs failed ends in
     let here = opened_agrees s t mended over shown whole agree in
-    calls_result s.file s calls.0 mended calls.1 acts answers here.first w shown refl here.told calls.2 k here.whole here.agrees
+    calls_result s.file s calls.0 mended calls.1 xs here.first w shown refl here.told calls.2 k here.whole here.agrees
 
 -- what is shown agrees with itself
 pub agree_self : (layout : Layout) (shown : Shown) → AgreeShown layout shown shown

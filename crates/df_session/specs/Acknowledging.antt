@@ -40,4 +40,4 @@ WereAnswered k base log c = HadAnswers k base log c.from c.to c.old c.new c.exch
 -- At each moment of a session the log is safe, and whatever a stop leaves has the view after all calls that were answered by then, and perhaps some of those
 -- after them, from the first of these on.
 abbrev pub KeepsAnswered : DataFile → Grade → Work → Option Told → CallsMade → Type 0
-KeepsAnswered file g w base c = (k : ℕ) (log : Log) → WereAnswered k base log c → IsUntil (after_all (events_made c) base) log → IsMidway file g (work_after file w (take k (acts_in c.exchanges))) (drop k (acts_in c.exchanges) ++ list_of c.failed) log
+KeepsAnswered file g w base c = (k : ℕ) (log : Log) → WereAnswered k base log c → IsUntil (after_all (events_made c) base) log → IsMidway file g (work_after file w (acts_in (take k c.exchanges))) (acts_in (drop k c.exchanges) ++ list_of c.failed) log
