@@ -1,6 +1,6 @@
 -- One link: what is shown where a block is asked for, and what the tests of a link say of it.
 use Rattle.std.proofs.Common.{◌≡◌, ℕ, ◌-◌, ◌<◌, ◌≤◌, ◌==◌, ◌&&◌, ◌||◌, nat_le, Bool, true, false, Option, Some, None, length, refl, sym, ap, ◌∙◌, subst, arith, eqb-true, eq-eqb, ne_eqb, leb-true, le-leb}
-use Rattle.std.specs.Prelude.{Result, Ok, Err}
+use Rattle.std.specs.Prelude.{Ok, Err}
 use Rattle.std.proofs.lemmas.Bool.Decides.{nat_tests}
 use Rattle.std.proofs.lemmas.Bool.{and_parts, and_from}
 use Rattle.df_disk.specs.Told.{Told}
@@ -23,8 +23,7 @@ use Rattle.df_theory.specs.Opens.{IsLink}
 use Rattle.df_model.specs.Supply.{Shown, block_given, class_at, given_if}
 use Rattle.df_units.specs.Meaning.{block_of, layout_of, number_of}
 use Rattle.df_grid.specs.Grid.{GridState, IsKnownUnit}
-use Rattle.df_grid.specs.Reads.{ReadsTrailer, shown_of, trailer_alone}
-use Rattle.df_checkpoint.specs.declared.fault.TrailerFault.{TrailerFault}
+use Rattle.df_grid.specs.Reads.{ReadsTrailer, trailer_alone}
 use Rattle.df_checkpoint.specs.declared.fault.TrailerFault.TheVariants.{BadField}
 use Rattle.df_checkpoint.specs.Chain.{IsLinkOf, IsNoLink, LinkAnswer, OfTold, asked, before_of, content_in, is_link}
 

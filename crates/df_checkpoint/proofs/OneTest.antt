@@ -17,7 +17,6 @@ use Rattle.df_trailer.specs.Text.{fault, parse_of}
 use Rattle.df_checkpoint.specs.Chain.{IsBroken, asked}
 use Rattle.df_checkpoint.specs.Reads.{IsBadText, IsReferenced, IsWhole}
 use Rattle.df_checkpoint.specs.Waiting.{IsUntracked}
-use Rattle.df_checkpoint.specs.Tests.{FailsTest}
 use Rattle.df_checkpoint.specs.Laws.{OneTestFails}
 use Rattle.df_checkpoint.proofs.OneLink.{asked_is}
 use Rattle.df_checkpoint.proofs.Missed.{not_passed, one_block}

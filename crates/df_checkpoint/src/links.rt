@@ -1,5 +1,5 @@
 // One link of the chain: the block that is asked for, and the reference that it has to the one before.
-ghost use Rattle.std.specs.Prelude.{◌≡◌, ◌-◌, ◌<◌, ◌≤◌, length, IfNone, IfOk, IfSome};
+ghost use Rattle.std.specs.Prelude.{◌≡◌, ◌-◌, ◌<◌, ◌≤◌, IfNone, IfOk, IfSome};
 ghost use Rattle.df_checkpoint.specs.Below.{IsBlamed, TrailerChain, Shape, piece_size, layout_of, AreFieldsOf, HasAddress};
 ghost use Rattle.df_checkpoint.specs.Chain.{IsLinkOf, IsNoLink, LinkAnswer, OfTold, before_of, content_in, is_link, is_trailer_fault};
 

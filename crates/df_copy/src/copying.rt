@@ -8,9 +8,9 @@ ghost use Rattle.df_opening.specs.Below.{memory};
 ghost use Rattle.df_copy.specs.Acts.{IsCopied, IsReady, Leaves, beside};
 ghost use Rattle.df_copy.specs.Copying.{BeginsTarget, CopiesInto, CopiesPlanned, CopiesUnits, Finishes};
 ghost use Rattle.df_copy.specs.Planning.{IsPlan};
-ghost use Rattle.df_copy.specs.Statuses.{blank_ending, is_source, is_target};
+ghost use Rattle.df_copy.specs.Statuses.{blank_ending, is_target};
 ghost use Rattle.df_copy.specs.Targets.{IsTarget, KeepsGrid, ring_events};
-ghost use Rattle.df_copy.specs.Tests.{is_at_rest, needed, references};
+ghost use Rattle.df_copy.specs.Tests.{needed, references};
 
 use crate::blocks::copy_blocks;
 use crate::ending::Ending;

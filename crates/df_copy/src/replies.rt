@@ -1,10 +1,9 @@
 // The replies: each session's is read from the source once, and written into the same place of the target, as it is and without a sync.
-ghost use Rattle.std.specs.Prelude.{◌≡◌, ◌<◌, ◌≤◌, ℕ, List, [], true, length, OnOk};
+ghost use Rattle.std.specs.Prelude.{◌≡◌, ◌<◌, ℕ, List, [], length, OnOk};
 ghost use Rattle.df_sessions.specs.Table.{AreApart};
 ghost use Rattle.df_base.specs.Causes.{HasCause, IsBlamed};
 ghost use Rattle.df_disk.specs.Adds.{Adds};
 ghost use Rattle.df_format.specs.Message.{Message};
-ghost use Rattle.df_opening.specs.Below.{memory};
 ghost use Rattle.df_copy.specs.Acts.{CopiesReplies, CopiesReply, HasPlace, IsReady, Leaves, MayPutReply, PutsReply, SetsCheck, beside};
 ghost use Rattle.df_copy.specs.Statuses.{is_target, reply_ending};
 ghost use Rattle.df_copy.specs.Targets.{IsTarget, KeepsGrid};

@@ -1,10 +1,7 @@
 -- What a header or a prepare that is shown says of the head that is found: nothing, where it is of a group that was cut off there.
-use Rattle.std.specs.Prelude.{◌≡◌, ◌==◌, ◌≤◌, ◌+◌, nat_lt, ℕ, Bool, ◌&&◌, if◌then◌else◌, List, slice_get, Some}
-use Rattle.df_format.specs.declared.header.Header.{Header as FileHeader}
-use Rattle.df_theory.specs.Tails.{BindsHead}
+use Rattle.std.specs.Prelude.{◌==◌, ◌+◌, nat_lt, ℕ, Bool, ◌&&◌, if◌then◌else◌}
 use Rattle.df_theory.specs.Units.{Header}
 use Rattle.df_units.specs.Greatest.{in_boot}
-use Rattle.df_units.specs.Meaning.{header_of}
 
 -- a prepare of a group of several that begins right above this op: it was cut off there, and says nothing of the head
 abbrev pub is_cut_off : ℕ → Header → Bool

@@ -2,7 +2,6 @@
 use crate::runs::{ended, run_in};
 use crate::worked::{SCRIPT, file_for};
 use df_base::{MemorySink, MemorySource, Source};
-use df_memdisk::MemoryDisk;
 use df_top::Status;
 use std::alloc::Global;
 use std::test::Fail;

@@ -1,5 +1,5 @@
 // What the scrubber found: its ring, a block that fails in a tour, and how many there are of them.
-ghost use Rattle.std.specs.Prelude.{◌≡◌, codes};
+ghost use Rattle.std.specs.Prelude.{codes};
 ghost use Rattle.df_base.specs.Causes.{HasCause};
 ghost use Rattle.df_model.specs.declared.answers.Scrubbed.TheVariants as scrubs;
 ghost use Rattle.df_script_model.specs.Texts.{numbered, recent_text, scrubbed_text};

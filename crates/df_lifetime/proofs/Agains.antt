@@ -3,7 +3,7 @@ use Rattle.std.proofs.Common.{◌≡◌, ◌⊎◌, inl, inr, ℕ, List, [], ◌
 use Rattle.std.proofs.lemmas.Option.{same_Some}
 use Rattle.df_base.specs.Image.{Image, changed}
 use Rattle.df_base.specs.Log as logs
-use Rattle.df_base.specs.Log.{AreLoose, Event, IsLeft, Log, Stop, Sync, add}
+use Rattle.df_base.specs.Log.{AreLoose, Log, Stop, Sync, add}
 use Rattle.df_base.specs.Moments.{Extends}
 use Rattle.df_disk.specs.Adds.{AddsPart}
 use Rattle.df_disk.specs.Told.{IsHonest, Told, did}

@@ -1,8 +1,8 @@
 // The words after a line's name: a body, a number and a body, a request.
-ghost use Rattle.std.specs.Prelude.{◌≡◌, ◌≤◌, ◌*◌, List, ℕ, length, take, IfSome, IfNone};
+ghost use Rattle.std.specs.Prelude.{◌≤◌, ◌*◌, List, ℕ, length, take, IfSome, IfNone};
 ghost use Rattle.df_lines.specs.Grammar.{AreRequest, AreSized, IsBody};
 
-use crate::number::{number_of, u64_of, u128_of};
+use crate::number::{number_of, u128_of};
 use crate::words::cut;
 use hex::decode_to_slice;
 

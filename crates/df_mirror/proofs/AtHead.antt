@@ -18,7 +18,7 @@ use Rattle.df_sessions.specs.declared.session.Session.{Session}
 use Rattle.df_sessions.specs.Requests.{session_of, sessions_of}
 use Rattle.df_sessions.specs.Table.{Table}
 use Rattle.df_theory.specs.Sessions.{sessions_after}
-use Rattle.df_theory.specs.Units.{AnyUnit, BlockPlace, HeaderPlace, Message, Parts, Place, PreparePlace, PrepareUnit, ReplyPlace, ReplyUnit, Units}
+use Rattle.df_theory.specs.Units.{AnyUnit, BlockPlace, HeaderPlace, Message, Parts, Place, PreparePlace, ReplyPlace, Units}
 use Rattle.df_theory.specs.Units as units
 use Rattle.df_theory.proofs.Laws.{known_one}
 use Rattle.df_units.specs.Meaning.{number_of}

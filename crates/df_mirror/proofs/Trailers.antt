@@ -15,7 +15,7 @@ use Rattle.df_model.proofs.Laws.{entry_at, entry_in}
 use Rattle.df_theory.specs.Sessions.{Has}
 use Rattle.df_theory.specs.Trailer.{no_parts, text_of}
 use Rattle.df_theory.specs.Units as model
-use Rattle.df_theory.specs.Units.{Block, BlockPlace, BlockUnit, Parts, Units}
+use Rattle.df_theory.specs.Units.{BlockPlace, Parts, Units}
 use Rattle.df_theory.proofs.Laws.{text_bytes}
 use Rattle.df_units.specs.Meaning.{layout_of}
 use Rattle.df_units.proofs.Laws.{of_places}

@@ -1,14 +1,11 @@
 -- An image is mended in one way, since it has one superblock, one view, and of these one table of headers and one list.
-use Rattle.std.proofs.Common.{◌≡◌, ◌<◌, ℕ, false, List, ◌++◌, length, get_or, Some, sym, ◌∙◌, ap, subst, arith}
+use Rattle.std.proofs.Common.{◌≡◌, ◌<◌, ℕ, false, List, ◌++◌, get_or, Some, sym, ◌∙◌, ap, subst, arith}
 use Rattle.std.proofs.lemmas.List.{ext_get_or}
 use Rattle.df_base.specs.Log.{Event}
 use Rattle.df_base.proofs.Laws.{same_bit}
 use Rattle.df_disk.specs.Told.{Told}
-use Rattle.df_layout.specs.declared.damage.Mend.{Mend}
-use Rattle.df_layout.specs.declared.layout.Layout.{Layout}
 use Rattle.df_layout.proofs.Laws.{same_layout}
 use Rattle.df_format.specs.Copies.{Content, content_at}
-use Rattle.df_format.specs.declared.header.Header.{Header}
 use Rattle.df_format.specs.declared.superblock.SuperFields.{SuperFields}
 use Rattle.df_quorum.proofs.Laws.{one_law}
 use Rattle.df_theory.specs.Found.{IsFound}

@@ -1,5 +1,5 @@
 -- Fields are equal where each part is.
-use Rattle.std.proofs.Common.{◌≡◌, ap, List, ℕ, Option}
+use Rattle.std.proofs.Common.{◌≡◌, ap}
 use Rattle.df_format.specs.declared.superblock.SuperFields.{SuperFields}
 use Rattle.df_quorum.specs.SameFields.{HaveSameNames, HaveSameProgress, HaveSameSizes}
 

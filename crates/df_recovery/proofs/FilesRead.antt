@@ -15,7 +15,6 @@ use Rattle.df_quorum.specs.Quorum.{AreMembers, IsChosen}
 use Rattle.df_quorum.proofs.Laws.{one_law}
 use Rattle.df_sessions.specs.Requests.{sessions_of}
 use Rattle.df_theory.specs.Units
-use Rattle.df_theory.specs.Units.{AnyUnit, CopyPlace, CopyUnit}
 use Rattle.df_theory.specs.Opens.{IsLowest, IsReadable}
 use Rattle.df_theory.specs.Trailer.{IsReference}
 use Rattle.df_theory.specs.View.{PassesTests}

@@ -11,7 +11,7 @@ use Rattle.df_sessions.specs.declared.session.Session.{Session}
 use Rattle.df_sessions.specs.Requests.{sessions_of}
 use Rattle.df_stamps.specs.declared.counters.Counters.{Counters}
 use Rattle.df_theory.specs.Units
-use Rattle.df_theory.specs.Units.{Content, CopyPlace, Message, PreparePlace, ReplyPlace}
+use Rattle.df_theory.specs.Units.{Content, CopyPlace, PreparePlace, ReplyPlace}
 use Rattle.df_theory.specs.Found
 use Rattle.df_theory.specs.Found.{IsReplies, NotBehind, NotLost}
 use Rattle.df_theory.specs.Opens.{Behind, BootSpent as NoBoot, Damaged as Damages, LacksReply, Lost, Opens, ReachesReplies, ReachesTail, Refused, Spent, Unanswered, Unfit, Unknown}

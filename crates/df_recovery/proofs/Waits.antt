@@ -9,7 +9,7 @@ use Rattle.df_layout.specs.declared.damage.Class.{Class}
 use Rattle.df_format.specs.Spelling.{no_checksum}
 use Rattle.df_format.specs.declared.header.Header.{Header}
 use Rattle.df_theory.specs.Units
-use Rattle.df_theory.specs.Units.{AnyUnit, PreparePlace, PrepareUnit}
+use Rattle.df_theory.specs.Units.{AnyUnit, PreparePlace}
 use Rattle.df_model.specs.Work.{checksum_of_op}
 use Rattle.df_units.specs.Meaning.{number_of}
 use Rattle.df_units.proofs.Laws.{no_number}

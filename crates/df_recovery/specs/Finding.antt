@@ -11,7 +11,6 @@ use Rattle.df_format.specs.Copies.{content_with}
 use Rattle.df_sessions.specs.declared.session.Session.{Session}
 use Rattle.df_sessions.specs.Requests.{sessions_of}
 use Rattle.df_theory.specs.Units
-use Rattle.df_theory.specs.Units.{CopyPlace}
 use Rattle.df_theory.specs.Found
 use Rattle.df_theory.specs.Opens.{BootSpent as NoBoot, Damaged as Damages, IsLowest, IsReadable, Opens, Refusal, Refused}
 use Rattle.df_theory.specs.MendLaws.{IsSlotHeader}

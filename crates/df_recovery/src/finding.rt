@@ -1,6 +1,6 @@
 // What an open finds after a superblock, from what a scan saw of the slots and of the replies: the state, or the first
 // damage in the order of open.
-ghost use Rattle.std.specs.Prelude.{◌≡◌, ◌≤◌, ◌<◌, ◌+◌, ◌^◌, length, position, IfOk, IfErr};
+ghost use Rattle.std.specs.Prelude.{◌≡◌, ◌<◌, ◌+◌, ◌^◌, length, position, IfOk, IfErr};
 ghost use Rattle.df_recovery.specs.Below.{CopyPlace, PreparePlace, ReplyPlace, Units, CountsAll, CountsBound, CountsReplies, entry, class_of, KeepsRules, ShowsTable, ShowsReplies};
 ghost use Rattle.df_journal.specs.Shows.{IsTable};
 ghost use Rattle.df_recovery.specs.Finding.{Answers, FileIsRead, IsDamage, KeptIsAnswer, RefusedIsAnswer, StateIsOpened, damage, lowest_of};

@@ -16,7 +16,7 @@ use Rattle.df_theory.specs.Shape.{Shape}
 use Rattle.df_theory.specs.TidyLaws.{IsTidy}
 use Rattle.df_theory.specs.UnitLog.{put_one}
 use Rattle.df_theory.specs.Units as theory
-use Rattle.df_theory.specs.Units.{AnyUnit, BlockPlace, CopyPlace, Place, PreparePlace, PrepareUnit, ReplyPlace, or_else, overlay}
+use Rattle.df_theory.specs.Units.{AnyUnit, BlockPlace, CopyPlace, Place, PreparePlace, PrepareUnit, ReplyPlace, or_else}
 use Rattle.df_theory.specs.View.{boot_of}
 use Rattle.df_theory.proofs.Laws.{put_one_law, else_join}
 use Rattle.df_trailer.specs.Text.{parse_of}

@@ -13,7 +13,7 @@ use df_checkpoint::{Capture, write_piece};
 use df_disk::Disk;
 use df_format::{Reference, Super, SuperFields, test_fields};
 use df_model::{Progress, StepError};
-use df_opening::{DataFile, RunningCheckpoint};
+use df_opening::RunningCheckpoint;
 use df_superblock::{UpdateError, update};
 
 // A superblock with what a checkpoint captured whose trailer ends with a block.

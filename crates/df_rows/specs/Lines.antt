@@ -1,5 +1,5 @@
 -- What the lines of a script do to a table, and what they are answered: a map from keys to values, with no file in sight.
-use Rattle.std.specs.Prelude.{ℕ, suc, ◌+◌, List, [], ◌∷◌, ◌++◌, length, codes, decimal, Option, Some, None}
+use Rattle.std.specs.Prelude.{ℕ, ◌+◌, List, [], ◌∷◌, ◌++◌, length, codes, decimal, Option, Some, None}
 use Rattle.std.specs.FinMap as map
 use Rattle.df_script_model.specs.Texts.{body_text, line_of, numbered, spaced}
 use Rattle.df_rows.specs.declared.command.Command.{Command}

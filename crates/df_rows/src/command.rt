@@ -1,5 +1,5 @@
 // The two commands of a table, and the bodies of the prepares that hold them.
-ghost use Rattle.std.specs.Prelude.{◌≡◌, ◌^◌, ◌<◌, ◌≤◌, ◌∷◌, ◌++◌, ℕ, length, IfSome, IfNone};
+ghost use Rattle.std.specs.Prelude.{◌≡◌, ◌^◌, ◌<◌, ◌∷◌, ◌++◌, ℕ, IfSome, IfNone};
 ghost use Rattle.df_base.specs.Fields.{spelled};
 ghost use Rattle.df_rows.specs.Commands.{IsCommand, body_of};
 ghost use Rattle.df_rows.specs.Rows.{Entry, IsEntry};

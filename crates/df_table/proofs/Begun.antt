@@ -8,7 +8,6 @@ use Rattle.std.specs.List.{range_with_len}
 use Rattle.df_disk.specs.Told.{Told}
 use Rattle.df_format.specs.declared.header.Header.{Header}
 use Rattle.df_layout.specs.declared.layout.Layout.{Layout}
-use Rattle.df_sessions.specs.declared.session.Session as told
 use Rattle.df_sessions.specs.Requests.{sessions_of}
 use Rattle.df_theory.specs.Units.{Block, Content}
 use Rattle.df_theory.specs.Trailer.{IsReference, Links, greatest_trailer}

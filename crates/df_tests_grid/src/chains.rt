@@ -1,6 +1,6 @@
 // Trailers that are written and read again, and chains that nobody wrote. Expected values are worked out by hand from the rules of the
 // text and of the chain.
-ghost use Rattle.std.specs.Prelude.{length, ◌≡◌, ◌≤◌, ◌-◌, ◌%◌, Some, None, nat_le, if◌then◌else◌, replicate};
+ghost use Rattle.std.specs.Prelude.{length, ◌≡◌, ◌-◌, ◌%◌, Some, None, nat_le, if◌then◌else◌, replicate};
 ghost use Rattle.df_base.specs.Fields.{field_at};
 
 use crate::chain_examples::{Held, begin, grid_of, read, write_any, write_one, write_two};

@@ -10,7 +10,7 @@ use df_base::Check;
 use df_buffers::{HeaderSector, Prepare, Raw, Sound};
 use df_cases::Decision;
 use df_headers::HeaderTable;
-use df_journal::{SlotTable, Start, append, bound_top, find_reach, is_lost, lacking_known, put};
+use df_journal::{Start, append, bound_top, find_reach, is_lost, lacking_known, put};
 use df_layout::Layout;
 use df_memdisk::{MemoryDisk, Strike};
 use df_sessions::SessionTable;

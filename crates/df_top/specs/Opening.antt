@@ -1,5 +1,5 @@
 -- What becomes of a file on which no word is carried out: it is refused, or the disk fails before it is found.
-use Rattle.std.specs.Prelude.{◌≡◌, ◌≢◌, ◌⊎◌, ℕ, [], ◌∷◌, Option, Some, Err}
+use Rattle.std.specs.Prelude.{◌≡◌, ◌≢◌, ℕ, [], ◌∷◌, Option, Some, Err}
 use Rattle.df_base.specs.Image.{Image}
 use Rattle.df_base.specs.Log.{Sync}
 use Rattle.df_disk.specs.Adds.{AddsPart}
@@ -8,7 +8,6 @@ use Rattle.df_inspect.specs.Opening.{open_refusal}
 use Rattle.df_layout.specs.declared.layout.Layout.{Layout}
 use Rattle.df_model.specs.declared.errors.OpenError.{OpenError}
 use Rattle.df_model.specs.declared.errors.OpenError.TheVariants as opens
-use Rattle.df_session.specs.Below.{IsLayoutShown, Refuses}
 use Rattle.df_session.specs.Opened.{StopsOpening}
 use Rattle.df_upgrade.specs.Below.{SurveysAs}
 use Rattle.df_top.specs.Outside.{Outside, PrintsLine}

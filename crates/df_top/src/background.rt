@@ -1,12 +1,11 @@
 // The loop's work after a line: each piece is one call, whose answer isn't printed, until nothing is due or something fails.
-ghost use Rattle.std.specs.Prelude.{◌≡◌, ◌<◌, Option, List, ℕ, Some, true, OnOk};
+ghost use Rattle.std.specs.Prelude.{◌≡◌, ◌<◌, Option, List, ℕ, Some, true};
 ghost use Rattle.df_base.specs.Causes.{IsBlamed};
 ghost use Rattle.df_inspect.specs.Answers.{command_of as call_of};
 ghost use Rattle.df_model.specs.Commands.{Begin, Scrub};
 ghost use Rattle.df_pace.specs.Beats.{behind_piece, command_of, is_begun, next_piece, pieces_left};
 ghost use Rattle.df_session.specs.Calls.{HasAnswer};
 ghost use Rattle.df_session.specs.Endings.{is_disk};
-ghost use Rattle.df_top.specs.Outside.{Blames};
 ghost use Rattle.df_top.specs.Pacing.{IsIdle, runs};
 ghost use Rattle.df_top.specs.Session.{state};
 ghost use Rattle.df_top.specs.Step.{Passes, Turns};

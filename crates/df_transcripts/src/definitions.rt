@@ -2,7 +2,6 @@
 use crate::filling::{Given, fill};
 use crate::lines::Line;
 use crate::trouble::Trouble;
-use crate::words::words_of;
 use std::alloc::Global;
 
 // One definition.

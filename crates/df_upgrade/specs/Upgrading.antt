@@ -1,5 +1,5 @@
 -- What an upgrade does after its survey, and what it leaves at each moment of that and at its end: of a log that is begun anew at the barrier, whatever the copies showed there.
-use Rattle.std.specs.Prelude.{◌≡◌, ◌⊎◌, ℕ, List}
+use Rattle.std.specs.Prelude.{◌≡◌, ◌⊎◌, List}
 use Rattle.df_base.specs.Image.{Image}
 use Rattle.df_base.specs.Log.{Event, IsLeft, Log, now}
 use Rattle.df_base.specs.Moments.{EachMoment}

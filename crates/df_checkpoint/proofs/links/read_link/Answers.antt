@@ -1,5 +1,4 @@
 -- The block that is shown is the link, or it isn't.
-use Rattle.std.proofs.Common.{◌≡◌, ap, refl}
 use Rattle.df_checkpoint.proofs.OneLink.{link_broken, link_taken}
 use Rattle.df_checkpoint.proofs.links.read_link.Goals as goal
 

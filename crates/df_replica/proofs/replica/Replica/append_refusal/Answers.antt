@@ -2,7 +2,6 @@
 use Rattle.std.proofs.Common.{◌≡◌, ℕ, nat_lt, [], ◌∷◌, length, map, ◌∙◌, sym, ap}
 use Rattle.std.specs.Prelude.{option_map}
 use Rattle.std.specs.List.{position}
-use Rattle.df_sessions.specs.declared.session.Session as told
 use Rattle.df_sessions.specs.Requests.{session_of}
 use Rattle.df_sessions.specs.Table.{has_client}
 use Rattle.df_model.specs.Refusals.{first_refusal, is_staged, request_refusals, session_of_client}
