@@ -56,11 +56,23 @@ def split_next(case):
     return lines
 
 
+def strange_next(case):
+    """What to do where the superblock is another file's: a copy of this file's own may still stand beside it."""
+    cluster = case.strange[0]
+    own = [(place, one) for place, one in cases_by_copy(case.file) if not one.refusal and one.fields["Cluster"] == cluster]
+    if not own:
+        return [STRANGE]
+    place, one = own[0]
+    return [STRANGE, f"where no copy of the file is as new: the copy in sector {place} is this file's own, of cluster {cluster}, and an open by it finds head "
+                     f"{one.state['head']} and {one.state['stored']} replies. In a copy of this file write it over each copy of the other one "
+                     "(docs/OPERATING.md, \"Three copies hurt\"), and run the doctor over that"]
+
+
 def damaged_next(case, words):
     """What to do where a place is damaged."""
     zone, index = words[1], int(words[2])
     if case.strange:
-        return [STRANGE]
+        return strange_next(case)
     if zone == "Superblock" or case.later or newer_reply(case, zone, index):
         return ["no `filemirror` here: by the older superblock it writes older replies over newer ones. Keep the file as it is, and take it "
                 "whole from its newest copy, never parts of one",

@@ -1,7 +1,7 @@
 """The doctor's words: what a place holds, why a file is refused, and what to do next."""
 
 from doctor_case import cases_by_copy, copies_of, copy_fields, looks, members_of, slot_case, strange_text
-from doctor_next import CHECK, STRANGE, cut_lines, newer_reply, refused_next, rolled_lines
+from doctor_next import CHECK, cut_lines, newer_reply, refused_next, rolled_lines, strange_next
 from reader import class_of_copy, evidence_of, is_copy, later_of
 from reader_units import BLOCK, HEADER, PREPARE, REPLY, RESERVED, SECTOR, bytes_at, fields_at, look, zones_of
 
@@ -198,7 +198,7 @@ def next_lines(case):
     if case.refusal:
         return refused_next(case)
     if case.strange:
-        return [STRANGE]
+        return strange_next(case)
     lines = []
     if case.later:
         lines.append("the superblock is older than the file: keep it as it is, no `filemirror`, and take it whole from its newest copy; where it was "
